@@ -3,9 +3,8 @@
 use crate::plain::{number_of, plain_report, tidied_text, verdict_of};
 use asked_lines::AskedPart;
 use campaign_settings::{Choice, Settings};
-use outside_campaign::{
-    Form, OutsideCampaign, OutsideFault, list_plans, write_asks, write_report_in,
-};
+use outside_campaign::{OutsideCampaign, OutsideFault, list_plans, write_asks, write_report_in};
+use report_forms::Form;
 use std::alloc::Global;
 use std::fmt::Write;
 use std::process::Abort;
@@ -121,12 +120,40 @@ fn comes_to_the_plain_report(rt: &impl Abort, alloc: Global, salt: u32) -> Resul
     Err(Fail::from("a campaign without end"))
 }
 
-#[test]
-fn campaigns_come_to_the_plain_report(rt: HostRuntime) -> Result<(), Fail> {
-    for salt in 0..1000 {
-        comes_to_the_plain_report(&rt, rt.alloc(), salt)?;
+/// How many components a test has: `rt try` ends one of all 1,000 before it is through.
+const COMPONENTS: u32 = 200;
+
+/// The campaigns on the components of these salts, from this one on, come to the plain report.
+fn come_to_the_plain_report(rt: &impl Abort, alloc: Global, from: u32) -> Result<(), Fail> {
+    for salt in from..from + COMPONENTS {
+        comes_to_the_plain_report(rt, alloc, salt)?;
     }
     Ok(())
+}
+
+#[test]
+fn campaigns_from_0_come_to_the_plain_report(rt: HostRuntime) -> Result<(), Fail> {
+    come_to_the_plain_report(&rt, rt.alloc(), 0)
+}
+
+#[test]
+fn campaigns_from_200_come_to_the_plain_report(rt: HostRuntime) -> Result<(), Fail> {
+    come_to_the_plain_report(&rt, rt.alloc(), 200)
+}
+
+#[test]
+fn campaigns_from_400_come_to_the_plain_report(rt: HostRuntime) -> Result<(), Fail> {
+    come_to_the_plain_report(&rt, rt.alloc(), 400)
+}
+
+#[test]
+fn campaigns_from_600_come_to_the_plain_report(rt: HostRuntime) -> Result<(), Fail> {
+    come_to_the_plain_report(&rt, rt.alloc(), 600)
+}
+
+#[test]
+fn campaigns_from_800_come_to_the_plain_report(rt: HostRuntime) -> Result<(), Fail> {
+    come_to_the_plain_report(&rt, rt.alloc(), 800)
 }
 
 /// What is asked by these answers is refused with the answers' fault, told so.

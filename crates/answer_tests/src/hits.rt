@@ -2,7 +2,8 @@
 
 use crate::shared::read_as;
 use campaign_settings::{Choice, Settings};
-use outside_campaign::{Form, OutsideCampaign, OutsideFault, write_partial, write_report_in};
+use outside_campaign::{OutsideCampaign, OutsideFault, write_partial, write_report_in};
+use report_forms::Form;
 use scenario_grammar::parse;
 use std::alloc::Global;
 use std::process::Abort;
@@ -29,7 +30,7 @@ fn hits_are_points_with_their_counts(rt: HostRuntime) -> Result<(), Fail> {
     let rows = [
         ("pass\tnone\t\n", "no fault"),
         ("pass\tnone\ta\n", "no fault"),
-        ("fail torn\tnone\ta;b;2*a;4294967291*b\n", "no fault"),
+        ("fail torn\tnone\ta;b;2*a;65532*b\n", "no fault"),
         // a point's whole name is one hit of it
         ("pass\tnone\t2*b;b\n", "no fault"),
         ("unresolved\tnone\t-\n", "no fault"),
@@ -40,7 +41,13 @@ fn hits_are_points_with_their_counts(rt: HostRuntime) -> Result<(), Fail> {
         ("pass\tnone\ta\ta\n", "answers: line 1: unknown point"),
         ("pass\tnone\t1*a\n", "answers: line 1: bad count"),
         ("pass\tnone\t02*a\n", "answers: line 1: bad count"),
-        ("pass\tnone\t4294967295*a;b\n", "answers: line 1: bad count"),
+        ("pass\tnone\t65536*a;b\n", "answers: line 1: bad count"),
+        ("pass\tnone\t65537*a\n", "answers: line 1: bad count"),
+        ("pass\tnone\t1000000000*a\n", "answers: line 1: bad count"),
+        (
+            "pass\tnone\t99999999999999999999*a\n",
+            "answers: line 1: bad count",
+        ),
         ("pass\tnone\t3*a;a\n", "answers: line 1: not joined"),
         (
             "pass\tNone\tc\n",

@@ -27,7 +27,7 @@ count_of hits = sum (map (λ s. s.count) hits)
 
 -- the most hits that a line tells
 abbrev pub most_hits : ℕ
-most_hits = 4294967295
+most_hits = 65536
 
 -- ---- the text of hits
 

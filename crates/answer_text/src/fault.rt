@@ -31,8 +31,8 @@ pub enum LineFault {
     NoHits,
     /// What stands between two `;` of the hits names no point, with or without a count before it.
     UnknownPoint,
-    /// What stands before the `*` of hits in a row is no number from 2 to 4294967295 as it is written in decimals, or the line has more hits
-    /// than that in all.
+    /// What stands before the `*` of hits in a row is no number from 2 to 65536 as it is written in decimals, or the line has more hits than 65536
+    /// in all.
     BadCount,
     /// The hits name one point twice in a row, where it takes a count.
     NotJoined,

@@ -15,6 +15,9 @@ use std::alloc::{AllocError, Global};
 use std::marker::Model;
 use target_trait::Verdict;
 
+/// The most hits that a line tells. A count is refused before hits are made of it, so that a line takes no more memory than they do.
+pub const MOST_HITS: u32 = 65536;
+
 /// So many hits of a point, of which there is at least one, in a row. The point is a place among names.
 #[derive(Clone, Copy, Debug, PartialEq, Eq)]
 pub struct Stretch {
@@ -80,7 +83,7 @@ fn is_number(text: &str) -> bool
     !text.is_empty() && all_digits(text.as_bytes())
 }
 
-/// The number, where the text is one or more digits and it fits.
+/// The number, where the text is one or more digits and no line has more hits.
 fn number_in(text: &str) -> Option<u32>
     ensures { result ≡ number_up_to most_hits text.now }
 {
@@ -89,7 +92,13 @@ fn number_in(text: &str) -> Option<u32>
     }
     match text.parse::<u32>() {
         Err(_) => None,
-        Ok(number) => Some(number),
+        Ok(number) => {
+            if number <= MOST_HITS {
+                Some(number)
+            } else {
+                None
+            }
+        }
     }
 }
 
@@ -147,11 +156,13 @@ fn add(hits: &mut Vec<Stretch>, total: u32, stretch: Stretch) -> Result<u32, Lin
     if ends_with(hits.as_slice(), stretch.point) {
         return Err(LineError::Bad(LineFault::NotJoined));
     }
-    let Some(more) = total.checked_add(stretch.count) else {
-        return Err(LineError::Bad(LineFault::BadCount));
-    };
-    hits.push(stretch)?;
-    Ok(more)
+    match total.checked_add(stretch.count) {
+        Some(more) if more <= MOST_HITS => {
+            hits.push(stretch)?;
+            Ok(more)
+        }
+        _ => Err(LineError::Bad(LineFault::BadCount)),
+    }
 }
 
 /// Whether two lists of stretches are the same.

@@ -12,7 +12,7 @@ mod runs;
 mod verdicts;
 
 pub use fault::{AnswersFault, LineError, LineFault};
-pub use hits::{Hits, Stretch, hits_in};
+pub use hits::{Hits, MOST_HITS, Stretch, hits_in};
 pub use laws::{
     contradictions_agree_with_no_component, texts_say_what_is_read, tidying_again_changes_nothing,
 };

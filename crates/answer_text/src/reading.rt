@@ -115,7 +115,7 @@ fn read_text(
 /// What is known by a text of answers: lines `VERDICT<TAB>SCENARIO` or `VERDICT<TAB>SCENARIO<TAB>HITS`, each ended by a line feed. A verdict is
 /// `pass`, `unresolved`, or `fail` and the name of a code, whose number is its place among the names. A scenario is `none`, or any spelling of
 /// one, and is taken as tidied. The hits are those of the run in order, each the name of a point, joined by `;`; n hits of one point in a row are
-/// `n*point` for n from 2 on, and there are at most 4294967295. No hits are the empty text, and `-` stands for the hits of an unresolved run that
+/// `n*point` for n from 2 on, and there are at most 65536. No hits are the empty text, and `-` stands for the hits of an unresolved run that
 /// aren't known. That a line repeats what an earlier one says is no fault.
 ///
 /// The text is up to 268435456 bytes: 65536 answers of 4096 bytes each, or 4096 answers of the longest scenarios.

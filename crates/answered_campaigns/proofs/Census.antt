@@ -3,7 +3,7 @@ use Rattle.std.proofs.Common.{◌≡◌, ◌≤◌, ◌<◌, ℕ, zero, suc, Lis
 use Rattle.std.specs.Option.{option_map_or}
 use Rattle.std.specs.Prelude.{option_map}
 use Rattle.plan_gen.specs.Census.{census_of, counts_of, sites_of}
-use Rattle.plan_gen.specs.Counts.{total_of}
+use Rattle.plan_gen.specs.inside.Counts.{total_of}
 use Rattle.plan_gen.specs.PlanList.{most_plans}
 use Rattle.plan_gen.proofs.Counting.{sites_length}
 use Rattle.grown_plans.specs.GrownPlans.{Subject}

@@ -20,7 +20,7 @@ use Rattle.answered_runs.proofs.Runs.{agree}
 use Rattle.campaign_given.specs.Description.{Description}
 use Rattle.campaign_given.specs.Given.{Given}
 use Rattle.campaign_core.specs.Headline.{Campaign, grower}
-use Rattle.outside_campaign.specs.declared.forms.Form.{Form}
+use Rattle.report_forms.specs.declared.forms.Form.{Form}
 use Rattle.answered_campaigns.specs.Kinds.{listed_kinds}
 use Rattle.answered_campaigns.specs.Grown.{campaign, untried}
 use Rattle.answered_campaigns.specs.Questions.{AreUnbroken, IsReportedText, Tells}

@@ -43,8 +43,9 @@ use Rattle.answered_runs.specs.WholeList.{unseen_count}
 use Rattle.answered_runs.specs.declared.whole.Listed.{Listed}
 use Rattle.campaign_core.specs.Findings.{cause_of}
 use Rattle.outside_campaign.specs.Asked.{known_failures}
-use Rattle.outside_campaign.specs.Forms.{ShownFacts, text_in}
-use Rattle.outside_campaign.specs.declared.forms.Form.{Form}
+use Rattle.report_json.specs.About.{ShownFacts, without_runs}
+use Rattle.report_forms.specs.Forms.{text_in}
+use Rattle.report_forms.specs.declared.forms.Form.{Form}
 use Rattle.outside_campaign.proofs.ResultLemmas.{failures_are_first}
 use Rattle.outside_grown.specs.Further.{census_seen, clean_hits}
 use Rattle.outside_grown.specs.Lists.{list_known}
@@ -219,14 +220,13 @@ module _ (outside : Description) (given : Given) (a : Answered) (depth : ℕ) (t
       ∙ growth_is list e
 
   -- what is shown beside the report
-  abbrev shown_by : List Entries → List (List Rig) → ℕ → ShownFacts
-  shown_by list these last = record { plans = list; pairs = given.plans.pairs; grown = these; onward = last; settings = given.source }
+  abbrev shown_by : List Entries → List (List Rig) → ShownFacts
+  shown_by list these = without_runs list these given.plans.storms (length given.plans.listed) given.source
 
-  pub shown_is : (l : Listed) (list : List Entries) → AreKnown t depth runs l.known → list ≡ plans_seen c depth runs → shown_by list l.known.plans l.known.onward ≡ shown_seen c depth runs
+  pub shown_is : (l : Listed) (list : List Entries) → AreKnown t depth runs l.known → list ≡ plans_seen c depth runs → shown_by list l.known.plans ≡ shown_seen c depth runs
   shown_is l list known e =
-      ap (λ (x : List Entries). shown_by x l.known.plans l.known.onward) e
-      ∙ ap (λ (x : List (List Rig)). shown_by (plans_seen c depth runs) x l.known.onward) (known.plans ∙ ap (λ (g : Subject). known_part g depth runs) (sym grower_is))
-      ∙ ap (λ (x : ℕ). shown_by (plans_seen c depth runs) (known_part (grower c) depth runs) x) (known.onward ∙ ap (λ (g : Subject). onward_seen g depth runs) (sym grower_is))
+      ap (λ (x : List Entries). shown_by x l.known.plans) e
+      ∙ ap (λ (x : List (List Rig)). shown_by (plans_seen c depth runs) x) (known.plans ∙ ap (λ (g : Subject). known_part g depth runs) (sym grower_is))
 
 -- the text of a report by what is told is that of each component that agrees
 pub text_is : (form : Form) (outside : Description) (given : Given) (a : Answered) (depth : ℕ) (lists : GrownLists) (list : List Entries) (all : List Verdict) (told : Told)
@@ -250,7 +250,7 @@ pub text_is : (form : Form) (outside : Description) (given : Given) (a : Answere
         causes = map (cause_of list) told.causes.items;
       });
     }
-    → shown' ≡ record { plans = list; pairs = given.plans.pairs; grown = lists.listed.known.plans; onward = lists.listed.known.onward; settings = given.source }
+    → shown' ≡ without_runs list lists.listed.known.plans given.plans.storms (length given.plans.listed) given.source
     → text ≡ text_in form outside.points (code_name outside.codes) facts' shown' → IsTextOf form outside given a depth text
 text_is form outside given a depth lists list all told counts most facts' shown' text d counted reaches facts_are shown_are is_text t is agrees =
     let c' : Campaign = campaign outside given depth t in

@@ -18,9 +18,10 @@ use Rattle.result_book.specs.Verdicts.{numbered, verdicts_from}
 use Rattle.result_book.specs.FirstFailures.{first_failures}
 use Rattle.report.specs.Reports.{CauseFacts, GrowthFacts, ReportFacts}
 use Rattle.campaign_core.specs.Findings.{cause_of, growth_of, report_of}
-use Rattle.campaign_core.specs.Headline.{Campaign, census, grower, grown_to, growth, onward_to, plans, plans_to, report, say}
-use Rattle.outside_campaign.specs.Forms.{ShownFacts, text_in}
-use Rattle.outside_campaign.specs.declared.forms.Form.{Form}
+use Rattle.campaign_core.specs.Headline.{Campaign, census, grower, grown_to, growth, plans, plans_to, report, say}
+use Rattle.report_json.specs.About.{ShownFacts, without_runs}
+use Rattle.report_forms.specs.Forms.{text_in}
+use Rattle.report_forms.specs.declared.forms.Form.{Form}
 use Rattle.outside_grown.specs.Further.{census_seen}
 use Rattle.outside_grown.specs.Reached.{reached_seen}
 use Rattle.outside_grown.proofs.Most.{reached_whole}
@@ -98,15 +99,14 @@ module _ (c : Campaign) (depth : ℕ) (known : KnownRuns) (at : c.given.depth �
       ∙ ap (λ (x : Option GrowthFacts). report_of (say c) c.label c.given.plans.seed (census c) list x) growth_whole
       ∙ ap (λ (l : List Entries). report_of (say c) c.label c.given.plans.seed (census c) l (growth c)) plans_whole
 
-  abbrev shown_by : List Entries → List (List Rig) → ℕ → ShownFacts
-  shown_by list these last = record { plans = list; pairs = c.given.plans.pairs; grown = these; onward = last; settings = c.given.source }
+  abbrev shown_by : List Entries → List (List Rig) → ShownFacts
+  shown_by list these = without_runs list these c.given.plans.storms (length c.given.plans.listed) c.given.source
 
   shown_whole : shown_seen c depth known ≡ shown c
   shown_whole =
-      ap (λ (l : List Entries). shown_by l (known_part t depth known) (onward_seen t depth known)) plans_whole
-      ∙ ap (λ (ps : List (List Rig)). shown_by (plans c) ps (onward_seen t depth known)) whole.list
-      ∙ ap (shown_by (plans c) (grown t depth)) onward_whole
-      ∙ ap (λ (o : Option ℕ). shown_by (plans c) (grown_to c o) (onward_to c o)) (sym at)
+      ap (λ (l : List Entries). shown_by l (known_part t depth known)) plans_whole
+      ∙ ap (shown_by (plans c)) whole.list
+      ∙ ap (λ (o : Option ℕ). shown_by (plans c) (grown_to c o)) (sym at)
 
   pub report_in_whole : (form : Form) → report_seen_in form c depth known ≡ report_in form c
   report_in_whole form =

@@ -1,6 +1,6 @@
 -- A campaign with a depth on a component that somebody else runs: its report, for each component that agrees with the answers, and what is still
 -- to be tried, by the answers.
-use Rattle.std.specs.Prelude.{◌++◌, ℕ, List, [], ◌∷◌, Option, Some, option_map}
+use Rattle.std.specs.Prelude.{◌++◌, ℕ, List, [], ◌∷◌, Option, Some, length, option_map}
 use Rattle.scenario_values.specs.Scenario.{Entries}
 use Rattle.plan_gen.specs.PlanList.{Asked}
 use Rattle.campaign_plans.specs.GrownScenarios.{grown_scenarios}
@@ -12,11 +12,12 @@ use Rattle.answered_runs.specs.Components.{AgreesWithRuns, IsComponent}
 use Rattle.answered_runs.specs.Verdicts.{verdict_by}
 use Rattle.campaign_given.specs.Description.{Description}
 use Rattle.campaign_given.specs.Given.{Given}
-use Rattle.campaign_core.specs.Headline.{Campaign, first_failure, grown_to, onward_to, plans, report}
+use Rattle.campaign_core.specs.Headline.{Campaign, first_failure, grown_to, plans, report}
 use Rattle.outside_campaign.specs.Asked.{known_failures, open_requests}
 use Rattle.outside_campaign.specs.Campaigns.{code_name}
-use Rattle.outside_campaign.specs.Forms.{ShownFacts, text_in}
-use Rattle.outside_campaign.specs.declared.forms.Form.{Form}
+use Rattle.report_json.specs.About.{ShownFacts, without_runs}
+use Rattle.report_forms.specs.Forms.{text_in}
+use Rattle.report_forms.specs.declared.forms.Form.{Form}
 use Rattle.outside_grown.specs.Asked.{to_try}
 use Rattle.outside_grown.specs.Causes.{open_scenarios}
 use Rattle.outside_grown.specs.Further.{further_told}
@@ -49,13 +50,7 @@ campaign outside given depth t = record {
 
 -- what is shown of it beside its report
 abbrev pub shown : Campaign → ShownFacts
-shown c = record {
-  plans = plans c;
-  pairs = c.given.plans.pairs;
-  grown = grown_to c c.given.depth;
-  onward = onward_to c c.given.depth;
-  settings = c.given.source;
-}
+shown c = without_runs (plans c) (grown_to c c.given.depth) c.given.plans.storms (length c.given.plans.listed) c.given.source
 
 abbrev pub report_in : Form → Campaign → List ℕ
 report_in form c = text_in form c.points c.codes (report c) (shown c)

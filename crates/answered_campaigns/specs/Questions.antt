@@ -19,7 +19,7 @@ use Rattle.outside_campaign.specs.Campaigns.{asks_text, first_failure, plans, re
 use Rattle.outside_campaign.specs.Outside.{Component}
 use Rattle.outside_campaign.specs.Readable.{IsReadable, IsUnreadable}
 use Rattle.outside_campaign.specs.Partial.{partial_by, partial_text, some_fails, some_fails_by}
-use Rattle.outside_campaign.specs.declared.forms.Form.{Form}
+use Rattle.report_forms.specs.declared.forms.Form.{Form}
 use Rattle.outside_campaign.specs.declared.refusal.OutsideFault.TheVariants as refusal
 use Rattle.outside_grown.specs.Further.{AreTooMany}
 use Rattle.answered_campaigns.specs.Kinds.{listed_kinds}
@@ -54,7 +54,7 @@ IsReadingFault outside answers (fault.Unseen line) = ⊥
 abbrev pub grown_lines : Given → ℕ → Answered → List (List ℕ)
 grown_lines given depth a = lines_for (grown.untried a depth given.plans)
 
--- no run that is told breaks with that of the plan which its own grew from
+-- no run that is told breaks with that of its plan's forerunner
 abbrev pub AreUnbroken : Answered → ℕ → Type 0
 AreUnbroken a depth = AreBroken a (known_plans a depth) None
 

@@ -14,8 +14,9 @@ use Rattle.result_book.specs.FirstFailures.{first_failures}
 use Rattle.report.specs.Reports.{GrowthFacts, ReportFacts}
 use Rattle.campaign_core.specs.Findings.{cause_of, report_of}
 use Rattle.campaign_core.specs.Headline.{Campaign, grower, say}
-use Rattle.outside_campaign.specs.Forms.{ShownFacts, text_in}
-use Rattle.outside_campaign.specs.declared.forms.Form.{Form}
+use Rattle.report_json.specs.About.{ShownFacts, without_runs}
+use Rattle.report_forms.specs.Forms.{text_in}
+use Rattle.report_forms.specs.declared.forms.Form.{Form}
 use Rattle.outside_grown.specs.Further.{census_seen}
 use Rattle.outside_grown.specs.Lists.{list_known}
 use Rattle.outside_grown.specs.Reached.{reached_seen}
@@ -49,13 +50,8 @@ report_seen c depth known =
 
 -- what is shown beside it
 abbrev pub shown_seen : Campaign → ℕ → KnownRuns → ShownFacts
-shown_seen c depth known = record {
-  plans = plans_seen c depth known;
-  pairs = c.given.plans.pairs;
-  grown = known_part (grower c) depth known;
-  onward = onward_seen (grower c) depth known;
-  settings = c.given.source;
-}
+shown_seen c depth known =
+    without_runs (plans_seen c depth known) (known_part (grower c) depth known) c.given.plans.storms (length c.given.plans.listed) c.given.source
 
 abbrev pub report_seen_in : Form → Campaign → ℕ → KnownRuns → List ℕ
 report_seen_in form c depth known = text_in form c.points c.codes (report_seen c depth known) (shown_seen c depth known)

@@ -11,8 +11,9 @@ use crate::reading::ReadRuns;
 use crate::table::KnownByRuns;
 use asked_lines::AskedPart;
 use campaign_core::Ending;
-use outside_campaign::{Form, OutsideCampaign};
+use outside_campaign::OutsideCampaign;
 use report::write_report;
+use report_forms::Form;
 use std::alloc::Global;
 use target_trait::Sink;
 

@@ -22,7 +22,7 @@ use std::alloc::AllocError;
 pub enum QuestionFault {
     /// As without a depth.
     Outside(OutsideFault),
-    /// A run breaks with that of the plan which its own grew from: what the component asks next doesn't follow from the answers so far, or the
+    /// A run breaks with that of its plan's forerunner: what the component asks next doesn't follow from the answers so far, or the
     /// answers are those of two. Nothing was written.
     Broken(BrokenRun),
     /// The text whose run is to be explained spells no scenario. Nothing was written.

@@ -18,7 +18,7 @@ use outside_grown::MOST_PLANS;
 use scenario_values::{Scenario, tidy};
 use std::alloc::{AllocError, Global};
 
-/// Refuses answers in which a run breaks with that of the plan which its own grew from.
+/// Refuses answers in which a run breaks with that of its plan's forerunner.
 pub fn refuse_broken(alloc: Global, known: &KnownByRuns<'_>) -> Result<(), QuestionFault>
     requires { known.now.1 ≤ 64 }
     ensures ok { OnOk result (AreUnbroken known.now.0 known.now.1) }

@@ -5,6 +5,7 @@ ghost use Rattle.scenario_values.specs.Scenario.{IsScenario};
 ghost use Rattle.target_trait.specs.declared.judgement.Verdict.TheVariants.{Unresolved};
 ghost use Rattle.answered_runs.specs.Answered.{known_plans, runs_in};
 ghost use Rattle.answered_runs.specs.WholeList.{AreAllTold};
+ghost use Rattle.report_json.specs.About.{without_runs};
 ghost use Rattle.outside_campaign.specs.Asked.{open_plans};
 ghost use Rattle.outside_campaign.specs.Told.{AreVerdicts};
 ghost use Rattle.outside_grown.specs.Further.{HasFewHits};
@@ -19,12 +20,14 @@ use crate::grown::{refuse_broken, refuse_gap};
 use crate::table::KnownByRuns;
 use campaign_core::causes_of;
 use campaign_plans::CampaignPlans;
+use grown_plans::GrownPlans;
 use outside_campaign::{
-    Form, OutsideCampaign, OutsideFault, Shown, Verdicts, Words, first_number, plan_verdicts,
-    text_in, verdicts_known,
+    OutsideCampaign, OutsideFault, Verdicts, Words, first_number, plan_verdicts, verdicts_known,
 };
 use outside_grown::{GrownLists, census, grown_lists, reached};
 use report::{Growth, Report};
+use report_forms::{Form, text_in};
+use report_json::Shown;
 use scenario_values::Scenario;
 use std::alloc::{AllocError, Global};
 use target_trait::Verdict;
@@ -86,6 +89,19 @@ fn clean_of(verdicts: &[Verdict]) -> Verdict
     verdicts[0]
 }
 
+/// What is shown of plans that grew, with these behind them.
+fn shown_of<'a>(
+    plans: &'a CampaignPlans<'a>,
+    grown: &'a GrownPlans,
+    storms: usize,
+    listed: usize,
+    settings: &'a str,
+) -> Shown<'a>
+    ensures { result ≡ without_runs plans.entry.now grown.entry.now storms listed settings.entry.now }
+{
+    Shown::without_runs(plans, Some(grown), storms, listed, settings)
+}
+
 /// The text of the report in a form.
 fn reported_text<'a>(
     alloc: Global,
@@ -129,13 +145,10 @@ fn reported_text<'a>(
         growth: Some(growth),
     };
     let words = Words { outside };
-    let shown = Shown {
-        plans: answered.plans,
-        pairs: settings.pairs,
-        grown: Some(&grown.plans),
-        onward: grown.onward as usize,
-        settings: settings.source.as_str(),
-    };
+    let storms = settings.storms as usize;
+    let listed = settings.scenarios.len();
+    let source = settings.source.as_str();
+    let shown = shown_of(answered.plans, &grown.plans, storms, listed, source);
     text_in(alloc, form, &words, &report, &shown)
 }
 

@@ -17,7 +17,7 @@ use Rattle.answer_text.specs.declared.runs.ToldRun.{ToldRun}
 use Rattle.campaign_plans.specs.GrownScenarios.{grown_scenario}
 use Rattle.grown_plans.specs.AskedPoints.{from_then_on, goes_onward, sites_after, sites_from, sites_past}
 use Rattle.grown_plans.specs.GrownPlans.{rigs_of}
-use Rattle.grown_plans.proofs.Members.{all_append, all_both, all_flat, all_map, all_of, all_weaker}
+use Rattle.grown_plans.proofs.Members.{all_append, all_both, all_flat, all_map, all_weaker}
 use Rattle.grown_plans.proofs.Rigged.{rigs_can}
 use Rattle.known_runs.specs.Known.{KnownRuns, hits_of, hits_told}
 use Rattle.known_runs.specs.ToldPart.{children_known, children_told, level_known, levels_known, onward_told, part_known}

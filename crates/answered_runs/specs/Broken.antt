@@ -1,12 +1,11 @@
--- Where a run that is told breaks with that of the plan which its own grew from.
-use Rattle.std.specs.Prelude.{◌≡◌, ℕ, ◌<◌, List, [], ◌∷◌, Option, None, Some, if◌then◌else◌, ◌++◌, length, slice_index_or, take, drop, codes}
+-- Where a run that is told breaks with the one that it has to begin like.
+use Rattle.std.specs.Prelude.{◌≡◌, ℕ, ◌<◌, List, [], ◌∷◌, Option, None, Some, ◌++◌, length, slice_index_or, take, codes}
 use Rattle.std.specs.Fmt.{decimal}
 use Rattle.std.specs.Option.{option_map_or}
 use Rattle.std.specs.List.{AllByRecursion}
 use Rattle.action_eval.specs.declared.rig.Rig.{Rig}
 use Rattle.action_eval.specs.declared.rig.Site.{Site}
-use Rattle.plan_gen.specs.RiggedAnswers.{is_onward}
-use Rattle.known_runs.specs.Breaks.{break_of}
+use Rattle.known_runs.specs.Breaks.{break_of, forerunner_of, shared_to}
 use Rattle.known_runs.specs.Known.{KnownRuns, hits_of}
 use Rattle.known_runs.specs.declared.breaks.Break.{Break}
 use Rattle.known_runs.specs.declared.breaks.Break.TheVariants.{Differs, NotMet}
@@ -22,10 +21,10 @@ break_told s None hits = None
 break_told s (Some parent) None = None
 break_told s (Some parent) (Some hits) = break_of s parent hits
 
--- of a plan's run with that of the plan which it grew from
+-- of a plan's run with that of its forerunner
 abbrev pub break_at : KnownRuns → List Rig → Option Break
 break_at runs [] = None
-break_at runs (r ∷ parent) = if is_onward r.kind then None else break_told r.site (hits_of runs parent) (hits_of runs (r ∷ parent))
+break_at runs (r ∷ parent) = break_told (shared_to r) (hits_of runs (forerunner_of (r ∷ parent))) (hits_of runs (r ∷ parent))
 
 -- a run that doesn't break so, as far as it is told
 abbrev pub IsUnbroken : KnownRuns → List Rig → Type 0
@@ -41,7 +40,7 @@ pub record IsFirstBreak (a : Answered) (plans : List (List Rig)) (b : BrokenRun)
   pub breaks : break_at (runs_in a) (slice_index_or plans b.number []) ≡ Some b.how
   pub first : AllByRecursion (IsUnbroken (runs_in a)) (take b.number plans)
   pub line : b.line ≡ line_told a (slice_index_or plans b.number [])
-  pub earlier : b.earlier ≡ line_told a (drop 1 (slice_index_or plans b.number []))
+  pub earlier : b.earlier ≡ line_told a (forerunner_of (slice_index_or plans b.number []))
 
 -- or each is unbroken
 abbrev pub AreBroken : Answered → List (List Rig) → Option BrokenRun → Type 0

@@ -1,10 +1,11 @@
 //! Runs that break with those that they ought to begin like.
-ghost use Rattle.std.specs.Prelude.{◌≡◌, ◌≤◌, ◌<◌, Some, drop, length, IfOk, IfSome, IsErrOf};
+ghost use Rattle.std.specs.Prelude.{◌≡◌, ◌≤◌, ◌<◌, Some, length, IfOk, IfSome, IsErrOf, OnOk};
 ghost use Rattle.std.specs.List.{AllByRecursion};
 ghost use Rattle.answer_text.specs.Runs.{told_in};
 ghost use Rattle.grown_plans.specs.GrownPlans.{Subject};
 ghost use Rattle.answered_runs.specs.Answered.{known_plans, runs_in};
 ghost use Rattle.answered_runs.specs.Broken.{AreBroken, break_at, broken_text, line_told};
+ghost use Rattle.known_runs.specs.Breaks.{forerunner_of};
 ghost use Rattle.answered_runs.specs.Components.{AgreesWithRuns, IsComponent};
 
 use crate::scenarios::plan_scenario;
@@ -15,29 +16,44 @@ use known_runs::{Break, KnownFault, Look, RunTable, break_of};
 use std::alloc::{AllocError, Global};
 use std::fmt;
 
-/// Where the run of a plan breaks with that of the plan which it grew from, where both are told. One with its last fault from then on isn't
-/// looked at.
+/// The forerunner of a plan, whose run its own begins like, in place of what stood in the list.
+fn find_forerunner(faults: &[Rig], forerunner: &mut Vec<Rig>) -> Result<(), AllocError>
+    ensures { OnOk result (forerunner.new.items ≡ forerunner_of faults.now) }
+{
+    forerunner.clear();
+    let Some((fault, parent)) = faults.split_first() else {
+        return Ok(());
+    };
+    if let Kind::OnwardReturn(text) = fault.kind {
+        forerunner.push(Rig {
+            site: fault.site,
+            kind: Kind::OnceReturn(text),
+        })?;
+    }
+    forerunner.extend_from_slice(parent)
+}
+
+/// Where the run of a plan breaks with that of its forerunner, where both are told.
 fn break_at(
     runs: &AnsweredRuns<'_>,
     faults: &[Rig],
+    forerunner: &[Rig],
     hits: &mut Vec<u32>,
     before: &mut Vec<u32>,
 ) -> Result<Option<Break>, AllocError>
+    requires { forerunner.now ≡ forerunner_of faults.now }
     ensures { IfOk result (λ how. how ≡ break_at (runs_in runs.now) faults.now) }
 {
-    let Some((fault, parent)) = faults.split_first() else {
+    let Some(fault) = faults.first() else {
         return Ok(None);
     };
-    if matches!(fault.kind, Kind::OnwardReturn(_)) {
-        return Ok(None);
-    }
-    let Look::Seen(_) = runs.look(parent, before)? else {
+    let Look::Seen(_) = runs.look(forerunner, before)? else {
         return Ok(None);
     };
     let Look::Seen(_) = runs.look(faults, hits)? else {
         return Ok(None);
     };
-    Ok(break_of(fault.site, before.as_slice(), hits.as_slice()))
+    Ok(break_of(fault, before.as_slice(), hits.as_slice()))
 }
 
 /// The number of the line that tells a plan's run; 0 where none does.
@@ -52,17 +68,7 @@ fn line_told(alloc: Global, runs: &AnsweredRuns<'_>, faults: &[Rig]) -> Result<u
     }
 }
 
-/// The faults of the plan which a plan grew from.
-fn parent_of(faults: &[Rig]) -> &[Rig]
-    ensures { result.now ≡ drop 1 faults.now }
-{
-    match faults.split_first() {
-        Some((_, parent)) => parent,
-        None => &[],
-    }
-}
-
-/// A run that breaks with that of the plan which its own grew from.
+/// A run that breaks with that of its plan's forerunner.
 #[derive(Clone, Copy, Debug, PartialEq, Eq)]
 pub struct BrokenRun {
     /// The number of its plan among those that are known by now.
@@ -99,16 +105,18 @@ fn told_broken(
     runs: &AnsweredRuns<'_>,
     number: usize,
     faults: &[Rig],
+    forerunner: &[Rig],
     how: Break,
 ) -> Result<BrokenRun, AllocError>
-    requires { length faults.now ≤ 64 }
+    requires plan { length faults.now ≤ 64 }
+    requires forerunner { length forerunner.now ≤ 64 }
     ensures number { IfOk result (λ broken. broken.number ≡ number) }
     ensures how { IfOk result (λ broken. broken.how ≡ how) }
     ensures line { IfOk result (λ broken. broken.line ≡ line_told runs.now faults.now) }
-    ensures earlier { IfOk result (λ broken. broken.earlier ≡ line_told runs.now (drop 1 faults.now)) }
+    ensures earlier { IfOk result (λ broken. broken.earlier ≡ line_told runs.now forerunner.now) }
 {
     let line = line_told(alloc, runs, faults)?;
-    let earlier = line_told(alloc, runs, parent_of(faults))?;
+    let earlier = line_told(alloc, runs, forerunner)?;
     Ok(BrokenRun {
         number,
         line,
@@ -117,7 +125,7 @@ fn told_broken(
     })
 }
 
-/// The first of these plans whose run breaks with that of the plan which it grew from.
+/// The first of these plans whose run breaks with that of its forerunner.
 fn first_break(
     alloc: Global,
     runs: &AnsweredRuns<'_>,
@@ -127,21 +135,25 @@ fn first_break(
     ensures { IfOk result (AreBroken runs.now plans.now) }
 {
     let mut faults = Vec::new(alloc);
+    let mut forerunner = Vec::new(alloc);
     let mut hits = Vec::new(alloc);
     let mut before = Vec::new(alloc);
     for number in 0..plans.len() {
         plans.faults_of(number, &mut faults)?;
         let faults = faults.as_slice();
-        if let Some(how) = break_at(runs, faults, &mut hits, &mut before)? {
-            return Ok(Some(told_broken(alloc, runs, number, faults, how)?));
+        find_forerunner(faults, &mut forerunner)?;
+        let forerunner = forerunner.as_slice();
+        if let Some(how) = break_at(runs, faults, forerunner, &mut hits, &mut before)? {
+            return Ok(Some(told_broken(alloc, runs, number, faults, forerunner, how)?));
         }
     }
     Ok(None)
 }
 
-/// The first plan that is known by now whose run is told and breaks with that of the plan which it grew from: before its last fault it hits
-/// another point, or that fault isn't met; with the lines that tell the two. Plans with a fault from then on aren't looked at. Where there is
-/// such a run, what the component asks next doesn't follow from the answers so far, or the answers are those of two.
+/// The first plan that is known by now whose run is told and breaks with that of its forerunner, with the lines that tell the two. Up to its
+/// last fault a run goes as that of the plan that its own grew from, and with its last fault from then on as with this fault once, up to the next hit
+/// of its point: it breaks with it where another point is hit before, or that hit isn't met. Where there is such a run, what the component asks
+/// next doesn't follow from the answers so far, or the answers are those of two.
 ///
 /// There may be so many known plans, up to 65536. `TooManyPlans` comes only where they are more.
 pub fn broken_run(

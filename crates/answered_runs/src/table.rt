@@ -12,7 +12,7 @@ ghost use Rattle.answered_runs.specs.Answered.{CanBeListed, answered, is_low, to
 
 use crate::scenarios::plan_scenario;
 use action_eval::{Kind, Rig};
-use answer_text::{Runs, Stretch, ToldRun};
+use answer_text::{MOST_HITS, Runs, Stretch, ToldRun};
 use known_runs::{Look, RunTable};
 use scenario_values::Scenario;
 use std::alloc::{AllocError, Global};
@@ -23,9 +23,6 @@ const MOST_FAULTS: usize = 64;
 
 /// A catalogue has at most so many points.
 const MOST_POINTS: u32 = 64;
-
-/// The most hits that a line tells.
-const MOST_HITS: usize = 4294967295;
 
 /// The runs that answers tell of a component with these points: a plan's run is the one that was told of the plan's scenario, tidied.
 /// Contracts see the names of the points, the kinds of faults that are listed for them, and what is told of each tidied scenario.
@@ -142,7 +139,7 @@ fn look_at(run: &ToldRun, hits: &mut Vec<u32>) -> Result<Look, AllocError>
         return Ok(Look::Unseen(run.verdict));
     };
     push_hits(hits, told.stretches())?;
-    if are_low(told.stretches()) && hits.len() <= MOST_HITS {
+    if are_low(told.stretches()) && hits.len() <= MOST_HITS as usize {
         Ok(Look::Seen(run.verdict))
     } else {
         hits.clear();

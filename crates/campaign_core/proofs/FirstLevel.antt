@@ -13,7 +13,7 @@ use Rattle.action_eval.specs.declared.rig.Kind.TheVariants.{OnceReturn, OncePani
 use Rattle.target_trait.specs.Play.{Move}
 use Rattle.target_trait.specs.Outcomes.{outcome}
 use Rattle.plan_gen.specs.Census.{census_of, counts_of, sites_of}
-use Rattle.plan_gen.specs.Counts.{total_of}
+use Rattle.plan_gen.specs.inside.Counts.{total_of}
 use Rattle.plan_gen.proofs.Counting.{sites_length}
 use Rattle.grown_plans.specs.GrownPlans.{Subject, cut_point, is_cut, usual_at, usual_kinds, usual_subject, children, level, levels, onward, grown}
 use Rattle.grown_plans.specs.AskedPoints.{GrowsByAsked, sites_from}

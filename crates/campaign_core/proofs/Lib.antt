@@ -1,11 +1,10 @@
 pub mod Minimal
 pub mod Firsts
-mod PageRuns
+mod ShownRuns
 mod ToldRuns
 pub mod PlanNames
 pub mod Gathered
 pub mod PlanRanges
-pub mod Sites
 pub mod Shown
 pub mod FirstLevel
 pub mod Grown

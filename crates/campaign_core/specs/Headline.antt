@@ -10,17 +10,13 @@ use Rattle.target_trait.specs.Outcomes.{verdict_with}
 use Rattle.target_trait.specs.Play.{Move}
 use Rattle.plan_gen.specs.Census.{census_of, sites_of}
 use Rattle.plan_gen.specs.PlanList.{plan_list}
-use Rattle.grown_plans.specs.GrownPlans.{usual_kinds, grown, onward, grown_list}
+use Rattle.grown_plans.specs.GrownPlans.{usual_kinds, grown, grown_list}
 use Rattle.grown_plans.specs.GrownPlans.{Subject as Grower}
 use Rattle.grown_plans.specs.Promises.{SkipsNothing, RunsNothingTwice, TriesOnward, IsLeast, IsWhole, HasCauses}
 use Rattle.campaign_given.specs.Given.{Given, with_workers}
 use Rattle.result_book.specs.Verdicts.{verdicts_from, numbered}
 use Rattle.result_book.specs.FirstFailures.{first_failures as first_of_each}
-use Rattle.report.specs.ReportText.{report_lines, text_of}
-use Rattle.report.specs.BriefText.{brief_lines}
 use Rattle.report.specs.Reports.{GrowthFacts, ReportFacts}
-use Rattle.campaign_map.specs.Mapped.{Mapped}
-use Rattle.campaign_map.specs.Map.{map_text}
 use Rattle.campaign_core.specs.declared.subject.Subject.{Subject}
 use Rattle.campaign_core.specs.Findings.{report_of, growth_of, ReducesToMinimal, IsCauseAmong}
 
@@ -94,14 +90,6 @@ growth c = growth_of (grower c) c.given.plans.seed (plans c) c.given.depth
 abbrev pub report : Campaign → ReportFacts
 report c = report_of (say c) c.label c.given.plans.seed (census c) (plans c) (growth c)
 
--- the report's text
-abbrev pub report_text : Campaign → List ℕ
-report_text c = text_of (report_lines c.points c.codes (report c))
-
--- the brief report's text
-abbrev pub brief_report_text : Campaign → List ℕ
-brief_report_text c = text_of (brief_lines c.points c.codes (report c) (plans c))
-
 -- for each code with which a plan fails, the least number of a plan that fails with it, and the code; in the order of the numbers
 abbrev pub first_failures : Campaign → List (ℕ × ℕ)
 first_failures c = first_of_each (numbered (verdicts_from (say c) 0 (plans c)))
@@ -135,29 +123,7 @@ pub record EachIsTried (c : Campaign) : Type 0 where
   pub promises : IfSome c.given.depth (KeepsPromises (grower c))
   pub causes : EachIsCause c
 
--- the plans that grow to a depth, where there is one, and how many of them have their last fault from then on
+-- the plans that grow to a depth, where there is one
 abbrev pub grown_to : Campaign → Option ℕ → List (List Rig)
 grown_to c None = []
 grown_to c (Some depth) = grown (grower c) depth
-
-abbrev pub onward_to : Campaign → Option ℕ → ℕ
-onward_to c None = 0
-onward_to c (Some depth) = length (onward (grower c) depth)
-
--- what the map shows, whose cells lead to the plans before this number that don't pass
-abbrev pub mapped : ℕ → Campaign → Mapped
-mapped linked c = record {
-  label = c.label;
-  census = census c;
-  pairs = c.given.plans.pairs;
-  plans = plans c;
-  grown = grown_to c c.given.depth;
-  onward = onward_to c c.given.depth;
-  verdicts = verdicts_from (say c) 0 (plans c);
-  firsts = first_failures c;
-  linked = linked;
-}
-
--- the map's text: a picture by itself
-abbrev pub campaign_map_text : Campaign → List ℕ
-campaign_map_text c = map_text c.points c.codes (mapped 0 c)

@@ -4,6 +4,5 @@ pub mod Headline
 pub mod Planned
 pub mod Writes
 pub mod CommandTexts
-pub mod Machines
-pub mod Pages
+pub mod Forms
 pub mod inside

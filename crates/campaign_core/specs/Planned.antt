@@ -25,11 +25,6 @@ IsGrownTo c None (Some g) = ⊥
 IsGrownTo c (Some depth) None = ⊥
 IsGrownTo c (Some depth) (Some g) = IsGrown c depth g
 
--- how many plans that grew have their last fault from then on
-abbrev pub onward_among : Option Grown → ℕ
-onward_among None = 0
-onward_among (Some g) = g.onward
-
 -- the plans that grew with which a list begins that is looked at for so many
 pub record IsBegun (c : Campaign) (depth count : ℕ) (plans : List (List Rig)) : Type 0 where
   pub same : plans ≡ begun (grower c) depth count

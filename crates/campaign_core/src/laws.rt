@@ -3,8 +3,10 @@ ghost use Rattle.std.specs.Prelude.{◌≡◌, ℕ, All};
 ghost use Rattle.scenario_values.specs.Scenario.{Entries, DistinctNames};
 ghost use Rattle.action_eval.specs.Catalogue.{HasDistinct};
 ghost use Rattle.campaign_given.specs.Given.{Given};
-ghost use Rattle.campaign_core.specs.Headline.{Campaign, campaign_on, grower, on_workers, report_text, EachIsCause, EachIsMinimal, KeepsPromises};
+ghost use Rattle.campaign_core.specs.Headline.{Campaign, campaign_on, grower, on_workers, EachIsCause, EachIsMinimal, KeepsPromises};
 ghost use Rattle.campaign_core.specs.CommandTexts.{IsReducedToMinimal};
+ghost use Rattle.campaign_core.specs.Forms.{report_in};
+ghost use Rattle.report_forms.specs.declared.forms.Form.{Form};
 
 use grown_plans::{
     an_empty_level_makes_it_whole, each_failure_has_a_cause, each_target_is_a_lawful_subject,
@@ -23,9 +25,9 @@ pub fn reduced_scenarios_are_minimal()
     ensures reduce { (c : Campaign) (stream : ℕ) (scenario : Entries) → DistinctNames scenario → IsReducedToMinimal c stream scenario }
 {}
 
-/// From however many workers, a campaign has the same report.
+/// From however many workers, a campaign has the same report, in each form.
 pub fn workers_change_nothing()
-    ensures { (c : Campaign) (workers : ℕ) → report_text (on_workers workers c) ≡ report_text c }
+    ensures { (form : Form) (c : Campaign) (workers : ℕ) → report_in form (on_workers workers c) ≡ report_in form c }
 {}
 
 /// The plans of a campaign of a target keep what is promised of plans that grow, to whatever depth, and each cause that a report lists is one: the

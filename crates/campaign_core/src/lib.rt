@@ -2,14 +2,10 @@
 //! scenario tried; and one scenario reduced. Each writes one text over a sink.
 #![tactic(auto)]
 
-mod brief;
 mod ending;
 mod explaining;
 mod laws;
 mod listing;
-mod machines;
-mod mapping;
-mod paging;
 mod planned;
 mod probe;
 mod ran;
@@ -18,19 +14,16 @@ mod reporting;
 mod results;
 mod runner;
 mod running;
+mod showing;
 mod subject;
 mod trying;
 mod workers;
 mod written;
 
-pub use brief::brief_campaign;
 pub use ending::{CampaignFault, Ending};
 pub use explaining::{explain_one, explain_one_telling};
 pub use laws::{each_behaviour_is_tried, reduced_scenarios_are_minimal, workers_change_nothing};
 pub use listing::{plan_list, plan_scenario, plans_text};
-pub use machines::{MachineForm, machine_campaign};
-pub use mapping::map_campaign;
-pub use paging::{PageNotes, page_campaign};
 pub use planned::{Planned, plan_campaign, plans_of};
 pub use probe::{fails_with, fault_count};
 pub use reducing::reduce_one;

@@ -1,23 +1,25 @@
 //! A whole campaign.
 ghost use Rattle.std.specs.Prelude.{◌≡◌, ◌≤◌, false, length, option_map, IfOk, IfErr, OnOk};
 ghost use Rattle.plan_gen.specs.PlanList.{most_plans};
-ghost use Rattle.campaign_core.specs.Headline.{campaign_in, plans, report_text, first_failure, EachIsMinimal, EachIsTried};
+ghost use Rattle.campaign_core.specs.Headline.{campaign_in, plans, first_failure, EachIsMinimal, EachIsTried};
 ghost use Rattle.campaign_core.specs.CommandTexts.{IsFault};
+ghost use Rattle.campaign_core.specs.Forms.{report_in};
 ghost use Rattle.campaign_core.specs.Writes.{change, WritesWhole};
 
 use crate::ending::{CampaignFault, Ending};
 use crate::laws::each_behaviour_is_tried;
 use crate::ran::run_campaign;
-use crate::reporting::report_of;
+use crate::showing::report_in;
 use crate::subject::{Host, Subject};
-use report::{text, write_report};
+use report::write_report;
+use report_forms::Form;
 use std::sync::Wait;
 use std::thread::Threads;
 use target_trait::{Sink, Target};
 use work_gate::Gate;
 
-/// Runs a campaign, and writes its report: the census and the plans of a twin of the target, the verdict of each plan, and for each code
-/// with which a plan fails the first failure, with its scenario reduced. The caller's target isn't touched.
+/// Runs a campaign, and writes its report in a form. The report tells the census and the plans of a twin of the target, the verdict of each plan, and
+/// for each code with which a plan fails the first failure, with its scenario reduced. The caller's target isn't touched.
 ///
 /// As many threads as the settings say run the plans, and then the tests of one reduction after the other, each on a twin of its own. The
 /// report is that of one thread, whichever thread runs what, and in whatever order they end. Each reduced scenario fails with the code of
@@ -37,23 +39,23 @@ use work_gate::Gate;
 pub fn campaign<T: Target + Send, G: Gate, W: Sink, R: Threads + Wait + Sync>(
     host: &Host<'_, G, R>,
     subject: &Subject<'_, T>,
+    form: &Form<'_>,
     sink: &mut W,
 ) -> Result<Ending, CampaignFault>
 where
     T::Workload: Sync,
     requires { W.has_failed sink.old ≡ false }
-    ensures text { OnOk result (WritesWhole (report_text (campaign_in T.Target subject.now)) (change W.Sink sink.old sink.new)) }
+    ensures text { OnOk result (WritesWhole (report_in form.now (campaign_in T.Target subject.now)) (change W.Sink sink.old sink.new)) }
     ensures first { IfOk result (λ ending. ending.first ≡ option_map (λ f. f.0) (first_failure (campaign_in T.Target subject.now))) }
     ensures minimal { OnOk result (EachIsMinimal (campaign_in T.Target subject.now)) }
     ensures promises { OnOk result (EachIsTried (campaign_in T.Target subject.now)) }
     ensures few { OnOk result (length (plans (campaign_in T.Target subject.now)) ≤ most_plans) }
     ensures fault { IfErr result (let c = campaign_in T.Target subject.now in
-        IsFault c (report_text c) (change W.Sink sink.old sink.new)) }
+        IsFault c (report_in form.now c) (change W.Sink sink.old sink.new)) }
 {
     each_behaviour_is_tried::<T>();
     let ran = run_campaign(host, subject)?;
-    let report = report_of(host, subject, &ran)?;
-    let text = text(host.alloc, subject.target, &report)?;
+    let text = report_in(host, subject, form, &ran)?;
     write_report(text.as_slice(), sink)?;
     Ok(ran.results.ending())
 }

@@ -6,7 +6,7 @@ use Rattle.scenario_values.specs.Scenario.{Entries}
 use Rattle.scenario_grammar.specs.declared.fault.ScenarioFault.TheVariants as scenario
 use Rattle.target_trait.specs.declared.judgement.Verdict.{Verdict}
 use Rattle.plan_gen.specs.PlanList.{most_plans}
-use Rattle.campaign_core.specs.Headline.{Campaign, say, plans, campaign_map_text, first_failure}
+use Rattle.campaign_core.specs.Headline.{Campaign, say, plans, first_failure}
 use Rattle.campaign_core.specs.CommandTexts.{counted, explained, IsFault, IsReducedToMinimal, IsUnfound, IsUnlisted, LeavesOnly, plan_lines, plans_text, reduce_text, tried, try_text}
 use Rattle.campaign_core.specs.Writes.{Change, IsUntouched, WritesPart, WritesWhole}
 use Rattle.campaign_core.specs.declared.ending.CampaignFault.{CampaignFault}
@@ -21,7 +21,7 @@ use Rattle.campaign_main.specs.declared.exit.Answered.{Answered}
 use Rattle.campaign_main.specs.declared.exit.Conclusion.{Conclusion}
 use Rattle.campaign_main.specs.declared.exit.Conclusion.TheVariants.{Clean}
 use Rattle.campaign_main.specs.Exit.{concluded}
-use Rattle.campaign_main.specs.Commands.{Answer, Refusal, explain_answer, map_answer, numbered, of_few_plans, of_verdict, outside_answer, planned, plans_answer, reduce_answer, report_in, run_answer, taken_answer, too_many_plans, try_answer}
+use Rattle.campaign_main.specs.Commands.{Answer, Refusal, explain_answer, numbered, of_few_plans, of_verdict, outside_answer, planned, plans_answer, reduce_answer, report_in, run_answer, taken_answer, too_many_plans, try_answer}
 use Rattle.campaign_main.specs.Notes.{is_doubted, listed_notes, notes_of, report_notes}
 use Rattle.campaign_main.specs.Ends.{ComesTo, FallsShort, HasNotes, IsCutOff, IsUntaken, IsWritten}
 
@@ -116,17 +116,6 @@ module _ (c : Campaign) (form : Form) (strict : Bool) (w : Change) where
 module _ (c : Campaign) (w : Change) where
   abbrev listed : List ℕ
   listed = listed_notes c.points c.given.plans.listed
-
-  pub map-done : (found : Conclusion) (first : Option ℕ) (some : Bool) (notes : List ℕ) → length (plans c) ≤ most_plans → WritesWhole (campaign_map_text c) w
-      → found ≡ concluded some false → some ≡ is_some first → first ≡ option_map (λ f. f.0) (first_failure c) → notes ≡ listed → IsDone (map_answer c) w found notes
-  unfolding map_answer
-  map-done found first some notes few written is has first-is same =
-      let f : Bool → Conclusion = λ b. concluded b false in
-      done_campaign c (map_answer c) (campaign_map_text c) false listed refl w found first notes few written (is ∙ ap f has) first-is same
-
-  pub map-short : (f : CampaignFault) → IsFault c (campaign_map_text c) w f → FallsShort (map_answer c) w (faults.Campaign f)
-  unfolding map_answer
-  map-short f h = short_of_plans c (map_answer c) (campaign_map_text c) (concluded (is_some (first_failure c)) false) listed refl w f h
 
   pub plans-done : (notes : List ℕ) → length (plans c) ≤ most_plans → WritesWhole (plans_text c) w → notes ≡ listed → IsDone (plans_answer c) w Clean notes
   unfolding plans_answer

@@ -61,7 +61,6 @@ module _ (calls : Given → List (List ℕ)) (points : List (List ℕ)) (c : Cam
   pub others-are : (o : Order) → ((which : Which) → ¬ (o ≡ order.Explain which)) → cut_answer calls points o c ≡ order_answer o c
   others-are (order.Explain which) other = absurd (other which refl)
   others-are (order.Run form strict recheck) other = refl
-  others-are order.Map other = refl
   others-are order.Plans other = refl
   others-are (order.Try which) other = refl
   others-are (order.Reduce which) other = refl

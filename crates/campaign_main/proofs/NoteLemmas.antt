@@ -18,7 +18,7 @@ use Rattle.command_words.specs.declared.words.Order.TheVariants as order
 use Rattle.command_words.specs.declared.words.Which.{Which}
 use Rattle.campaign_main.specs.declared.exit.Exit.{Exit}
 use Rattle.campaign_main.specs.declared.exit.Exit.TheVariants as exit
-use Rattle.campaign_main.specs.Commands.{Answer, Refusal, bundled_answer, choice_answer, cut_answer, cut_explain_answer, explain_answer, given_answer, map_answer, of_few_plans, order_answer, outside_answer, plans_answer, reduce_answer, run_answer, taken, taken_answer, text_answer, too_many_plans, try_answer}
+use Rattle.campaign_main.specs.Commands.{Answer, Refusal, bundled_answer, choice_answer, cut_answer, cut_explain_answer, explain_answer, given_answer, of_few_plans, order_answer, outside_answer, plans_answer, reduce_answer, run_answer, taken, taken_answer, text_answer, too_many_plans, try_answer}
 use Rattle.campaign_main.specs.Ends.{IsNoted, IsTold, OnWhole, TellsANote, TellsARefusal, TellsAs, TellsNotes, TellsRefusal, Tells}
 use Rattle.campaign_main.specs.declared.exit.Conclusion.{Conclusion}
 use Rattle.campaign_main.specs.declared.exit.Conclusion.TheVariants.{Clean, Failed, Doubtful}
@@ -56,10 +56,6 @@ module _ (c : Campaign) where
   unfolding run_answer
   may-run form strict recheck = of-few (MayNote (order.Run form strict recheck)) _ _ (c, refl)
 
-  may-map : NotesFor order.Map (map_answer c)
-  unfolding map_answer
-  may-map = of-few (MayNote order.Map) _ _ (c.points, (c.given.plans.listed, refl))
-
   may-plans : NotesFor order.Plans (plans_answer c)
   unfolding plans_answer
   may-plans = of-few (MayNote order.Plans) _ _ (c.points, (c.given.plans.listed, refl))
@@ -81,7 +77,6 @@ module _ (c : Campaign) where
 
   pub may-order : (o : Order) → NotesFor o (order_answer o c)
   may-order (order.Run form strict recheck) = may-run form strict recheck
-  may-order order.Map = may-map
   may-order order.Plans = may-plans
   may-order (order.Try which) = may-try which (taken c which)
   may-order (order.Reduce which) = may-reduce which (taken c which)
@@ -96,7 +91,6 @@ module _ (calls : Run → List (List ℕ)) (points : List (List ℕ)) where
   may-cut : (c : Campaign) (o : Order) → NotesFor o (cut_answer calls points o c)
   may-cut c (order.Explain which) = may-explain-cut c which (taken c which)
   may-cut c (order.Run form strict recheck) = may-order c (order.Run form strict recheck)
-  may-cut c order.Map = may-order c order.Map
   may-cut c order.Plans = may-order c order.Plans
   may-cut c (order.Try which) = may-order c (order.Try which)
   may-cut c (order.Reduce which) = may-order c (order.Reduce which)
@@ -110,7 +104,6 @@ module _ (calls : Run → List (List ℕ)) (points : List (List ℕ)) where
 may-outside : (o : Order) (depth : Option ℕ) (plans : List Entries) (points : List (List ℕ)) (listed : List Entries) → NotesFor o (outside_answer o depth plans (listed_notes points listed))
 unfolding outside_answer
 may-outside (order.Run form strict recheck) depth plans points listed = tt
-may-outside order.Map depth plans points listed = tt
 may-outside order.Plans None plans points listed = of-few (MayNote order.Plans) plans _ (points, (listed, refl))
 may-outside order.Plans (Some depth) plans points listed = tt
 may-outside (order.Try which) depth plans points listed = tt

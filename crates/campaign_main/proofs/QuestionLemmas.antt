@@ -27,7 +27,7 @@ use Rattle.answered_campaigns.specs.Explained.{ExplainRefused, IsExplained}
 use Rattle.answered_campaigns.specs.Questions.{AsksRefused, IsAskedInPart, IsAskedTo, IsKnownInPart, IsKnownTo, IsReportedInPart, IsReportedTo, KnownRefused, Refuses, ReportRefused}
 use Rattle.answered_campaigns.specs.declared.fault.QuestionFault.{QuestionFault}
 use Rattle.answered_campaigns.specs.declared.fault.QuestionFault.TheVariants as fault
-use Rattle.outside_campaign.specs.declared.forms.Form.{Form}
+use Rattle.report_forms.specs.declared.forms.Form.{Form}
 use Rattle.outside_campaign.specs.declared.refusal.OutsideFault.TheVariants as outside
 use Rattle.campaign_main.specs.declared.exit.Conclusion.{Conclusion}
 use Rattle.campaign_main.specs.declared.exit.Conclusion.TheVariants.{Clean, Failed, Doubtful}

@@ -17,7 +17,6 @@ module _ (state_of reason_of : Given → List ℕ) (c : Campaign) where
   pub others-are : (o : Order) → ((which : Which) → ¬ (o ≡ order.Explain which)) → telling_answer state_of reason_of o c ≡ order_answer o c
   others-are (order.Explain which) other = absurd (other which refl)
   others-are (order.Run form strict recheck) other = refl
-  others-are order.Map other = refl
   others-are order.Plans other = refl
   others-are (order.Try which) other = refl
   others-are (order.Reduce which) other = refl

@@ -35,11 +35,12 @@ use Rattle.campaign_settings.specs.declared.choice.Choice.{Choice}
 use Rattle.campaign_settings.specs.declared.choice.Choice.TheVariants as choice
 use Rattle.campaign_settings.specs.declared.settings.Settings.{Settings}
 use Rattle.campaign_core.specs.declared.subject.Subject.{Subject}
-use Rattle.campaign_core.specs.Headline.{Campaign, campaign_of, say, plans, report_text, brief_report_text, campaign_map_text, first_failure}
+use Rattle.campaign_core.specs.Headline.{Campaign, campaign_of, say, plans, first_failure}
 use Rattle.campaign_core.specs.CommandTexts.{counted, explained, plan_lines, plans_text, try_text, tried, reduce_text}
-use Rattle.campaign_core.specs.Machines.{machine_text}
-use Rattle.campaign_core.specs.Pages.{NotesFacts, campaign_page_text}
-use Rattle.campaign_core.specs.declared.machines.MachineForm.TheVariants as machine
+use Rattle.campaign_core.specs.Forms.{report_in as campaign_report}
+use Rattle.report_json.specs.About.{NotesFacts}
+use Rattle.report_forms.specs.declared.forms.Form.{Form as ReportForm}
+use Rattle.report_forms.specs.declared.forms.Form.TheVariants as forms
 use Rattle.command_words.specs.declared.words.Form.{Form}
 use Rattle.command_words.specs.declared.words.Form.TheVariants.{Whole, Brief, Json, Junit, Page}
 use Rattle.command_words.specs.declared.words.Order.{Order}
@@ -83,29 +84,28 @@ Answer = Result (List ℕ × Conclusion × List ℕ) Refusal
 abbrev pub of_few_plans : List Entries → List ℕ × Conclusion × List ℕ → Answer
 of_few_plans plans text = if nat_lt most_plans (length plans) then Err too_many_plans else Ok text
 
--- what a page tells beside the campaign
-abbrev pub page_notes : NotesFacts
-page_notes = record { version = codes "0.3.0"; command = codes "paklour page FILE" }
+-- what a document tells of the program, of who told the runs, and of its command
+abbrev pub notes_with : List ℕ → List ℕ → NotesFacts
+notes_with told_by command = record { version = codes "0.4.0"; told_by = told_by; command = command }
+
+-- the form that a command's words name
+abbrev pub form_in : Form → ReportForm
+form_in Whole = forms.Whole
+form_in Brief = forms.Brief
+form_in Json = forms.Json (notes_with (codes "target") (codes "paklour run --json FILE"))
+form_in Junit = forms.Junit
+form_in Page = forms.Page (notes_with (codes "target") (codes "paklour page FILE"))
 
 -- the report of a form
 abbrev pub report_in : Form → Campaign → List ℕ
-report_in Whole c = report_text c
-report_in Brief c = brief_report_text c
-report_in Json c = machine_text machine.Json c
-report_in Junit c = machine_text machine.Junit c
-report_in Page c = campaign_page_text page_notes c
+report_in form c = campaign_report (form_in form) c
 
 -- the report, whether a plan fails, and what is noted, which counts where the report is to be strict
 unfoldable pub run_answer : Form → Bool → Campaign → Answer
 run_answer form strict c =
     of_few_plans (plans c) (report_in form c, concluded (is_some (first_failure c)) (is_doubted strict (report_notes strict c)), report_notes strict c)
 
--- the map, whether a plan fails, and what is noted of the listed scenarios
-unfoldable pub map_answer : Campaign → Answer
-map_answer c =
-    of_few_plans (plans c) (campaign_map_text c, concluded (is_some (first_failure c)) false, listed_notes c.points c.given.plans.listed)
-
--- the list of plans, and the same notes
+-- the list of plans, and what is noted of the listed scenarios
 unfoldable pub plans_answer : Campaign → Answer
 plans_answer c = of_few_plans (plans c) (plans_text c, Clean, listed_notes c.points c.given.plans.listed)
 
@@ -150,7 +150,6 @@ taken_answer answer (Err refusal) = Err refusal
 
 abbrev pub order_answer : Order → Campaign → Answer
 order_answer (order.Run form strict recheck) c = run_answer form strict c
-order_answer order.Map c = map_answer c
 order_answer order.Plans c = plans_answer c
 order_answer (order.Try which) c = taken_answer (try_answer c) (taken c which)
 order_answer (order.Reduce which) c = taken_answer (reduce_answer c) (taken c which)
@@ -191,7 +190,6 @@ cut_explain_answer calls points c stream scenario = Ok (
 abbrev pub cut_answer : (Run → List (List ℕ)) → List (List ℕ) → Order → Campaign → Answer
 cut_answer calls points (order.Explain which) c = taken_answer (cut_explain_answer calls points c) (taken c which)
 cut_answer calls points (order.Run form strict recheck) c = order_answer (order.Run form strict recheck) c
-cut_answer calls points order.Map c = order_answer order.Map c
 cut_answer calls points order.Plans c = order_answer order.Plans c
 cut_answer calls points (order.Try which) c = order_answer (order.Try which) c
 cut_answer calls points (order.Reduce which) c = order_answer (order.Reduce which) c
@@ -203,7 +201,6 @@ unfoldable pub outside_answer : Order → Option ℕ → List Entries → List �
 outside_answer order.Plans None plans notes = of_few_plans plans (text_of (plan_lines 0 plans), Clean, notes)
 outside_answer order.Plans (Some depth) plans notes = Err outside_with_depth
 outside_answer (order.Run form strict recheck) depth plans notes = Err outside_target
-outside_answer order.Map depth plans notes = Err outside_target
 outside_answer (order.Try which) depth plans notes = Err outside_target
 outside_answer (order.Reduce which) depth plans notes = Err outside_target
 outside_answer (order.Explain which) depth plans notes = Err outside_target

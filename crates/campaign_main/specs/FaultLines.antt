@@ -2,6 +2,7 @@
 use Rattle.std.specs.Prelude.{List, ℕ, ◌++◌, codes}
 use Rattle.std.specs.Fmt.{decimal}
 use Rattle.answer_text.specs.FaultText.{line_of as answers_line_of}
+use Rattle.answer_text.specs.FirstFault.{has_control}
 use Rattle.answer_text.specs.declared.fault.AnswersFault.TheVariants as answers
 use Rattle.answered_runs.specs.Broken.{broken_text}
 use Rattle.report.specs.ReportText.{ended, scenario_text}
@@ -14,13 +15,18 @@ use Rattle.campaign_settings.specs.Settings.{Cause, too_long, not_toml, unknown,
 use Rattle.campaign_settings.specs.declared.fault.SettingsFault.{SettingsFault}
 use Rattle.campaign_settings.specs.declared.fault.SettingsFault.TheVariants as settings
 use Rattle.campaign_settings.specs.declared.keys.KeyFault.TheVariants as fault
+use Rattle.campaign_main.specs.Notes.{text_if}
 use Rattle.campaign_main.specs.declared.input.ReadFault.{ReadFault}
 use Rattle.campaign_main.specs.declared.input.ReadFault.TheVariants as read
 use Rattle.campaign_main.specs.Commands.{Refusal, not_text, bad_settings, bad_scenario, no_plan, too_many_plans, outside_target, outside_with_depth, bundled_target, bad_answers, other_census, not_answered, broken_run, unseen_hits}
 
+-- a line on the settings, and one more where a control character stands in it, as in a key that has a line feed
+abbrev pub told_line : List ℕ → List ℕ
+told_line line = ended line ++ text_if (has_control line) (codes "settings: a control character: what follows it may look like a line of its own")
+
 -- what is wrong with the settings
 abbrev pub settings_line : SettingsFault → List ℕ
-settings_line fault = ended (line_of fault)
+settings_line fault = told_line (line_of fault)
 
 -- what is wrong with a scenario's text, and where
 abbrev pub scenario_line : ScenarioFault → List ℕ
@@ -48,7 +54,7 @@ cut_off_line written = codes "write failed after " ++ (decimal written ++ codes 
 abbrev pub cause_line : Cause → List ℕ
 cause_line too_long = settings_line settings.TooLong
 cause_line not_toml = settings_line settings.NotToml
-cause_line (unknown place name) = ended (codes "settings: unknown key " ++ full_name place name)
+cause_line (unknown place name) = told_line (codes "settings: unknown key " ++ full_name place name)
 cause_line (wrong key fault.Missing) = settings_line (settings.Missing key)
 cause_line (wrong key fault.WrongType) = settings_line (settings.WrongType key)
 cause_line (wrong key fault.OutOfRange) = settings_line (settings.OutOfRange key)
@@ -63,7 +69,7 @@ refusal_line too_many_plans = codes "too many plans\n"
 refusal_line (no_plan number) = ended (codes "plan: out of range " ++ decimal number)
 refusal_line outside_target = codes "settings: target outside: only plans, asks and report\n"
 refusal_line outside_with_depth = codes "settings: target outside with a depth: only asks and report\n"
-refusal_line bundled_target = codes "settings: target not outside: only run, plans, map, try, reduce and explain\n"
+refusal_line bundled_target = codes "settings: target not outside: only run, plans, try, reduce and explain\n"
 refusal_line (bad_answers f) = ended (answers_line_of f)
 refusal_line (other_census line) = codes "answers: line " ++ (decimal line ++ codes ": hits differ from the settings\n")
 refusal_line (not_answered s) = ended (codes "not answered " ++ scenario_text s)

@@ -1,9 +1,12 @@
--- What is noted beside a command's text: which names of scenarios no point of the target has; and what makes a report say less than it seems to.
+-- What is noted beside a command's text: which names of scenarios no point of the target has, and which scenarios have control characters; and what makes
+-- a report say less than it seems to.
 use Rattle.std.specs.Prelude.{◌≡◌, ◌++◌, ◌+◌, ◌==◌, ◌&&◌, [], ◌∷◌, ℕ, Bool, true, false, List, codes, flat_map, length, map, nat_lt, slice_index_or, if◌then◌else◌}
 use Rattle.std.specs.Fmt.{decimal}
 use Rattle.std.specs.List.{list_all, list_any}
 use Rattle.std.specs.Str.{bytes_eq}
+use Rattle.scenario_values.specs.Printed.{printed}
 use Rattle.scenario_values.specs.Scenario.{Entries}
+use Rattle.answer_text.specs.FirstFault.{has_control}
 use Rattle.target_trait.specs.Verdicts.{is_unresolved}
 use Rattle.report.specs.ReportText.{ended, text_of}
 use Rattle.plan_gen.specs.PlanList.{Asked}
@@ -37,19 +40,30 @@ stranger_of points origin name = if is_point points name then [] else stranger_l
 abbrev pub strangers_in : List (List ℕ) → Origin → Entries → List (List ℕ)
 strangers_in points origin scenario = flat_map (λ e. stranger_of points origin e.0) scenario
 
--- what is noted of the scenario that a command takes
+-- the line for a scenario with a control character, as a line feed: it stands in a text as it is, and what follows may look like a line of the text's own
+abbrev pub control_line : Origin → List ℕ
+control_line origin = origin_text origin ++ codes ": a control character: what follows it in the text may look like a line of its own"
+
+abbrev pub control_lines : Origin → Entries → List (List ℕ)
+control_lines origin scenario = if has_control (printed scenario) then control_line origin ∷ [] else []
+
+-- what is noted of a scenario
+unfoldable pub scenario_notes : List (List ℕ) → Origin → Entries → List ℕ
+scenario_notes points origin scenario = text_of (strangers_in points origin scenario) ++ text_of (control_lines origin scenario)
+
+-- of the scenario that a command takes
 abbrev pub notes_of : List (List ℕ) → Entries → List ℕ
-notes_of points scenario = text_of (strangers_in points Taken scenario)
+notes_of points scenario = scenario_notes points Taken scenario
 
 -- what is noted of scenarios that the settings list, numbered from n on
 abbrev pub listed_from : List (List ℕ) → ℕ → List Entries → List ℕ
 listed_from points n [] = []
 listed_from points n (scenario ∷ more) =
-    text_of (strangers_in points (Listed n) scenario) ++ listed_from points (n + 1) more
+    scenario_notes points (Listed n) scenario ++ listed_from points (n + 1) more
 
 -- of all of them
 abbrev pub listed_notes : List (List ℕ) → List Entries → List ℕ
-listed_notes points listed = listed_from points 1 listed
+listed_notes points listed = listed_from points 0 listed
 
 -- ---- what makes a report say less than it seems to
 
@@ -115,10 +129,9 @@ NotesAScenario notes = (points : List (List ℕ)) × ((scenario : Entries) × (n
 abbrev pub NotesListed : List ℕ → Type 0
 NotesListed notes = (points : List (List ℕ)) × ((listed : List Entries) × (notes ≡ listed_notes points listed))
 
--- what an order may note: `run` what is noted beside some campaign's report, `map` and `plans` of listed scenarios, and the others of one
+-- what an order may note: `run` what is noted beside some campaign's report, `plans` of listed scenarios, and the others of one
 abbrev pub MayNote : Order → List ℕ → Type 0
 MayNote (order.Run form strict recheck) notes = (c : Campaign) × (notes ≡ report_notes strict c)
-MayNote order.Map notes = NotesListed notes
 MayNote order.Plans notes = NotesListed notes
 MayNote (order.Try which) notes = NotesAScenario notes
 MayNote (order.Reduce which) notes = NotesAScenario notes

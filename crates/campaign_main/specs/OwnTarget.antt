@@ -68,7 +68,6 @@ telling_explain_answer state_of reason_of c stream scenario =
 abbrev pub telling_answer : (Run → List ℕ) → (Run → List ℕ) → Order → Campaign → Answer
 telling_answer state_of reason_of (order.Explain which) c = taken_answer (telling_explain_answer state_of reason_of c) (taken c which)
 telling_answer state_of reason_of (order.Run form strict recheck) c = order_answer (order.Run form strict recheck) c
-telling_answer state_of reason_of order.Map c = order_answer order.Map c
 telling_answer state_of reason_of order.Plans c = order_answer order.Plans c
 telling_answer state_of reason_of (order.Try which) c = order_answer (order.Try which) c
 telling_answer state_of reason_of (order.Reduce which) c = order_answer (order.Reduce which) c

@@ -15,7 +15,6 @@ RunKeepsPromises c = EachIsMinimal c × EachIsTried c
 -- of each order, by what a campaign is given; `reduce` promises the same of the scenario that it takes
 abbrev pub KeepsPromises : Order → Campaign → Type 0
 KeepsPromises (order.Run form strict recheck) c = RunKeepsPromises c
-KeepsPromises order.Map c = Unit {0}
 KeepsPromises order.Plans c = Unit {0}
 KeepsPromises (order.Try which) c = Unit {0}
 KeepsPromises (order.Reduce which) c = IfOk (taken c which) (λ t. IsReducedToMinimal c t.0 t.1)

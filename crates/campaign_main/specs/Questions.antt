@@ -5,7 +5,6 @@ use Rattle.scenario_values.specs.Scenario.{Entries}
 use Rattle.scenario_grammar.specs.declared.fault.ScenarioFault.TheVariants as scenario
 use Rattle.asked_lines.specs.declared.parts.AskedPart.{AskedPart}
 use Rattle.asked_lines.specs.declared.parts.AskedPart.TheVariants as part
-use Rattle.campaign_core.specs.Pages.{NotesFacts}
 use Rattle.command_words.specs.declared.words.AskedPart.{AskedPart as Part}
 use Rattle.command_words.specs.declared.words.AskedPart.TheVariants as words
 use Rattle.command_words.specs.declared.words.Form.TheVariants as form
@@ -22,8 +21,8 @@ use Rattle.campaign_core.specs.declared.ending.CampaignFault.TheVariants as camp
 use Rattle.command_words.specs.declared.words.Question.{Question}
 use Rattle.command_words.specs.declared.words.Question.TheVariants.{Asks, Report, Explain}
 use Rattle.outside_campaign.specs.declared.campaign.OutsideCampaign.{OutsideCampaign}
-use Rattle.outside_campaign.specs.declared.forms.Form.{Form}
-use Rattle.outside_campaign.specs.declared.forms.Form.TheVariants as forms
+use Rattle.report_forms.specs.declared.forms.Form.{Form}
+use Rattle.report_forms.specs.declared.forms.Form.TheVariants as forms
 use Rattle.outside_campaign.specs.declared.refusal.OutsideFault.TheVariants as outside
 use Rattle.answered_campaigns.specs.Explained.{IsExplained, IsExplainedInPart, RefusesText, spelled}
 use Rattle.answered_campaigns.specs.Questions.{IsAsked, IsAskedInPart, IsKnownInPart, IsKnownSoFar, IsReported, IsReportedInPart, Refuses}
@@ -34,7 +33,7 @@ use Rattle.campaign_main.specs.declared.exit.Conclusion.TheVariants.{Clean, Fail
 use Rattle.campaign_main.specs.declared.exit.Exit.{Exit}
 use Rattle.campaign_main.specs.declared.exit.Exit.TheVariants.{Kept, Found, Refused, Memory, Write, Doubted}
 use Rattle.campaign_main.specs.declared.fault.CommandFault.TheVariants as command
-use Rattle.campaign_main.specs.Commands.{Refusal, bad_answers, bad_scenario, bad_settings, broken_run, bundled_target, not_answered, of_text, other_census, page_notes, too_many_plans, unseen_hits}
+use Rattle.campaign_main.specs.Commands.{Refusal, bad_answers, bad_scenario, bad_settings, broken_run, bundled_target, not_answered, notes_with, of_text, other_census, too_many_plans, unseen_hits}
 use Rattle.campaign_main.specs.Ends.{IsEndOf, IsNoted, IsTold, RefusesWith, TellsOf}
 use Rattle.campaign_main.specs.Exit.{concluded}
 use Rattle.campaign_main.specs.QuestionNotes.{is_question_doubted, question_notes}
@@ -69,18 +68,13 @@ subject_of bytes = of_text text_subject bytes
 
 -- ---- texts
 
--- what a page by answers tells beside the campaign
-abbrev pub told_notes : NotesFacts
-told_notes = record { version = page_notes.version; command = codes "paklour report --page FILE < ANSWERS" }
-
 -- the form in which a report by answers is written; what is known so far is no report
 abbrev pub report_form : Shown → Option Form
 report_form (shown.Report form.Whole) = Some forms.Whole
 report_form (shown.Report form.Brief) = Some forms.Brief
-report_form (shown.Report form.Json) = Some forms.Json
+report_form (shown.Report form.Json) = Some (forms.Json (notes_with (codes "answers") (codes "paklour report --json FILE < ANSWERS")))
 report_form (shown.Report form.Junit) = Some forms.Junit
-report_form (shown.Report form.Page) = Some (forms.Page told_notes)
-report_form shown.Map = Some forms.Map
+report_form (shown.Report form.Page) = Some (forms.Page (notes_with (codes "answers") (codes "paklour report --page FILE < ANSWERS")))
 report_form shown.Partial = None
 
 -- the part of the lines that ask which is written

@@ -4,7 +4,7 @@ ghost use Rattle.plan_gen.specs.PlanList.{most_plans};
 ghost use Rattle.campaign_core.specs.CommandTexts.{IsFault, IsReducedToMinimal};
 ghost use Rattle.campaign_core.specs.Headline.{campaign_in, first_failure, plans};
 ghost use Rattle.campaign_core.specs.Writes.{WritesWhole, change};
-ghost use Rattle.campaign_main.specs.Commands.{explain_answer, map_answer, order_answer, page_notes, plans_answer, reduce_answer, report_in, run_answer, taken, taken_answer, try_answer};
+ghost use Rattle.campaign_main.specs.Commands.{explain_answer, form_in, notes_with, order_answer, plans_answer, reduce_answer, report_in, run_answer, taken, taken_answer, try_answer};
 ghost use Rattle.campaign_main.specs.Ends.{ComesTo, IsUntaken};
 ghost use Rattle.campaign_main.specs.Notes.{notes_of};
 ghost use Rattle.campaign_main.specs.Promises.{KeepsPromises, RunKeepsPromises};
@@ -14,24 +14,39 @@ use crate::fault::CommandFault;
 use crate::notes::{is_doubted, listed_of, notes_on, report_notes_on};
 use crate::steady::check_steady;
 use campaign_core::{
-    CampaignFault, Ending, Host, MachineForm, PageNotes, Subject, brief_campaign, campaign,
-    explain_one, machine_campaign, map_campaign, page_campaign, plan_list, plan_scenario,
+    CampaignFault, Ending, Host, Subject, campaign, explain_one, plan_list, plan_scenario,
     reduce_one, try_one,
 };
 use command_words::{Form, Order, VERSION, Which};
+use report_forms::Form as ReportForm;
+use report_json::Notes;
 use scenario_grammar::{Scenario, parse};
 use std::sync::Wait;
 use std::thread::Threads;
 use target_trait::{Sink, Target};
 use work_gate::Gate;
 
-/// What a page tells beside the campaign.
-fn page_notes() -> PageNotes<'static>
-    ensures { result ≡ page_notes }
+/// What a document tells of the program, of who tells the runs, `target` or `answers`, and of its command.
+pub fn notes_with(told_by: &'static str, command: &'static str) -> Notes<'static>
+    ensures { result ≡ notes_with told_by.entry.now command.entry.now }
 {
-    PageNotes {
+    Notes {
         version: VERSION,
-        command: "paklour page FILE",
+        told_by,
+        command,
+    }
+}
+
+/// The form that a command's words name.
+fn form_in(form: Form) -> ReportForm<'static>
+    ensures { result ≡ form_in form }
+{
+    match form {
+        Form::Whole => ReportForm::Whole,
+        Form::Brief => ReportForm::Brief,
+        Form::Json => ReportForm::Json(notes_with("target", "paklour run --json FILE")),
+        Form::Junit => ReportForm::Junit,
+        Form::Page => ReportForm::Page(notes_with("target", "paklour page FILE")),
     }
 }
 
@@ -51,13 +66,7 @@ where
     ensures few { OnOk result (length (plans (campaign_in T.Target subject.now)) ≤ most_plans) }
     ensures fault { IfErr result (let c = campaign_in T.Target subject.now in IsFault c (report_in form c) (change W.Sink output.old output.new)) }
 {
-    match form {
-        Form::Whole => campaign(host, subject, output),
-        Form::Brief => brief_campaign(host, subject, output),
-        Form::Json => machine_campaign(host, subject, MachineForm::Json, output),
-        Form::Junit => machine_campaign(host, subject, MachineForm::Junit, output),
-        Form::Page => page_campaign(host, subject, &page_notes(), output),
-    }
+    campaign(host, subject, &form_in(form), output)
 }
 
 /// Runs a campaign, and writes its report in this form.
@@ -78,23 +87,6 @@ where
     let ending = report_plans(host, subject, form, output)?;
     let doubted = is_doubted(strict, notes.as_str());
     let conclusion = concluded(ending.first.is_some(), doubted);
-    Ok(Answered { conclusion, notes })
-}
-
-/// Runs a campaign, and writes its map. What is noted is of the listed scenarios.
-fn map_plans<T: Target + Send, W: Sink, H: Threads + Wait + Sync, G: Gate>(
-    host: &Host<'_, G, H>,
-    subject: &Subject<'_, T>,
-    output: &mut W,
-) -> Result<Answered, CommandFault>
-where
-    T::Workload: Sync,
-    requires { W.has_failed output.old ≡ false }
-    ensures { ComesTo (map_answer (campaign_in T.Target subject.now)) (change W.Sink output.old output.new) result }
-{
-    let notes = listed_of::<T>(host.alloc, subject.settings)?;
-    let ending = map_campaign(host, subject, output)?;
-    let conclusion = concluded(ending.first.is_some(), false);
     Ok(Answered { conclusion, notes })
 }
 
@@ -240,7 +232,6 @@ where
             }
             run_plans(host, subject, *form, *strict, output)
         }
-        Order::Map => map_plans(host, subject, output),
         Order::Plans => list_plans(host, subject, output),
         Order::Try(which) => try_which(host, subject, which, output),
         Order::Reduce(which) => reduce_which(host, subject, which, output),

@@ -10,6 +10,7 @@ ghost use Rattle.campaign_main.specs.Questions.{IsEndOfQuestion};
 use crate::exit::{Answered, Exit, exit_of};
 use crate::fault::CommandFault;
 use crate::input::ReadFault;
+use crate::notes::{has_control, write_if};
 use answer_text::AnswersFault;
 use answered_campaigns::QuestionFault;
 use answered_runs::BrokenRun;
@@ -94,11 +95,19 @@ pub fn end_unreadable_settings<E: Sink>(fault: ReadFault, faults: &mut E) -> Exi
     }
 }
 
-/// The line for a fault of the settings.
+/// The line for a fault of the settings, and one more where a control character stands in it.
 fn settings_line(alloc: Global, fault: &SettingsFault) -> Result<String, AllocError>
     ensures { IfOk result (λ line. string_bytes line ≡ settings_line fault.now) }
 {
-    format!(in alloc; "{fault}\n")
+    let mut line = format!(in alloc; "{fault}")?;
+    let control = has_control(line.as_str());
+    line.push_str("\n")?;
+    write_if(
+        &mut line,
+        control,
+        "settings: a control character: what follows it may look like a line of its own",
+    )?;
+    Ok(line)
 }
 
 /// Ends where a text gives no settings.
@@ -217,7 +226,7 @@ pub fn refuse_bundled<E: Sink>(faults: &mut E) -> Exit
     ensures told { IsTold (refusal_line bundled_target) (change E.Sink faults.old faults.new) }
 {
     refused(
-        "settings: target not outside: only run, plans, map, try, reduce and explain\n",
+        "settings: target not outside: only run, plans, try, reduce and explain\n",
         faults,
     )
 }
@@ -260,7 +269,7 @@ fn waiting_line(alloc: Global, scenario: &Scenario) -> Result<String, AllocError
     Ok(line)
 }
 
-/// The line for a run that breaks with that of the plan which its own grew from.
+/// The line for a run that breaks with that of its plan's forerunner.
 fn broken_line(alloc: Global, broken: &BrokenRun) -> Result<String, AllocError>
     ensures { IfOk result (λ line. string_bytes line ≡ refusal_line (broken_run broken.now)) }
 {

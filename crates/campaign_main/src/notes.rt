@@ -1,13 +1,14 @@
-//! What is noted beside a command's text: names of scenarios that no point of a target has, and what makes a report say less than it seems
-//! to.
+//! What is noted beside a command's text: names of scenarios that no point of a target has, scenarios with control characters, and what makes a
+//! report say less than it seems to.
 ghost use Rattle.std.specs.Prelude.{◌≡◌, ◌<◌, ◌++◌, [], All, Some, length, nat_lt, slice_index_or, string_bytes, IfErr, IfOk, OnOk};
 ghost use Rattle.action_eval.specs.Answers.{texts};
+ghost use Rattle.answer_text.specs.FirstFault.{has_control};
 ghost use Rattle.target_trait.specs.Verdicts.{is_unresolved};
 ghost use Rattle.report.specs.ReportText.{ended, text_of};
 ghost use Rattle.plan_survey.specs.Runs.{runs_from, unreached_in, unresolved_in};
 ghost use Rattle.campaign_core.specs.CommandTexts.{IsUnlisted, tried};
 ghost use Rattle.campaign_core.specs.Headline.{campaign_in, campaign_on, say};
-ghost use Rattle.campaign_main.specs.Notes.{doubt_notes, draws_nothing, is_doubted, is_point, is_unhit, listed_notes, notes_of, origin_text, report_notes, stranger_line, stranger_of, strangers_in, strict_notes, text_if, unreached_line, unreached_lines, unresolved_line};
+ghost use Rattle.campaign_main.specs.Notes.{control_line, control_lines, doubt_notes, draws_nothing, is_doubted, is_point, is_unhit, listed_notes, notes_of, origin_text, report_notes, scenario_notes, stranger_line, stranger_of, strangers_in, strict_notes, text_if, unreached_line, unreached_lines, unresolved_line};
 
 use campaign_core::{CampaignFault, Host, Subject, plan_campaign, plans_of};
 use campaign_given::CampaignSettings;
@@ -15,7 +16,7 @@ use campaign_plans::CampaignPlans;
 use outside_campaign::{OutsideCampaign, borrowed};
 use plan_survey::{Survey, survey_plans};
 use result_book::RunInput;
-use scenario_grammar::Scenario;
+use scenario_grammar::{Scenario, print};
 use scenario_values::build;
 use std::alloc::{AllocError, Global};
 use std::fmt::{self, Write};
@@ -44,7 +45,7 @@ pub struct Doubts {
 pub enum Origin {
     /// The one that a command takes.
     Taken,
-    /// The one of this number, from 1, that the settings list.
+    /// The one of this number, from 0, that the settings list.
     Listed(usize),
     /// The one in the line of answers of this number, from 1.
     Answered(usize),
@@ -109,27 +110,70 @@ pub fn write_strangers(
     Ok(())
 }
 
-/// What is noted of the scenario that a command takes: a line for each name that no point has, in the scenario's order.
+/// Whether a text has an ASCII control character.
+pub fn has_control(text: &str) -> bool
+    ensures { result ≡ has_control text.now }
+{
+    text.as_bytes().iter().any(|byte| byte.is_ascii_control())
+}
+
+fn write_control(out: &mut String, origin: Origin) -> Result<(), AllocError>
+    ensures { OnOk result (string_bytes out.new ≡ string_bytes out.old ++ ended (control_line origin)) }
+{
+    writeln!(
+        out,
+        "{origin}: a control character: what follows it in the text may look like a line of its own"
+    )
+}
+
+/// A line for a scenario in which a control character stands.
+fn write_if_control(
+    alloc: Global,
+    out: &mut String,
+    origin: Origin,
+    scenario: &Scenario,
+) -> Result<(), AllocError>
+    ensures { OnOk result (string_bytes out.new ≡ string_bytes out.old ++ text_of (control_lines origin scenario.now)) }
+{
+    let text = print(alloc, scenario)?;
+    if has_control(text.as_str()) {
+        write_control(out, origin)?;
+    }
+    Ok(())
+}
+
+/// What is noted of a scenario: a line for each name that no point has, in the scenario's order, and one where a control character stands in it.
+#[tactic(auto, unfolding(crate::specs::Notes::scenario_notes))]
+fn write_notes(
+    alloc: Global,
+    out: &mut String,
+    points: &[&str],
+    origin: Origin,
+    scenario: &Scenario,
+) -> Result<(), AllocError>
+    ensures { OnOk result (string_bytes out.new ≡ string_bytes out.old ++ scenario_notes (texts points.now) origin scenario.now) }
+{
+    write_strangers(out, points, origin, scenario)?;
+    write_if_control(alloc, out, origin, scenario)
+}
+
+/// What is noted of the scenario that a command takes.
 pub fn notes_on(alloc: Global, points: &[&str], scenario: &Scenario) -> Result<String, AllocError>
     ensures { IfOk result (λ lines. string_bytes lines ≡ notes_of (texts points.now) scenario.now) }
 {
     let mut lines = String::new(alloc);
-    write_strangers(&mut lines, points, Origin::Taken, scenario)?;
+    write_notes(alloc, &mut lines, points, Origin::Taken, scenario)?;
     Ok(lines)
 }
 
-/// What is noted of the scenarios that the settings list, numbered from 1.
+/// What is noted of the scenarios that the settings list, numbered from 0.
 pub fn listed_on(alloc: Global, points: &[&str], listed: &[Scenario]) -> Result<String, AllocError>
     ensures { IfOk result (λ lines. string_bytes lines ≡ listed_notes (texts points.now) listed.now) }
 {
     let mut lines = String::new(alloc);
     for place in 0..listed.len() {
-        write_strangers(
-            &mut lines,
-            points,
-            Origin::Listed(place + 1),
-            &listed[place],
-        )?;
+        let origin = Origin::Listed(place);
+        write_notes(alloc, &mut lines, points, origin, &listed[place])?;
     }
     Ok(lines)
 }
@@ -154,7 +198,8 @@ pub fn listed_outside(alloc: Global, campaign: &OutsideCampaign<'_>) -> Result<S
     listed_on(alloc, points.as_slice(), settings.scenarios.as_slice())
 }
 
-fn write_if(out: &mut String, condition: bool, line: &str) -> Result<(), AllocError>
+/// Adds a line where the condition holds.
+pub fn write_if(out: &mut String, condition: bool, line: &str) -> Result<(), AllocError>
     ensures { OnOk result (string_bytes out.new ≡ string_bytes out.old ++ text_if condition line.now) }
 {
     if condition {

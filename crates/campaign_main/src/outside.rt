@@ -49,7 +49,8 @@ pub fn outside_command<W: Sink>(
             None => list(alloc, campaign, output),
             Some(_) => Err(CommandFault::OutsideWithDepth),
         },
-        Order::Run { .. } | Order::Map | Order::Try(_) | Order::Reduce(_) | Order::Explain(_) =>
-            Err(CommandFault::Outside),
+        Order::Run { .. } | Order::Try(_) | Order::Reduce(_) | Order::Explain(_) => Err(
+            CommandFault::Outside,
+        ),
     }
 }

@@ -68,8 +68,8 @@ fn perform_text<W: Sink, E: Sink, H: Threads + Wait + Sync, G: Gate>(
 /// which faults are looked for.
 ///
 /// Beside the text of try, reduce and explain, once it stands there whole, the sink of faults has a line for each name of the scenario that no
-/// point of the target has, in the scenario's order: `scenario: no point is named NAME`; beside that of run, map and plans such a line for
-/// each scenario that the settings list, `settings: scenario 2: no point is named NAME`. A run that is strict adds what makes its report say
+/// point of the target has, in the scenario's order: `scenario: no point is named NAME`; beside that of run and plans such a line for
+/// each scenario that the settings list, `settings: scenario 1: no point is named NAME`. A run that is strict adds what makes its report say
 /// less than it seems to. A line that can't be written changes no end.
 ///
 /// Workers arrive at the gate before each plan and each test of a reduction; what comes of the command is the same at every gate.

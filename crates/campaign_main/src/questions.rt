@@ -6,6 +6,7 @@ ghost use Rattle.campaign_main.specs.QuestionNotes.{question_notes};
 ghost use Rattle.campaign_main.specs.Questions.{ComesToText, ConcludesText, EndsAnswered, EndsQuestion, IsNotAnswered, NotesQuestion, NotesText, TellsOfQuestion, TellsWhy, asked_part, chosen_subject, report_form, subject_in, subject_of, text_subject};
 
 use crate::answer_notes::{is_question_doubted, question_notes_on};
+use crate::command::notes_with;
 use crate::exit::{Conclusion, Exit, concluded, exit_of};
 use crate::input::{read_all, read_bytes};
 use crate::lines::{
@@ -17,10 +18,10 @@ use answered_campaigns::{
     QuestionFault, write_asks, write_explained, write_partial, write_report_in,
 };
 use asked_lines::AskedPart;
-use campaign_core::PageNotes;
 use campaign_settings::{Choice, Settings};
-use command_words::{AskedPart as Part, Form as ReportForm, Question, Shown, VERSION};
-use outside_campaign::{Form, OutsideCampaign};
+use command_words::{AskedPart as Part, Form as ReportForm, Question, Shown};
+use outside_campaign::OutsideCampaign;
+use report_forms::Form;
 use std::alloc::Global;
 use std::io::Read;
 use target_trait::Sink;
@@ -62,13 +63,15 @@ fn report_form(shown: Shown) -> Option<Form<'static>>
     match shown {
         Shown::Report(ReportForm::Whole) => Some(Form::Whole),
         Shown::Report(ReportForm::Brief) => Some(Form::Brief),
-        Shown::Report(ReportForm::Json) => Some(Form::Json),
+        Shown::Report(ReportForm::Json) => Some(Form::Json(notes_with(
+            "answers",
+            "paklour report --json FILE < ANSWERS",
+        ))),
         Shown::Report(ReportForm::Junit) => Some(Form::Junit),
-        Shown::Report(ReportForm::Page) => Some(Form::Page(PageNotes {
-            version: VERSION,
-            command: "paklour report --page FILE < ANSWERS",
-        })),
-        Shown::Map => Some(Form::Map),
+        Shown::Report(ReportForm::Page) => Some(Form::Page(notes_with(
+            "answers",
+            "paklour report --page FILE < ANSWERS",
+        ))),
         Shown::Partial => None,
     }
 }
@@ -256,7 +259,7 @@ fn answer_text<A: Read, W: Sink, E: Sink>(
 /// it, where the whole text stands in the output. Else one line on the sink of faults says why there is none: Refused for settings that
 /// can't be read or have a fault, that choose a bundled target, or that have more than 65536 plans; for answers that can't be read or have
 /// a fault, of which the first is named; and for a report where something is still to be tried. Of a campaign with a depth also where a run
-/// that answers tell breaks with that of the plan which its own grew from. For a run that is to be explained: where its text spells no scenario,
+/// that answers tell breaks with that of its plan's forerunner. For a run that is to be explained: where its text spells no scenario,
 /// which comes before all of the answers, where no answer tells it, and where the answer tells no hits.
 /// Memory is for memory that was refused, and both leave the output unchanged. Write tells how many bytes of the text, fewer than all, went
 /// out before the output failed. Where that line can't be written whole the answer stays. Where settings are refused, no answers are read.

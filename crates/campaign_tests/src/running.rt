@@ -3,6 +3,7 @@ ghost use Rattle.std.specs.Prelude.{◌≤◌, length};
 
 use campaign_core::{CampaignFault, Host, Subject, campaign};
 use campaign_given::CampaignSettings;
+use report_forms::Form;
 use scenario_grammar::Scenario;
 use std::alloc::Global;
 use std::sync::Wait;
@@ -38,6 +39,6 @@ where
     T::Workload: Sync,
 {
     let mut sink = Out::new(Vec::new(host.alloc));
-    let ending = campaign(host, subject, &mut sink)?;
+    let ending = campaign(host, subject, &Form::Whole, &mut sink)?;
     Ok((sink.into_writer(), ending.first))
 }

@@ -73,15 +73,14 @@ entered-name (Some p) name rows n e =
     elim (entered-named (λ s. answers_to p.0 (label_of s)) (built paklour).subs p.1 name rows e) [
       | inl run ↦ inl (inl (inl run.0))
       | inr (inl plans) ↦ inl (inl (inr (inl plans.0)))
-      | inr (inr (inl map)) ↦ inl (inl (inr (inr (inl map.0))))
-      | inr (inr (inr (inl page))) ↦ inl (inl (inr (inr (inr page.0))))
-      | inr (inr (inr (inr (inl try)))) ↦ inl (inr (inl try.0))
-      | inr (inr (inr (inr (inr (inl reduce))))) ↦ inl (inr (inr (inl reduce.0)))
-      | inr (inr (inr (inr (inr (inr (inl explain)))))) ↦ inl (inr (inr (inr explain.0)))
-      | inr (inr (inr (inr (inr (inr (inr (inl asks))))))) ↦ inr (inl asks.0)
-      | inr (inr (inr (inr (inr (inr (inr (inr (inl report)))))))) ↦ inr (inr report.0)
-      | inr (inr (inr (inr (inr (inr (inr (inr (inr (inl help))))))))) ↦ absurd (help-only p.0 n help.1)
-      | inr (inr (inr (inr (inr (inr (inr (inr (inr (inr none))))))))) ↦ absurd none
+      | inr (inr (inl page)) ↦ inl (inl (inr (inr page.0)))
+      | inr (inr (inr (inl try))) ↦ inl (inr (inl try.0))
+      | inr (inr (inr (inr (inl reduce)))) ↦ inl (inr (inr (inl reduce.0)))
+      | inr (inr (inr (inr (inr (inl explain))))) ↦ inl (inr (inr (inr explain.0)))
+      | inr (inr (inr (inr (inr (inr (inl asks)))))) ↦ inr (inl asks.0)
+      | inr (inr (inr (inr (inr (inr (inr (inl report))))))) ↦ inr (inr report.0)
+      | inr (inr (inr (inr (inr (inr (inr (inr (inl help)))))))) ↦ absurd (help-only p.0 n help.1)
+      | inr (inr (inr (inr (inr (inr (inr (inr (inr none)))))))) ↦ absurd none
     ]
 
 -- the subcommand's name and its rows
@@ -132,7 +131,6 @@ values-rows f =
       first_value-rows f (codes "brief"),
       first_value-rows f (codes "json"),
       first_value-rows f (codes "junit"),
-      first_value-rows f (codes "map"),
       first_value-rows f (codes "page"),
       first_value-rows f (codes "partial"),
       first_value-rows f (codes "explain"),
@@ -203,15 +201,14 @@ needed-at (Some p) name rows e t =
     elim (passed-in (λ s. answers_to p.0 (label_of s)) (built paklour).subs p.1 name rows e t) [
       | inl run ↦ not-needed (codes "run") run.0 refl
       | inr (inl plans) ↦ not-needed (codes "plans") plans.0 refl
-      | inr (inr (inl map)) ↦ not-needed (codes "map") map.0 refl
-      | inr (inr (inr (inl page))) ↦ not-needed (codes "page") page.0 refl
-      | inr (inr (inr (inr (inl try)))) ↦ not-needed (codes "try") try.0 refl
-      | inr (inr (inr (inr (inr (inl reduce))))) ↦ not-needed (codes "reduce") reduce.0 refl
-      | inr (inr (inr (inr (inr (inr (inl explain)))))) ↦ not-needed (codes "explain") explain.0 refl
-      | inr (inr (inr (inr (inr (inr (inr (inl asks))))))) ↦ λ _. needed-first _ rows (rw asks.1 (level-has _ p.1 refl asks.2)) (rw asks.1 (level-given _ p.1 asks.2))
-      | inr (inr (inr (inr (inr (inr (inr (inr (inl report)))))))) ↦ λ _. needed-first _ rows (rw report.1 (level-has _ p.1 refl report.2)) (rw report.1 (level-given _ p.1 report.2))
-      | inr (inr (inr (inr (inr (inr (inr (inr (inr (inl help))))))))) ↦ not-needed (codes "help") help.0 refl
-      | inr (inr (inr (inr (inr (inr (inr (inr (inr (inr none))))))))) ↦ absurd none
+      | inr (inr (inl page)) ↦ not-needed (codes "page") page.0 refl
+      | inr (inr (inr (inl try))) ↦ not-needed (codes "try") try.0 refl
+      | inr (inr (inr (inr (inl reduce)))) ↦ not-needed (codes "reduce") reduce.0 refl
+      | inr (inr (inr (inr (inr (inl explain))))) ↦ not-needed (codes "explain") explain.0 refl
+      | inr (inr (inr (inr (inr (inr (inl asks)))))) ↦ λ _. needed-first _ rows (rw asks.1 (level-has _ p.1 refl asks.2)) (rw asks.1 (level-given _ p.1 asks.2))
+      | inr (inr (inr (inr (inr (inr (inr (inl report))))))) ↦ λ _. needed-first _ rows (rw report.1 (level-has _ p.1 refl report.2)) (rw report.1 (level-given _ p.1 report.2))
+      | inr (inr (inr (inr (inr (inr (inr (inr (inl help)))))))) ↦ not-needed (codes "help") help.0 refl
+      | inr (inr (inr (inr (inr (inr (inr (inr (inr none)))))))) ↦ absurd none
     ]
   where
     not-needed : (word : Text) → name ≡ word → needs_file word ≡ false → HasNeeded name (first_of (codes "file") rows)

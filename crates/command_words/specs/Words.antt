@@ -71,10 +71,6 @@ json_rule = flag_rule (codes "json")
 abbrev pub junit_rule : Rule
 junit_rule = flag_rule (codes "junit")
 
--- --map, a flag
-abbrev pub map_rule : Rule
-map_rule = flag_rule (codes "map")
-
 -- --page, a flag
 abbrev pub page_rule : Rule
 page_rule = flag_rule (codes "page")
@@ -141,9 +137,9 @@ rechecked_app app = with_rule app recheck_rule
 abbrev pub asks_app : Text → App
 asks_app name = with_rule (with_rule (with_rule (new_app name) left_rule) shard_rule) needed_file_rule
 
--- a command that writes a report by answers, in one of these forms, as the map or a page, or as far as it is known
+-- a command that writes a report by answers, in one of these forms, as a page, or as far as it is known
 abbrev pub told_app : App → App
-told_app app = with_rule (with_rule (with_rule (formed_app app) map_rule) page_rule) partial_rule
+told_app app = with_rule (with_rule (formed_app app) page_rule) partial_rule
 
 -- the one of these that writes a report, on which it may be strict, or explains a run
 abbrev pub question_report_app : Text → App
@@ -155,8 +151,7 @@ with_commands app (s ∷ rest) = with_commands (with_subcommand app s) rest
 
 abbrev pub campaign_commands : List Shape
 campaign_commands =
-    (shown_app (rechecked_app (report_app (codes "run")))).top ∷ (file_app (codes "plans")).top ∷ (shown_app (file_app (codes "map"))).top
-    ∷ (shown_app (file_app (codes "page"))).top ∷ []
+    (shown_app (rechecked_app (report_app (codes "run")))).top ∷ (file_app (codes "plans")).top ∷ (shown_app (file_app (codes "page"))).top ∷ []
 
 abbrev pub scenario_commands : List Shape
 scenario_commands =
@@ -196,7 +191,6 @@ pub record Values : Type 0 where
   pub brief : Option Text
   pub json : Option Text
   pub junit : Option Text
-  pub map : Option Text
   pub page : Option Text
   pub partial : Option Text
   pub explain : Option Text
@@ -215,7 +209,6 @@ values_in rows = record {
   brief = first_of (codes "brief") rows;
   json = first_of (codes "json") rows;
   junit = first_of (codes "junit") rows;
-  map = first_of (codes "map") rows;
   page = first_of (codes "page") rows;
   partial = first_of (codes "partial") rows;
   explain = first_of (codes "explain") rows;
@@ -236,7 +229,6 @@ values_of f = record {
   brief = first_value f (codes "brief");
   json = first_value f (codes "json");
   junit = first_value f (codes "junit");
-  map = first_value f (codes "map");
   page = first_value f (codes "page");
   partial = first_value f (codes "partial");
   explain = first_value f (codes "explain");
@@ -279,7 +271,7 @@ form_of v = only Whole (named_if v.brief Brief ++ named_if v.json Json ++ named_
 -- what a question on a campaign shows
 abbrev pub named_shown : Values → List Shown
 named_shown v =
-    named_if v.brief (shown.Report Brief) ++ named_if v.json (shown.Report Json) ++ named_if v.junit (shown.Report Junit) ++ named_if v.map shown.Map
+    named_if v.brief (shown.Report Brief) ++ named_if v.json (shown.Report Json) ++ named_if v.junit (shown.Report Junit)
     ++ named_if v.page (shown.Report Page) ++ named_if v.partial shown.Partial
 
 -- beside --explain TEXT nothing else is named, and nothing is to be strict
@@ -301,7 +293,6 @@ IsReport name v form strict recheck =
 abbrev pub IsOrder : Text → Values → Order → Type 0
 IsOrder name v (order.Run form strict recheck) = IsReport name v form strict recheck
 IsOrder name v order.Plans = name ≡ codes "plans"
-IsOrder name v order.Map = name ≡ codes "map"
 IsOrder name v (order.Try which) = (name ≡ codes "try") × IsWhich v which
 IsOrder name v (order.Reduce which) = (name ≡ codes "reduce") × IsWhich v which
 IsOrder name v (order.Explain which) = (name ≡ codes "explain") × IsWhich v which
@@ -354,7 +345,7 @@ IsScenarioName name = (name ≡ codes "try") ⊎ ((name ≡ codes "reduce") ⊎ 
 
 -- the names of the commands over a target
 abbrev pub IsOrderName : Text → Type 0
-IsOrderName name = ((name ≡ codes "run") ⊎ ((name ≡ codes "plans") ⊎ ((name ≡ codes "map") ⊎ (name ≡ codes "page")))) ⊎ IsScenarioName name
+IsOrderName name = ((name ≡ codes "run") ⊎ ((name ≡ codes "plans") ⊎ (name ≡ codes "page"))) ⊎ IsScenarioName name
 
 -- the names of the questions
 abbrev pub IsQuestionName : Text → Type 0

@@ -6,8 +6,6 @@ pub const ABOUT: &str =
 
 pub const RUN: &str = "Run a campaign and write its report; with no command at all, this is done";
 
-pub const MAP: &str = "Run a campaign and write a picture of it, as SVG";
-
 pub const PAGE: &str = "Run a campaign and write a page of it, as HTML";
 
 pub const PLANS: &str = "Write the plans of a campaign, one scenario each, without running them";
@@ -26,17 +24,12 @@ Examples:
 
 Of --brief, --json and --junit one at most is given.";
 
-/// How a campaign is drawn.
-pub const MAP_EXAMPLES: &str = "\
-Example:
-  paklour map my.toml > map.svg
-draws a row of plans for each point, each plan in the colour of its verdict.";
-
 /// How a campaign is shown.
 pub const PAGE_EXAMPLES: &str = "\
 Example:
   paklour page my.toml > page.html
-tells what was tried and found, with the map and the run of each first failure, hit by hit.";
+shows what was tried and found: each first failure with its run, hit by hit, a map of all plans,
+and the plans by verdict, point and level. A browser opens it; it asks for nothing from elsewhere.";
 
 /// How plans are listed.
 pub const PLANS_EXAMPLES: &str = "\
@@ -69,9 +62,7 @@ pub const JSON: &str = "Write a JSON document with all that the report tells";
 
 pub const JUNIT: &str = "Write JUnit's XML, with a case for each plan";
 
-pub const MAP_FORM: &str = "Write the map, an SVG picture";
-
-pub const PAGE_FORM: &str = "Write a page to look at, as HTML; it tells no run hit by hit";
+pub const PAGE_FORM: &str = "Write a page to look at, as HTML; it shows no run hit by hit";
 
 pub const PARTIAL: &str = "Write what is known so far, before all is answered; no report";
 
@@ -127,7 +118,7 @@ has the answers so far, up to 268435456 bytes, a line for each run:
   VERDICT<TAB>SCENARIO<TAB>HITS
 The verdict is `pass`, `unresolved`, or `fail` and one of the settings' codes. The scenario is
 `none`, the one without faults, or a text as in `paklour help try`. The hits are the points of the
-run, in order, as `libc::open;4*libc::write`; `-` for an unresolved run of which nobody knows them.
+run, in order, as `sys::open;4*sys::write`; `-` for an unresolved run of which nobody knows them.
 Where the settings have no depth, the tab and the hits may be left out.
 Answers may come in any order, and again; two that contradict each other are refused.
 
@@ -140,7 +131,7 @@ Example:
   paklour report --brief my.toml < answers
   paklour report --page my.toml < answers > page.html
   paklour report --partial my.toml < answers      what is known so far
-  paklour report --explain 'libc::fsync=1*return' my.toml < answers      one run, hit by hit
+  paklour report --explain 'sys::fsync=1*return' my.toml < answers      one run, hit by hit
   paklour asks --shard 1/3 my.toml < answers      what the first of three machines tries
 with settings as
   target = \"outside\"
@@ -148,7 +139,7 @@ with settings as
   [outside]
   label = \"my store\"
   codes = [\"lost\", \"torn\"]
-  points = [\"libc::write\", \"libc::fsync\"]
+  points = [\"sys::write\", \"sys::fsync\"]
   hits = [4, 2]";
 
 /// The settings, an example of them, and the exit statuses.

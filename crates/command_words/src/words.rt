@@ -14,7 +14,7 @@ use std::error::Error;
 use std::fmt;
 
 /// The version of the program, as `paklour --version` writes it.
-pub const VERSION: &str = "0.3.0";
+pub const VERSION: &str = "0.4.0";
 
 /// Which scenario a command takes.
 #[derive(Debug, Drop)]
@@ -45,8 +45,6 @@ pub enum Form {
 pub enum Shown {
     /// Its report, in a form.
     Report(Form),
-    /// Its map, an SVG picture.
-    Map,
     /// What is known so far, while something is still to be tried.
     Partial,
 }
@@ -60,7 +58,6 @@ impl Shown {
             Shown::Report(Form::Json) => "json",
             Shown::Report(Form::Junit) => "junit",
             Shown::Report(Form::Page) => "page",
-            Shown::Map => "map",
             Shown::Partial => "partial",
         }
     }
@@ -89,8 +86,6 @@ pub enum Order {
     },
     /// List a campaign's plans.
     Plans,
-    /// Run a campaign, and draw it as a picture.
-    Map,
     /// Try a scenario.
     Try(Which),
     /// Reduce a scenario.
@@ -125,7 +120,7 @@ pub enum Question {
 #[derive(Debug, Drop)]
 pub enum Line {
     /// A command over a target. `file` has the settings; `None` where they come from standard input. `progress` is how the program shows how far
-    /// plans or a reduction are while they run; it is for run, map, page and reduce alone, and off for each other command.
+    /// plans or a reduction are while they run; it is for run, page and reduce alone, and off for each other command.
     Own {
         order: Order,
         progress: ProgressForm,
@@ -308,7 +303,7 @@ fn run_command<'a>(alloc: Global) -> Result<Command<'a>, AllocError>
 }
 
 // A command of this name that runs a campaign and shows it.
-fn drawn_command<'a>(
+fn page_command<'a>(
     alloc: Global,
     name: &'a str,
     about: &'a str,
@@ -361,7 +356,6 @@ fn with_shown<'a>(alloc: Global, command: Command<'a>) -> Result<Command<'a>, Al
     ensures local { IfOk result (λ more. (fields_of more).has_globals ≡ false) }
 {
     with_forms(alloc, command)?
-        .arg(flag_arg(alloc, "map", help::MAP_FORM))?
         .arg(flag_arg(alloc, "page", help::PAGE_FORM))?
         .arg(flag_arg(alloc, "partial", help::PARTIAL))
 }
@@ -394,9 +388,7 @@ fn with_campaigns<'a>(alloc: Global, command: Command<'a>) -> Result<Command<'a>
     let command = with(command, run_command(alloc))?;
     let plans = file_command(alloc, "plans", help::PLANS, help::PLANS_EXAMPLES);
     let command = with(command, plans)?;
-    let map = drawn_command(alloc, "map", help::MAP, help::MAP_EXAMPLES);
-    let command = with(command, map)?;
-    let page = drawn_command(alloc, "page", help::PAGE, help::PAGE_EXAMPLES);
+    let page = page_command(alloc, "page", help::PAGE, help::PAGE_EXAMPLES);
     with(command, page)
 }
 
@@ -601,7 +593,6 @@ fn named_shown<'a>(alloc: Global, own: &ArgMatches<'a>) -> Result<Vec<Shown>, Al
     add_named(&mut named, own, "brief", Shown::Report(Form::Brief))?;
     add_named(&mut named, own, "json", Shown::Report(Form::Json))?;
     add_named(&mut named, own, "junit", Shown::Report(Form::Junit))?;
-    add_named(&mut named, own, "map", Shown::Map)?;
     add_named(&mut named, own, "page", Shown::Report(Form::Page))?;
     add_named(&mut named, own, "partial", Shown::Partial)?;
     Ok(named)
@@ -699,7 +690,6 @@ fn order_of<'a>(alloc: Global, name: &str, own: &ArgMatches<'a>) -> Result<Order
             recheck: is_set(own, "recheck"),
         }),
         "plans" => Ok(Order::Plans),
-        "map" => Ok(Order::Map),
         "page" => Ok(Order::Run {
             form: Form::Page,
             strict: false,

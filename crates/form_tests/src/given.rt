@@ -6,7 +6,7 @@ use campaign_plans::CampaignPlans;
 use file_replace::Replace;
 use plan_gen::{Census, PlanList, PlanSettings, further_plans};
 use report::{Cause, Finding, Names, Report, brief_text};
-use report_json::json_text;
+use report_json::{Notes, Shown, json_text};
 use report_junit::junit_text;
 use scenario_grammar::parse;
 use scenario_values::Scenario;
@@ -102,7 +102,7 @@ fn judged<'p>(report: &Report<'_>, plans: &'p PlanList<'p>) -> Result<CampaignPl
     Ok(CampaignPlans::by_census(plans))
 }
 
-/// The JSON document of a report, where there is a verdict for each plan.
+/// The JSON document of a report, where there is a verdict for each plan: of its plans the last is listed, and the one before a storm.
 pub fn json_of<N: Names>(
     alloc: Global,
     names: &N,
@@ -112,7 +112,14 @@ pub fn json_of<N: Names>(
     requires counts { length report.now.census ≡ length (N.points names.now) }
     requires reached { IfSome report.now.growth (λ growth. length growth.reached ≡ length (N.points names.now)) }
 {
-    Ok(json_text(alloc, names, report, &judged(report, plans)?)?)
+    let judged = judged(report, plans)?;
+    let notes = Notes {
+        version: "1.2",
+        told_by: "answers",
+        command: "a command",
+    };
+    let shown = Shown::without_runs(&judged, None, 1, 1, "a = \"b\"\n");
+    Ok(json_text(alloc, names, report, &notes, &shown)?)
 }
 
 /// The brief text of a report, where there is a verdict for each plan.

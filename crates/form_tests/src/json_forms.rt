@@ -92,6 +92,22 @@ const GROWN: &str = r#"{
         "scenario": "open=1*return"
       }
     ]
+  },
+  "about": {
+    "program_version": "1.2",
+    "told_by": "answers",
+    "command": "a command",
+    "settings": "a = \"b\"\n",
+    "storms": [
+      "open=pause"
+    ],
+    "listed": [
+      "write=2.5%return(no space)"
+    ],
+    "grown": [],
+    "clean_run": null,
+    "finding_runs": [],
+    "cause_runs": []
   }
 }
 "#;
@@ -173,7 +189,19 @@ const EMPTY: &str = r#"{
   },
   "not_passed": [],
   "findings": [],
-  "growth": null
+  "growth": null,
+  "about": {
+    "program_version": "1.2",
+    "told_by": "answers",
+    "command": "a command",
+    "settings": "a = \"b\"\n",
+    "storms": [],
+    "listed": [],
+    "grown": [],
+    "clean_run": null,
+    "finding_runs": [],
+    "cause_runs": []
+  }
 }
 "#;
 
@@ -203,7 +231,7 @@ fn a_document_tells_an_empty_report(rt: HostRuntime) -> Result<(), Fail> {
 const LABEL: &str = "\"<&>'\\/\u{1}\t\n\r\u{8}\u{c}\u{1f}\u{7f}\u{e9}\u{2028}\u{1f600}";
 
 /// Where a document has which text.
-const TEXTS: [(&str, &str); 7] = [
+const TEXTS: [(&str, &str); 8] = [
     ("/label", LABEL),
     ("/seed", "7"),
     ("/clean/verdict", "fail"),
@@ -211,6 +239,7 @@ const TEXTS: [(&str, &str); 7] = [
     ("/census/0/point", "p\"\\\u{2}"),
     ("/not_passed/0/code", "c\n\"\u{0}"),
     ("/not_passed/0/scenario", "p\"\\\u{2}=return(\t\"<)"),
+    ("/about/settings", "a = \"b\"\n"),
 ];
 
 /// Whether a reader of JSON finds these texts in a document.

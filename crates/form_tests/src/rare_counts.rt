@@ -104,6 +104,22 @@ const JSON: &str = r#"{
       }
     ],
     "causes": []
+  },
+  "about": {
+    "program_version": "1.2",
+    "told_by": "answers",
+    "command": "a command",
+    "settings": "a = \"b\"\n",
+    "storms": [
+      "open=1*return"
+    ],
+    "listed": [
+      "write=2*off->1*return"
+    ],
+    "grown": [],
+    "clean_run": null,
+    "finding_runs": [],
+    "cause_runs": []
   }
 }
 "#;

@@ -1,5 +1,6 @@
 -- Breaks, found hit by hit; and that no lawful run has one.
-use Rattle.std.proofs.Common.{◌≡◌, ℕ, suc, ◌+◌, ◌<◌, ◌≤◌, ◌==◌, ◌&&◌, nat_lt, Bool, true, false, cond, List, [], ◌∷◌, ◌++◌, length, Option, Some, None, refl, ap, sym, ◌∙◌, subst, arith, append_assoc, drop, drop-cons, get_or}
+use Rattle.std.proofs.Common.{◌≡◌, ℕ, zero, suc, ◌+◌, ◌<◌, ◌≤◌, ◌==◌, ◌&&◌, nat_lt, Bool, true, false, cond, List, [], ◌∷◌, ◌++◌, length, Option, Some, None, refl, ap, sym, ◌∙◌, subst, arith, append_assoc, drop, drop-cons, get_or}
+use Rattle.std.specs.List.{AllByRecursion}
 use Rattle.std.specs.Prelude.{option_map}
 use Rattle.std.proofs.lemmas.List.{length-append, map-append, drop_all}
 use Rattle.std.proofs.lemmas.Bool.Decides.{nat_tests}
@@ -8,21 +9,23 @@ use Rattle.action_eval.specs.declared.rig.Rig.{Rig}
 use Rattle.action_eval.specs.Answers.{Go, Reply}
 use Rattle.plan_gen.specs.LoopRuns.{times}
 use Rattle.plan_gen.proofs.Lists.{fold_append}
-use Rattle.plan_gen.specs.RiggedAnswers.{reply_by}
+use Rattle.plan_gen.specs.RiggedAnswers.{is_onward, reply_by}
 use Rattle.grown_plans.specs.Runs.{Met, met}
-use Rattle.grown_plans.specs.GrownPlans.{Subject, run_of_plan, level}
+use Rattle.grown_plans.specs.GrownPlans.{Subject, run_of_plan, level, levels, onward}
 use Rattle.grown_plans.specs.AskedPoints.{sites_from}
 use Rattle.grown_plans.specs.Promises.{IsLawful, KeepsPrefix}
-use Rattle.grown_plans.proofs.Members.{all_weaker}
+use Rattle.grown_plans.proofs.Members.{all_append, all_weaker}
 use Rattle.grown_plans.proofs.Paths.{IsPath, Fresh, hit_fresh}
 use Rattle.grown_plans.proofs.RiggedScenarios.{same_site}
 use Rattle.grown_plans.proofs.PlanRuns.{plan_path}
-use Rattle.grown_plans.proofs.Cases.{keeps_prefix}
+use Rattle.grown_plans.proofs.Levels.{IsGrown, level_grown}
+use Rattle.grown_plans.proofs.Onward.{GoesAsOnce, goes_as_once, next_hit}
 use Rattle.grown_plans.proofs.AskedSites.{sites_of}
 use Rattle.known_runs.specs.declared.breaks.Break.{Break}
 use Rattle.known_runs.specs.declared.breaks.Break.TheVariants.{Differs, NotMet}
 use Rattle.known_runs.specs.Known.{points_met}
 use Rattle.known_runs.specs.Breaks.{break_by, break_of, difference, up_to, Continues, BreaksNever}
+use Rattle.known_runs.specs.KnownPart.{once_of}
 use Rattle.known_runs.specs.inside.BreakSteps.{break_from, met_more}
 use Rattle.known_runs.proofs.Sites.{sites_told}
 
@@ -224,23 +227,51 @@ not_shorter xs ys = let e = length-append xs ys in grind (arith, nat_tests, e)
 no_break : (xs ys : List ℕ) → break_by (difference xs (xs ++ ys)) xs (xs ++ ys) ≡ None
 no_break xs ys = ap (λ (o : Option ℕ). break_by o xs (xs ++ ys)) (no_difference xs ys) ∙ ap (λ (b : Bool). cond b (Some NotMet) None) (not_shorter xs ys)
 
-continues : (t : Subject) (plan : List Rig) → KeepsPrefix t plan → Continues t plan
-continues t [] k = tt
-continues t (r ∷ parent) k =
-    let before : List Met = k.0 in
-    let rest : List Met = k.2 in
-    let child : Met = met r.site (reply_by r.kind) in
-    let path : IsPath t.asks t.limit [] (before ++ met r.site Go ∷ k.1) = subst (λ (l : List Met). IsPath t.asks t.limit [] l) k.3 (plan_path t parent) in
-    let fresh : Fresh r.site before = hit_fresh t.asks t.limit before (met r.site Go) k.1 path in
-    let begin : up_to r.site (sites_from [] (points_met (run_of_plan t parent))) ≡ points_met before ++ r.site.point ∷ [] =
-    ap (up_to r.site) (sym (sites_told t parent (points_met (run_of_plan t parent)) refl)) ∙ ap (λ (ms : List Met). up_to r.site (sites_of ms)) k.3 ∙ up_to_here r.site before Go k.1 fresh
+-- a run that goes as an earlier one up to a hit, with that, doesn't break with it
+alike_to : (t : Subject) (earlier plan : List Rig) (s : Site) (before : List Met) (own other : Reply) (past rest : List Met) → run_of_plan t earlier ≡ before ++ met s other ∷ past → run_of_plan t plan ≡ before ++ met s own ∷ rest
+    → break_of s (points_met (run_of_plan t earlier)) (points_met (run_of_plan t plan)) ≡ None
+alike_to t earlier plan s before own other past rest e h =
+    let path : IsPath t.asks t.limit [] (before ++ met s other ∷ past) = subst (λ (l : List Met). IsPath t.asks t.limit [] l) e (plan_path t earlier) in
+    let fresh : Fresh s before = hit_fresh t.asks t.limit before (met s other) past path in
+    let begin : up_to s (sites_from [] (points_met (run_of_plan t earlier))) ≡ points_met before ++ s.point ∷ [] =
+    ap (up_to s) (sym (sites_told t earlier (points_met (run_of_plan t earlier)) refl)) ∙ ap (λ (ms : List Met). up_to s (sites_of ms)) e ∙ up_to_here s before other past fresh
     in
-    let hits : points_met (run_of_plan t (r ∷ parent)) ≡ (points_met before ++ r.site.point ∷ []) ++ points_met rest =
-    ap points_met k.4 ∙ map-append (λ (m : Met). m.site.point) before (child ∷ rest) ∙ sym (append_assoc (points_met before) (r.site.point ∷ []) (points_met rest))
+    let hits : points_met (run_of_plan t plan) ≡ (points_met before ++ s.point ∷ []) ++ points_met rest =
+    ap points_met h ∙ map-append (λ (m : Met). m.site.point) before (met s own ∷ rest) ∙ sym (append_assoc (points_met before) (s.point ∷ []) (points_met rest))
     in
-    ap (λ (b : List ℕ). break_by (difference b (points_met (run_of_plan t (r ∷ parent)))) b (points_met (run_of_plan t (r ∷ parent)))) begin
-    ∙ ap (λ (h : List ℕ). break_by (difference (points_met before ++ r.site.point ∷ []) h) (points_met before ++ r.site.point ∷ []) h) hits
-    ∙ no_break (points_met before ++ r.site.point ∷ []) (points_met rest)
+    ap (λ (b : List ℕ). break_by (difference b (points_met (run_of_plan t plan))) b (points_met (run_of_plan t plan))) begin
+    ∙ ap (λ (l : List ℕ). break_by (difference (points_met before ++ s.point ∷ []) l) (points_met before ++ s.point ∷ []) l) hits
+    ∙ no_break (points_met before ++ s.point ∷ []) (points_met rest)
 
-pub breaks_never : (t : Subject) → IsLawful t → (n : ℕ) → BreaksNever t n
-breaks_never t l n = all_weaker (KeepsPrefix t) (Continues t) (continues t) (level t n) (keeps_prefix t l n)
+-- the break of a plan's run with the one that it begins like, by whether its last fault goes on
+abbrev break_if : Bool → Subject → Rig → List Rig → Option Break
+break_if b t r parent = break_of (record { point = r.site.point; hit = r.site.hit + cond b 1 0 }) (points_met (run_of_plan t (cond b (once_of (r ∷ parent)) parent))) (points_met (run_of_plan t (r ∷ parent)))
+
+continues : (t : Subject) (plan : List Rig) → AllByRecursion (λ r. is_onward r.kind ≡ false) plan → KeepsPrefix t plan → Continues t plan
+continues t [] o k = tt
+continues t (r ∷ parent) o k = ap (λ (b : Bool). break_if b t r parent) o.0 ∙ ap (λ (s : Site). break_of s (points_met (run_of_plan t parent)) (points_met (run_of_plan t (r ∷ parent)))) (same_site (record { point = r.site.point; hit = r.site.hit + 0 }) r.site refl (omega arith)) ∙ alike_to t parent (r ∷ parent) r.site k.0 (reply_by r.kind) Go k.1 k.2 k.3 k.4
+
+met_is : (s : Site) (m : Met) → m.site ≡ s → met s m.reply ≡ m
+met_is s m e = ap (λ (z : Site). met z m.reply) (sym e)
+
+continues_on : (t : Subject) (plan : List Rig) → GoesAsOnce t plan → Continues t plan
+continues_on t [] g = absurd g
+continues_on t (r ∷ rs) g =
+    let (goes, before, m, n, x, y, own, once, here, there) = g in
+    ap (λ (b : Bool). break_if b t r rs) goes
+    ∙ alike_to t (once_of (r ∷ rs)) (r ∷ rs) (next_hit r.site) before m.reply n.reply y x (once ∙ ap (λ (k : Met). before ++ k ∷ y) (sym (met_is (next_hit r.site) n there))) (own ∙ ap (λ (k : Met). before ++ k ∷ x) (sym (met_is (next_hit r.site) m here)))
+
+-- ---- levels
+
+level_continues : (t : Subject) → IsLawful t → (n : ℕ) → AllByRecursion (Continues t) (level t n)
+level_continues t l n =
+    all_weaker (IsGrown t n) (Continues t) (λ plan g. continues t plan g.once g.prefix) (level t n) (level_grown t l n)
+
+levels_continue : (t : Subject) → IsLawful t → (d : ℕ) → AllByRecursion (Continues t) (levels t d)
+unfolding levels
+levels_continue t l zero = level_continues t l zero
+levels_continue t l (suc d) = all_append (Continues t) (levels t d) (level t (suc d)) (levels_continue t l d) (level_continues t l (suc d))
+
+pub breaks_never : (t : Subject) → IsLawful t → (d : ℕ) → BreaksNever t d
+breaks_never t l d =
+    all_append (Continues t) (levels t d) (onward t d) (levels_continue t l d) (all_weaker (GoesAsOnce t) (Continues t) (continues_on t) (onward t d) (goes_as_once t l d))

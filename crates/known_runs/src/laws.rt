@@ -28,7 +28,8 @@ pub fn each_plan_is_to_be_run_once()
     ensures { (t : Subject) → IsLawful t → (d : ℕ) (known : KnownRuns) → RunsEachOnce t d known }
 {}
 
-/// The run of a plan of a lawful subject never breaks with that of the plan that it grew from.
+/// The run of a plan of a lawful subject never breaks with the one that it begins like: up to its last fault that of the plan that it grew from, and
+/// with its last fault from then on, up to the next hit of its point, that of the plan with this fault once.
 pub fn lawful_runs_never_break()
-    ensures { (t : Subject) → IsLawful t → (n : ℕ) → BreaksNever t n }
+    ensures { (t : Subject) → IsLawful t → (d : ℕ) → BreaksNever t d }
 {}

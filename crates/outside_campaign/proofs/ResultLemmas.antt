@@ -27,12 +27,12 @@ use Rattle.campaign_core.specs.Findings.{finding}
 use Rattle.outside_campaign.specs.Outside.{Component, Components, say, say_each, EachAgrees}
 use Rattle.outside_campaign.specs.Asked.{open_plans, open_requests, plan_verdicts, known_failures}
 use Rattle.outside_campaign.specs.Campaigns.{plans as plans_of, code_name, report as report_by, report_in, shown, asks_text, first_failure, unmet_by, untried, untried_by, KnownTextFault}
-use Rattle.outside_campaign.specs.Forms.{text_in}
+use Rattle.report_forms.specs.Forms.{text_in}
 use Rattle.outside_campaign.specs.Readable.{IsReadable, told_by}
 use Rattle.outside_campaign.specs.Unmet.{unmet_count}
 use Rattle.outside_campaign.specs.inside.ToldPlans.{AreOf, AreResults}
 use Rattle.outside_campaign.specs.inside.Results.{IsFirst, AreWithVerdicts, facts_of}
-use Rattle.outside_campaign.specs.declared.forms.Form.{Form}
+use Rattle.report_forms.specs.declared.forms.Form.{Form}
 use Rattle.campaign_core.specs.declared.ending.CampaignFault.TheVariants as campaign
 use Rattle.outside_campaign.specs.declared.refusal.OutsideFault.{OutsideFault}
 use Rattle.outside_campaign.specs.declared.refusal.OutsideFault.TheVariants as refusal

@@ -20,10 +20,11 @@ use Rattle.campaign_core.specs.declared.ending.CampaignFault.{CampaignFault}
 use Rattle.campaign_core.specs.declared.ending.CampaignFault.TheVariants as campaign
 use Rattle.outside_campaign.specs.Outside.{Component, say}
 use Rattle.outside_campaign.specs.Asked.{to_try, known_failures}
-use Rattle.outside_campaign.specs.Forms.{ShownFacts, text_in}
+use Rattle.report_json.specs.About.{ShownFacts, without_runs}
+use Rattle.report_forms.specs.Forms.{text_in}
 use Rattle.outside_campaign.specs.Readable.{IsUnreadable, told_by}
 use Rattle.outside_campaign.specs.Unmet.{unmet_count}
-use Rattle.outside_campaign.specs.declared.forms.Form.{Form}
+use Rattle.report_forms.specs.declared.forms.Form.{Form}
 use Rattle.outside_campaign.specs.declared.refusal.OutsideFault.{OutsideFault}
 use Rattle.outside_campaign.specs.declared.refusal.OutsideFault.TheVariants as refusal
 
@@ -47,15 +48,9 @@ abbrev pub report : Description → Given → List ℕ → Component → ReportF
 report outside given answers component =
     record (report_of (say component) outside.label given.plans.seed outside.hits (plans outside given) None) { unmet = unmet_by outside given answers }
 
--- what is shown beside it: none of the plans grew
+-- what is shown beside it: none of the plans grew, and no run is told
 abbrev pub shown : Description → Given → ShownFacts
-shown outside given = record {
-  plans = plans outside given;
-  pairs = given.plans.pairs;
-  grown = [];
-  onward = 0;
-  settings = given.source;
-}
+shown outside given = without_runs (plans outside given) [] given.plans.storms (length given.plans.listed) given.source
 
 -- the text of the report in a form
 abbrev pub report_in : Form → Description → Given → List ℕ → Component → List ℕ

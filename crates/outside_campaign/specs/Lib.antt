@@ -1,7 +1,6 @@
 pub mod Outside
 pub mod Reached
 pub mod Asked
-pub mod Forms
 pub mod Readable
 pub mod Unmet
 pub mod Campaigns

@@ -6,7 +6,6 @@ mod asking;
 mod campaign;
 mod driving;
 mod findings;
-mod forms;
 mod laws;
 mod partial;
 mod planned;
@@ -23,7 +22,6 @@ pub use answers::read_answers;
 pub use campaign::OutsideCampaign;
 pub use driving::write_asks;
 pub use findings::{Findings, findings_known};
-pub use forms::{Form, Shown, text_in};
 pub use laws::{
     known_failures_are_first, nothing_is_asked_where_nothing_is_to_be_tried,
     reductions_come_to_what_is_asked, what_is_asked_is_unanswered,

@@ -10,7 +10,6 @@ ghost use Rattle.outside_campaign.specs.inside.Results.{IsUntold};
 
 use crate::answers::read_answers;
 use crate::campaign::OutsideCampaign;
-use crate::forms::Form;
 use crate::planned::{borrowed, planned};
 use crate::refusal::OutsideFault;
 use crate::results::{Results, results_known};
@@ -19,6 +18,7 @@ use crate::unmet::count_unmet;
 use campaign_core::Ending;
 use campaign_plans::CampaignPlans;
 use report::write_report;
+use report_forms::Form;
 use std::alloc::Global;
 use target_trait::Sink;
 

@@ -1,16 +1,17 @@
 //! What a report tells, by the words of the settings.
-ghost use Rattle.std.specs.Prelude.{◌≡◌, ◌<◌, ◌≤◌, [], None, length, IfOk, option_map, slice_get};
+ghost use Rattle.std.specs.Prelude.{◌≡◌, ◌<◌, [], None, length, IfOk, option_map, slice_get};
 ghost use Rattle.campaign_given.specs.Description.{IsDescription};
-ghost use Rattle.plan_gen.specs.PlanList.{most_plans};
 ghost use Rattle.outside_campaign.specs.Campaigns.{code_name, plans as listed, shown};
-ghost use Rattle.outside_campaign.specs.Forms.{text_in};
+ghost use Rattle.report_json.specs.About.{without_runs};
+ghost use Rattle.report_forms.specs.Forms.{text_in};
 ghost use Rattle.outside_campaign.specs.inside.Results.{facts_of};
 
 use crate::campaign::OutsideCampaign;
-use crate::forms::{Form, Shown, text_in};
 use campaign_given::Outside;
 use campaign_plans::CampaignPlans;
 use report::{Finding, Names, Report};
+use report_forms::{Form, text_in};
+use report_json::Shown;
 use std::alloc::{AllocError, Global};
 use target_trait::Verdict;
 
@@ -66,22 +67,15 @@ pub fn report_of<'a>(
 }
 
 /// What is shown of plans of which none grew.
-fn shown_of<'a>(plans: &'a CampaignPlans<'a>, pairs: bool, settings: &'a str) -> Shown<'a>
-    ensures { result ≡ record {
-      plans = plans.entry.now;
-      pairs = pairs;
-      grown = [];
-      onward = 0;
-      settings = settings.entry.now;
-    } }
+fn shown_of<'a>(
+    plans: &'a CampaignPlans<'a>,
+    storms: usize,
+    listed: usize,
+    settings: &'a str,
+) -> Shown<'a>
+    ensures { result ≡ without_runs plans.entry.now [] storms listed settings.entry.now }
 {
-    Shown {
-        plans,
-        pairs,
-        grown: None,
-        onward: 0,
-        settings,
-    }
+    Shown::without_runs(plans, None, storms, listed, settings)
 }
 
 /// The text of a report on the plans of these settings. An error means that memory was refused.
@@ -94,7 +88,6 @@ pub fn reported_text(
 ) -> Result<Vec<u8>, AllocError>
     requires lawful { IsDescription campaign.now.outside.now }
     requires plans { plans.now ≡ listed campaign.now.outside.now campaign.now.settings.now }
-    requires few { length (listed campaign.now.outside.now campaign.now.settings.now) ≤ most_plans }
     requires census { report.now.census ≡ campaign.now.outside.now.hits }
     requires growth { report.now.growth ≡ None }
     requires each { length report.now.verdicts ≡ length plans.now }
@@ -104,7 +97,9 @@ pub fn reported_text(
     let outside = campaign.outside;
     let settings = campaign.settings;
     let words = Words { outside: &*outside };
-    let shown = shown_of(&*plans, settings.pairs, settings.source.as_str());
+    let storms = settings.storms as usize;
+    let listed = settings.scenarios.len();
+    let shown = shown_of(&*plans, storms, listed, settings.source.as_str());
     text_in(alloc, form, &words, report, &shown)
 }
 

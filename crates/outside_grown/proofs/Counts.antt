@@ -3,7 +3,7 @@ use Rattle.std.proofs.Common.{◌≡◌, ℕ, zero, suc, ◌+◌, ◌<◌, ◌�
 use Rattle.std.specs.List.{range_with_len}
 use Rattle.std.proofs.lemmas.List.Sums.{sum_by-cons}
 use Rattle.plan_gen.specs.Census.{counts_of, sites_of}
-use Rattle.plan_gen.specs.Counts.{total_of}
+use Rattle.plan_gen.specs.inside.Counts.{total_of}
 use Rattle.plan_gen.proofs.Counting.{sites_length}
 
 -- ---- counts of points are at most the hits

@@ -5,7 +5,7 @@ use Rattle.std.proofs.lemmas.Grind.{flat_map-append}
 use Rattle.action_eval.specs.declared.rig.Site.{Site}
 use Rattle.plan_gen.specs.PlanList.{Asked, pairs_of, site_plans, pair_plans, pair_part, storm_part, plans_over, plan_list, further_list, storm}
 use Rattle.plan_gen.specs.Census.{sites_at, sites_from, sites_of}
-use Rattle.plan_gen.specs.Counts.{total_of, pairs_count, plan_count}
+use Rattle.plan_gen.specs.inside.Counts.{total_of, pairs_count, plan_count}
 use Rattle.action_eval.specs.RiggedScenario.{rigged_scenario}
 use Rattle.plan_gen.proofs.Lists.{goes_on, range_length, map_length, flat_length, flat_map_of_map}
 

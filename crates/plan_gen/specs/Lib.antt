@@ -1,6 +1,5 @@
 pub mod Census
 pub mod PlanList
-pub mod Counts
 pub mod LoopRuns
 pub mod RiggedAnswers
 pub mod Rigs

@@ -1,6 +1,6 @@
 //! How many plans there are.
 ghost use Rattle.std.specs.Prelude.{◌≡◌, true, false, ◌<◌, ◌≤◌, ◌+◌, ◌*◌, IfSome, IfNone, if◌then◌else◌};
-ghost use Rattle.plan_gen.specs.Counts.{pairs_count};
+ghost use Rattle.plan_gen.specs.inside.Counts.{pairs_count};
 ghost use Rattle.plan_gen.specs.PlanList.{most_plans};
 
 /// A list has at most so many plans.

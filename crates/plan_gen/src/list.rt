@@ -2,7 +2,7 @@
 ghost use Rattle.std.specs.Prelude.{◌≡◌, ◌≤◌, ◌<◌, ◌+◌, ◌*◌, [], length, slice_index_or, IfOk, OnOk, IsErrOf};
 ghost use Rattle.action_eval.specs.Answers.{texts};
 ghost use Rattle.action_eval.specs.Catalogue.{IsCatalogue};
-ghost use Rattle.plan_gen.specs.Counts.{total_of};
+ghost use Rattle.plan_gen.specs.inside.Counts.{total_of};
 ghost use Rattle.plan_gen.specs.PlanList.{most_plans, plan_list};
 ghost use Rattle.plan_gen.specs.inside.Drawn.{plans_of, sources_of};
 

@@ -1,7 +1,7 @@
 //! The sites of a census.
 ghost use Rattle.std.specs.Prelude.{◌≡◌, ◌++◌, ◌≤◌, ◌<◌, ◌^◌, length, IfOk, OnOk};
 ghost use Rattle.plan_gen.specs.Census.{sites_at, sites_of};
-ghost use Rattle.plan_gen.specs.Counts.{total_of};
+ghost use Rattle.plan_gen.specs.inside.Counts.{total_of};
 
 use crate::packed::PackedSite;
 use action_eval::Site;

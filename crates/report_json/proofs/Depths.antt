@@ -1,5 +1,5 @@
 -- How deep a document nests, and that it is read back.
-use Rattle.std.proofs.Common.{◌≡◌, ◌≤◌, ℕ, zero, suc, ◌+◌, max, List, [], ◌∷◌, codes, map, Option, Some, None, option_and_then, sym, ap, ◌∙◌, arith}
+use Rattle.std.proofs.Common.{◌≡◌, ◌≤◌, ℕ, zero, suc, ◌+◌, max, List, [], ◌∷◌, codes, length, map, Option, Some, None, option_and_then, sym, ap, ◌∙◌, arith}
 use Rattle.std.proofs.lemmas.List.{append-nil}
 use Rattle.json.specs.Json.{Json, Members, no_members, member, value, if_last, max_depth}
 use Rattle.json.specs.Layout.{pretty}
@@ -12,7 +12,10 @@ use Rattle.scenario_values.specs.Scenario.{Entries}
 use Rattle.target_trait.specs.declared.judgement.Verdict.{Verdict}
 use Rattle.target_trait.specs.declared.judgement.Verdict.TheVariants as verdict
 use Rattle.report.specs.Reports.{GrowthFacts, ReportFacts}
-use Rattle.report_json.specs.Document.{whole, nonzero, list_of, clean_value, point_values, reported_values, finding_value, cause_value, growth_value}
+use Rattle.run_explained.specs.Told.{RunFacts}
+use Rattle.report_json.specs.About.{NotesFacts, ShownFacts, about_value, grown_value, listed_from, plans_between, run_or_null, run_value, storms_from}
+use Rattle.report_json.specs.Document.{clean_value, point_values, reported_values, finding_value, cause_value, growth_value}
+use Rattle.report_json.specs.Values.{whole, nonzero, list_of, scenario_value}
 use Rattle.report_json.specs.Document.{document_of, IsReadAs}
 
 both_shallow : (a b bound : ℕ) → a ≤ bound → b ≤ bound → max a b ≤ bound
@@ -60,19 +63,40 @@ growth_shallow names code_name (Some growth) =
     (member (codes "causes") (list_of (map (cause_value code_name) growth.causes)) no_members)) in
     omega (arith, levels, unseen, reached, causes)
 
-shallow : (names : List (List ℕ)) (code_name : ℕ → List ℕ) (report : ReportFacts) (plans : List Entries)
-    → depth (document_of names code_name report plans) ≤ max_depth
-shallow names code_name report plans =
+run_shallow : (run : RunFacts) → depth (run_value run) ≤ 1
+run_shallow run =
+    let left_out = nonzero_shallow (codes "left_out") run.left_out no_members in
+    omega (arith, left_out)
+
+run_or_null_shallow : (run : Option RunFacts) → depth (run_or_null run) ≤ 1
+run_or_null_shallow None = omega arith
+run_or_null_shallow (Some run) = run_shallow run
+
+about_shallow : (notes : NotesFacts) (shown : ShownFacts) → depth (about_value notes shown) ≤ 3
+about_shallow notes shown =
+    let storms = mapped 0 scenario_value (plans_between (storms_from shown) (listed_from shown) shown.plans) (λ plan. omega arith) in
+    let listed = mapped 0 scenario_value (plans_between (listed_from shown) (length shown.plans) shown.plans) (λ plan. omega arith) in
+    let grown = mapped 0 grown_value shown.grown (λ plan. omega arith) in
+    let clean = run_or_null_shallow shown.clean_run in
+    let findings = mapped 1 run_value shown.finding_runs run_shallow in
+    let causes = mapped 1 run_value shown.cause_runs run_shallow in
+    omega (arith, storms, listed, grown, clean, findings, causes)
+
+shallow : (names : List (List ℕ)) (code_name : ℕ → List ℕ) (report : ReportFacts) (notes : NotesFacts) (shown : ShownFacts)
+    → depth (document_of names code_name report notes shown) ≤ max_depth
+shallow names code_name report notes shown =
     let clean = clean_shallow code_name report.clean in
     let census = points_shallow names report.census in
-    let told = reported_shallow code_name 0 report.verdicts plans in
+    let told = reported_shallow code_name 0 report.verdicts shown.plans in
     let findings = mapped 1 (finding_value code_name) report.findings (λ finding. omega arith) in
     let growth = growth_shallow names code_name report.growth in
+    let about = about_shallow notes shown in
     let unmet =
     nonzero_shallow (codes "unmet") report.unmet
     (member (codes "findings") (list_of (map (finding_value code_name) report.findings))
-    (member (codes "growth") (growth_value names code_name report.growth) no_members)) in
-    omega (arith, clean, census, told, unmet, findings, growth)
+    (member (codes "growth") (growth_value names code_name report.growth)
+    (member (codes "about") (about_value notes shown) no_members))) in
+    omega (arith, clean, census, told, unmet, findings, growth, about)
 
 -- a value is read back where the reader finds its tokens in its text
 read_back : (value : Json) → depth value ≤ max_depth → tokens (pretty (json_tokens value)) ≡ json_tokens value → IsReadAs value
@@ -80,7 +104,8 @@ read_back v shallow found =
     ap (λ (ts : List Token). option_and_then (λ p. if_last p.0 p.1) (value max_depth ts)) (found ∙ sym (append-nil (json_tokens v)))
     ∙ ap (option_and_then (λ p. if_last p.0 p.1)) (value-json_tokens v max_depth [] shallow)
 
-pub document_read : (names : List (List ℕ)) (code_name : ℕ → List ℕ) (report : ReportFacts) (plans : List Entries)
-    → tokens (pretty (json_tokens (document_of names code_name report plans))) ≡ json_tokens (document_of names code_name report plans)
-    → IsReadAs (document_of names code_name report plans)
-document_read names code_name report plans found = read_back (document_of names code_name report plans) (shallow names code_name report plans) found
+pub document_read : (names : List (List ℕ)) (code_name : ℕ → List ℕ) (report : ReportFacts) (notes : NotesFacts) (shown : ShownFacts)
+    → tokens (pretty (json_tokens (document_of names code_name report notes shown))) ≡ json_tokens (document_of names code_name report notes shown)
+    → IsReadAs (document_of names code_name report notes shown)
+document_read names code_name report notes shown found =
+    read_back (document_of names code_name report notes shown) (shallow names code_name report notes shown) found

@@ -1,14 +1,15 @@
 -- Tokens that a loop writes, and lists and objects of them.
 use Rattle.std.proofs.Common.{◌≡◌, ℕ, zero, suc, ◌+◌, ◌<◌, List, [], ◌∷◌, ◌++◌, drop, length, get_or, map, refl, ap, sym, ◌∙◌, append_assoc}
 use Rattle.std.proofs.lemmas.List.Concat.{flat_map-append}
-use Rattle.json.specs.Json.{Json, Members}
+use Rattle.json.specs.Json.{Json, Members, no_members}
 use Rattle.json.specs.Token.{Token, key, begin_array, end_array, begin_object, end_object}
 use Rattle.json.specs.Tree.{json_tokens, items_tokens, members_tokens}
 use Rattle.json.specs.Value.{items_of}
 use Rattle.scenario_values.specs.Scenario.{Entries}
 use Rattle.target_trait.specs.declared.judgement.Verdict.{Verdict}
 use Rattle.report.proofs.Written.{goes_on, next_of}
-use Rattle.report_json.specs.Document.{nonzero, list_of, point_value, point_values, reported_value, reported_values}
+use Rattle.report_json.specs.Document.{point_value, point_values, reported_value, reported_values}
+use Rattle.report_json.specs.Values.{nonzero, list_of}
 use Rattle.report_json.specs.inside.Tokens.{member_tokens, nonzero_tokens, all_tokens}
 
 -- tokens are written, and then the rest
@@ -66,21 +67,42 @@ seven_members old a b c d e f name n others begins sizes fifth sixth ends are =
     ∙ ap (λ (ts : List Token). old ++ begin_object ∷ (a ++ (b ++ (c ++ (d ++ ts)))))
     (ap (λ (ts : List Token). nonzero_tokens name n ++ ts) are ∙ nonzero_tokens_are name n others)
 
-joined_ten : (old a b c d e f g u h i : List Token) → (old ++ begin_object ∷ []) ++ a ++ b ++ c ++ d ++ e ++ f ++ g ++ u ++ h ++ i ++ end_object ∷ []
-    ≡ old ++ begin_object ∷ (a ++ (b ++ (c ++ (d ++ (e ++ (f ++ (g ++ (u ++ (h ++ (i ++ end_object ∷ []))))))))))
-joined_ten old a b c d e f g u h i = simp append_assoc
+joined_eleven : (old a b c d e f g u h i j : List Token) → (old ++ begin_object ∷ []) ++ a ++ b ++ c ++ d ++ e ++ f ++ g ++ u ++ h ++ i ++ j ++ end_object ∷ []
+    ≡ old ++ begin_object ∷ (a ++ (b ++ (c ++ (d ++ (e ++ (f ++ (g ++ (u ++ (h ++ (i ++ (j ++ end_object ∷ [])))))))))))
+joined_eleven old a b c d e f g u h i j = simp append_assoc
 
--- an object of four members and three more, a count and the last two
-pub ten_members : (old : List Token) {begun headed told new : List Token} (a b c d e f g h i : List Token) (name : List ℕ) (n : ℕ) (others : Members)
+-- an object of four members and three more, a count and the last three
+pub eleven_members : (old : List Token) {begun headed told last new : List Token} (a b c d e f g h i j : List Token) (name : List ℕ) (n : ℕ) (others : Members)
     → begun ≡ old ++ begin_object ∷ [] → headed ≡ begun ++ a ++ b ++ c ++ d → told ≡ headed ++ e ++ f ++ g ++ nonzero_tokens name n ++ h ++ i
-    → new ≡ told ++ end_object ∷ [] → h ++ (i ++ end_object ∷ []) ≡ members_tokens others
+    → last ≡ told ++ j → new ≡ last ++ end_object ∷ [] → h ++ (i ++ (j ++ end_object ∷ [])) ≡ members_tokens others
     → new ≡ old ++ begin_object ∷ (a ++ (b ++ (c ++ (d ++ (e ++ (f ++ (g ++ members_tokens (nonzero name n others))))))))
-ten_members old a b c d e f g h i name n others begins heads tells ends are =
+eleven_members old a b c d e f g h i j name n others begins heads tells lasts ends are =
     let u : List Token = nonzero_tokens name n in
-    ends ∙ ap (λ (ts : List Token). ts ++ end_object ∷ []) (tells ∙ ap (λ (ts : List Token). ts ++ e ++ f ++ g ++ u ++ h ++ i)
-    (heads ∙ ap (λ (ts : List Token). ts ++ a ++ b ++ c ++ d) begins)) ∙ joined_ten old a b c d e f g u h i
+    ends ∙ ap (λ (ts : List Token). ts ++ end_object ∷ []) (lasts ∙ ap (λ (ts : List Token). ts ++ j) (tells ∙ ap (λ (ts : List Token). ts ++ e ++ f ++ g ++ u ++ h ++ i)
+    (heads ∙ ap (λ (ts : List Token). ts ++ a ++ b ++ c ++ d) begins))) ∙ joined_eleven old a b c d e f g u h i j
     ∙ ap (λ (ts : List Token). old ++ begin_object ∷ (a ++ (b ++ (c ++ (d ++ (e ++ (f ++ (g ++ ts))))))))
     (ap (λ (ts : List Token). u ++ ts) are ∙ nonzero_tokens_are name n others)
+
+joined_parts : (old a b c d e f g h i j : List Token) → (old ++ begin_object ∷ []) ++ a ++ b ++ c ++ d ++ e ++ f ++ g ++ h ++ i ++ j ++ end_object ∷ []
+    ≡ old ++ begin_object ∷ (a ++ (b ++ (c ++ (d ++ (e ++ (f ++ (g ++ (h ++ (i ++ (j ++ end_object ∷ []))))))))))
+joined_parts old a b c d e f g h i j = simp append_assoc
+
+-- an object of four members, three, and three
+pub ten_members : (old : List Token) {begun made plans runs new : List Token} (a b c d e f g h i j : List Token)
+    → begun ≡ old ++ begin_object ∷ [] → made ≡ begun ++ a ++ b ++ c ++ d → plans ≡ made ++ e ++ f ++ g → runs ≡ plans ++ h ++ i ++ j
+    → new ≡ runs ++ end_object ∷ [] → new ≡ old ++ begin_object ∷ (a ++ (b ++ (c ++ (d ++ (e ++ (f ++ (g ++ (h ++ (i ++ (j ++ end_object ∷ []))))))))))
+ten_members old a b c d e f g h i j begins first second third ends =
+    ends ∙ ap (λ (ts : List Token). ts ++ end_object ∷ []) (third ∙ ap (λ (ts : List Token). ts ++ h ++ i ++ j) (second ∙ ap (λ (ts : List Token). ts ++ e ++ f ++ g)
+    (first ∙ ap (λ (ts : List Token). ts ++ a ++ b ++ c ++ d) begins))) ∙ joined_parts old a b c d e f g h i j
+
+-- an object of a member, and of a count behind it
+pub counted_member : (old : List Token) {begun first counted new : List Token} (a : List Token) (name : List ℕ) (n : ℕ) → begun ≡ old ++ begin_object ∷ []
+    → first ≡ begun ++ a → counted ≡ first ++ nonzero_tokens name n → new ≡ counted ++ end_object ∷ []
+    → new ≡ old ++ begin_object ∷ (a ++ members_tokens (nonzero name n no_members))
+counted_member old {begun} {first} {counted} {new} a name n begins h1 h2 ends =
+    let u : List Token = nonzero_tokens name n in
+    join old (begin_object ∷ []) (a ++ (u ++ end_object ∷ [])) begins (join begun a (u ++ end_object ∷ []) h1 (join first u (end_object ∷ []) h2 ends))
+    ∙ ap (λ (ts : List Token). old ++ begin_object ∷ (a ++ ts)) (nonzero_tokens_are name n no_members)
 
 -- values and the bracket behind them
 closed : (values : List Json) → all_tokens values ++ end_array ∷ [] ≡ items_tokens (items_of values)

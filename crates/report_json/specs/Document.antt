@@ -1,37 +1,20 @@
 -- A report as one JSON value, whose members docs/MACHINES.md tells, and its text. A target gives the names of its points and codes.
-use Rattle.std.specs.Prelude.{◌≡◌, ℕ, zero, suc, ◌+◌, List, [], ◌∷◌, ◌++◌, length, map, codes, count_by, Option, None, Some}
+use Rattle.std.specs.Prelude.{◌≡◌, ℕ, ◌+◌, List, [], ◌∷◌, ◌++◌, length, map, codes, count_by, Option, None, Some}
 use Rattle.std.specs.Fmt.{decimal}
-use Rattle.json.specs.Json.{Json, Members, null, number, string, array, object, no_members, member, document}
+use Rattle.json.specs.Json.{Json, null, string, object, no_members, member, document}
 use Rattle.json.specs.Layout.{pretty}
 use Rattle.json.specs.Tree.{json_tokens}
-use Rattle.json.specs.Value.{items_of}
 use Rattle.scenario_values.specs.Scenario.{Entries}
-use Rattle.scenario_values.specs.Printed.{printed}
 use Rattle.target_trait.specs.declared.judgement.Verdict.{Verdict}
 use Rattle.target_trait.specs.declared.judgement.Verdict.TheVariants as verdict
 use Rattle.report.specs.Reports.{FindingFacts, CauseFacts, GrowthFacts, ReportFacts}
 use Rattle.target_trait.specs.Verdicts.{is_pass, is_fail, is_unresolved}
+use Rattle.report_json.specs.About.{NotesFacts, ShownFacts, about_value}
+use Rattle.report_json.specs.Values.{whole, nonzero, list_of, scenario_value}
 
 -- the form of the document, which gets another number where members change their names or what they say
 abbrev pub form : ℕ
 form = 1
-
--- a whole number
-abbrev pub whole : ℕ → Json
-whole n = number (decimal n)
-
--- a member that is a count, where it isn't 0, before others
-abbrev pub nonzero : List ℕ → ℕ → Members → Members
-nonzero name zero others = others
-nonzero name (suc n) others = member name (whole (suc n)) others
-
--- a list of values
-abbrev pub list_of : List Json → Json
-list_of values = array (items_of values)
-
--- the printed form of a scenario, which is empty for one without entries
-abbrev pub scenario_value : Entries → Json
-scenario_value entries = string (printed entries)
 
 -- ---- verdicts
 
@@ -120,19 +103,20 @@ growth_value names code_name (Some growth) =
 
 -- ---- the document
 
--- all of it, by the names of the points and codes, of a report over these plans. The seed is a text, since many readers round large numbers
-abbrev pub document_of : List (List ℕ) → (ℕ → List ℕ) → ReportFacts → List Entries → Json
-document_of names code_name report plans =
+-- all of it, by the names of the points and codes, of a report, with what is told beside it. The seed is a text, since many readers round large numbers
+abbrev pub document_of : List (List ℕ) → (ℕ → List ℕ) → ReportFacts → NotesFacts → ShownFacts → Json
+document_of names code_name report notes shown =
     object (member (codes "version") (whole form)
     (member (codes "label") (string report.label)
     (member (codes "seed") (string (decimal report.seed))
     (member (codes "clean") (clean_value code_name report.clean)
     (member (codes "census") (list_of (point_values names report.census))
     (member (codes "counts") (counts_value report.verdicts)
-    (member (codes "not_passed") (list_of (reported_values code_name 0 report.verdicts plans))
+    (member (codes "not_passed") (list_of (reported_values code_name 0 report.verdicts shown.plans))
     (nonzero (codes "unmet") report.unmet
     (member (codes "findings") (list_of (map (finding_value code_name) report.findings))
-    (member (codes "growth") (growth_value names code_name report.growth) no_members))))))))))
+    (member (codes "growth") (growth_value names code_name report.growth)
+    (member (codes "about") (about_value notes shown) no_members)))))))))))
 
 -- a line for each item and member, and a line feed at the end
 abbrev pub text_of : Json → List ℕ

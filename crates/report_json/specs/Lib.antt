@@ -1,2 +1,4 @@
+pub mod About
 pub mod Document
+pub mod Values
 pub mod inside

@@ -3,10 +3,12 @@ ghost use Rattle.std.specs.Prelude.{◌≡◌, ◌++◌, length, map, codes, IfO
 ghost use Rattle.std.specs.Fmt.{decimal};
 ghost use Rattle.json.specs.Json.{string};
 ghost use Rattle.json.specs.Tree.{json_tokens};
-ghost use Rattle.report_json.specs.Document.{form, whole, list_of, clean_value, point_values, counts_value, reported_values, finding_value, growth_value};
+ghost use Rattle.report_json.specs.Document.{form, clean_value, point_values, counts_value, reported_values, finding_value, growth_value};
+ghost use Rattle.report_json.specs.Values.{whole, list_of};
 ghost use Rattle.report_json.specs.Document.{document_of, text_of, IsReadAs};
 ghost use Rattle.report_json.specs.inside.Tokens.{member_tokens, nonzero_tokens};
 
+use crate::about::{Notes, Shown, write_about};
 use crate::growth::{write_growth, write_points};
 use crate::members::{write_nonzero, write_number, write_text};
 use crate::plans::{write_clean, write_counts, write_findings, write_not_passed};
@@ -56,7 +58,7 @@ fn write_results<N: Names>(
     write_points(out, "census", names, report.census)?;
     write_counts(out, report.verdicts)?;
     write_not_passed(alloc, out, names, report.verdicts, plans)?;
-    write_nonzero(out, "unmet", report.unmet)?;
+    write_nonzero(out, "unmet", u64::from(report.unmet))?;
     write_findings(alloc, out, names, &report.findings)?;
     write_growth(alloc, out, names, &report.growth)
 }
@@ -66,39 +68,44 @@ fn write_document<N: Names>(
     out: &mut Pretty,
     names: &N,
     report: &Report<'_>,
-    plans: &CampaignPlans<'_>,
+    notes: &Notes<'_>,
+    shown: &Shown<'_>,
 ) -> Result<(), AllocError>
     requires counts { length report.now.census ≡ length (N.points names.now) }
     requires reached { IfSome report.now.growth (λ growth. length growth.reached ≡ length (N.points names.now)) }
-    requires verdicts { length report.now.verdicts ≡ length plans.now }
-    ensures { OnOk result (out.new ≡ out.old ++ json_tokens (document_of (N.points names.now) (N.code_text names.now) report.now plans.now)) }
+    requires verdicts { length report.now.verdicts ≡ length shown.now.plans }
+    ensures { OnOk result (out.new ≡ out.old
+        ++ json_tokens (document_of (N.points names.now) (N.code_text names.now) report.now notes.now shown.now)) }
 {
     out.token(Token::BeginObject)?;
     write_head(out, names, report)?;
-    write_results(alloc, out, names, report, plans)?;
+    write_results(alloc, out, names, report, shown.plans)?;
+    write_about(alloc, out, notes, shown)?;
     out.token(Token::EndObject)
 }
 
-/// The report over these plans as a JSON document, with a line for each item and member and a line feed at the end, by these names of points
-/// and codes. docs/MACHINES.md tells its members. It is UTF-8, the same for the same report and plans, and a reader of JSON finds that document
-/// in it, whatever characters the names have.
+/// The report as a JSON document, by these names of points and codes, with what is shown beside it: a line for each item and member, and a line
+/// feed at the end. docs/MACHINES.md tells its members. It is UTF-8, the same for the same report, and a reader of JSON finds that document in it,
+/// whatever characters the names have.
 ///
 /// The census has to have a count for each of the points, and so has what is reached, of a campaign that has a depth; and there has to be a
-/// verdict for each plan. An error means that memory was refused.
+/// verdict for each plan that is shown. An error means that memory was refused.
 pub fn json_text<N: Names>(
     alloc: Global,
     names: &N,
     report: &Report<'_>,
-    plans: &CampaignPlans<'_>,
+    notes: &Notes<'_>,
+    shown: &Shown<'_>,
 ) -> Result<Vec<u8>, AllocError>
     requires counts { length report.now.census ≡ length (N.points names.now) }
     requires reached { IfSome report.now.growth (λ growth. length growth.reached ≡ length (N.points names.now)) }
-    requires verdicts { length report.now.verdicts ≡ length plans.now }
-    ensures text { IfOk result (λ text. text.items ≡ text_of (document_of (N.points names.now) (N.code_text names.now) report.now plans.now)) }
-    ensures reads { OnOk result (IsReadAs (document_of (N.points names.now) (N.code_text names.now) report.now plans.now)) }
+    requires verdicts { length report.now.verdicts ≡ length shown.now.plans }
+    ensures text { IfOk result (λ text. text.items
+        ≡ text_of (document_of (N.points names.now) (N.code_text names.now) report.now notes.now shown.now)) }
+    ensures reads { OnOk result (IsReadAs (document_of (N.points names.now) (N.code_text names.now) report.now notes.now shown.now)) }
 {
     let mut out = Pretty::new(alloc);
-    write_document(alloc, &mut out, names, report, plans)?;
+    write_document(alloc, &mut out, names, report, notes, shown)?;
     let mut text = out.into_inner();
     text.push(b'\n')?;
     Ok(text)

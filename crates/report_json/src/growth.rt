@@ -1,7 +1,8 @@
 //! Points and their hits, and how a campaign grew.
 ghost use Rattle.std.specs.Prelude.{◌≡◌, ◌++◌, length, map, codes, Some, IfSome, OnOk};
 ghost use Rattle.json.specs.Tree.{json_tokens};
-ghost use Rattle.report_json.specs.Document.{whole, list_of, point_value, point_values, cause_value, growth_value};
+ghost use Rattle.report_json.specs.Document.{point_value, point_values, cause_value, growth_value};
+ghost use Rattle.report_json.specs.Values.{whole, list_of};
 ghost use Rattle.report_json.specs.inside.Tokens.{member_tokens, nonzero_tokens, all_tokens};
 
 use crate::members::{
@@ -118,7 +119,7 @@ fn write_sizes(out: &mut Pretty, growth: &Growth<'_>) -> Result<(), AllocError>
     write_levels(out, growth.levels)?;
     write_number(out, "onward", u64::from(growth.onward))?;
     write_number(out, "beyond", growth.beyond)?;
-    write_nonzero(out, "unseen", growth.unseen)
+    write_nonzero(out, "unseen", u64::from(growth.unseen))
 }
 
 fn write_grown<N: Names>(

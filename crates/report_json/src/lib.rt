@@ -4,9 +4,12 @@
 //! has an object's members in the order of their keys, and takes a tree of all plans that fail in memory before it writes the first.
 #![tactic(auto)]
 
+mod about;
 mod document;
+mod faults;
 mod growth;
 mod members;
 mod plans;
 
+pub use about::{Notes, Shown};
 pub use document::json_text;

@@ -3,7 +3,7 @@ ghost use Rattle.std.specs.Prelude.{◌≡◌, ◌++◌, ◌∷◌, [], OnOk};
 ghost use Rattle.json.specs.Json.{string};
 ghost use Rattle.json.specs.Token.{key, begin_array};
 ghost use Rattle.json.specs.Tree.{json_tokens};
-ghost use Rattle.report_json.specs.Document.{whole, scenario_value};
+ghost use Rattle.report_json.specs.Values.{whole, scenario_value};
 ghost use Rattle.report_json.specs.inside.Tokens.{member_tokens, nonzero_tokens};
 
 use itoa::Buffer;
@@ -28,14 +28,14 @@ pub fn write_number(out: &mut Pretty, name: &str, number: u64) -> Result<(), All
     write_whole(out, number)
 }
 
-/// A member that is a whole number, where it isn't 0.
-pub fn write_nonzero(out: &mut Pretty, name: &str, number: u32) -> Result<(), AllocError>
+/// A member that is a count, where it isn't 0.
+pub fn write_nonzero(out: &mut Pretty, name: &str, number: u64) -> Result<(), AllocError>
     ensures { OnOk result (out.new ≡ out.old ++ nonzero_tokens name.now number) }
 {
     if number == 0 {
         return Ok(());
     }
-    write_number(out, name, u64::from(number))
+    write_number(out, name, number)
 }
 
 /// A member that is a text.
@@ -44,6 +44,18 @@ pub fn write_text(out: &mut Pretty, name: &str, text: &str) -> Result<(), AllocE
 {
     out.token(Token::Key(name))?;
     out.token(Token::String(text))
+}
+
+/// A scenario.
+pub fn write_scenario_value(
+    alloc: Global,
+    out: &mut Pretty,
+    scenario: &Scenario,
+) -> Result<(), AllocError>
+    ensures { OnOk result (out.new ≡ out.old ++ json_tokens (scenario_value scenario.now)) }
+{
+    let text = print(alloc, scenario)?;
+    out.token(Token::String(text.as_str()))
 }
 
 /// A member that is a scenario.
@@ -55,8 +67,8 @@ pub fn write_scenario(
 ) -> Result<(), AllocError>
     ensures { OnOk result (out.new ≡ out.old ++ member_tokens name.now (scenario_value scenario.now)) }
 {
-    let text = print(alloc, scenario)?;
-    write_text(out, name, text.as_str())
+    out.token(Token::Key(name))?;
+    write_scenario_value(alloc, out, scenario)
 }
 
 /// The beginning of a member that is a list.

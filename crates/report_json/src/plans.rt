@@ -1,7 +1,8 @@
 //! Verdicts, plans and what was found.
 ghost use Rattle.std.specs.Prelude.{◌≡◌, ◌++◌, length, map, codes, OnOk};
 ghost use Rattle.json.specs.Tree.{json_tokens};
-ghost use Rattle.report_json.specs.Document.{list_of, code_of, clean_value, counts_value, plan_value, reported_value, reported_values, finding_value, verdict_word};
+ghost use Rattle.report_json.specs.Document.{code_of, clean_value, counts_value, plan_value, reported_value, reported_values, finding_value, verdict_word};
+ghost use Rattle.report_json.specs.Values.{list_of};
 ghost use Rattle.report_json.specs.inside.Tokens.{member_tokens, all_tokens};
 
 use crate::members::{begin_list, write_number, write_scenario, write_text};

@@ -1,20 +1,10 @@
-//! A campaign's page: one HTML document, whole in itself, for people to look at and to share.
-//!
-//! It needs no script and asks for nothing. Its elements stand in this crate; texts in them are escaped by `xml_text`, so it is well-formed XML
-//! too, where the map that it shows is.
+//! A page to look at: a fixed frame, and in it the brief report's text and the JSON document that the frame's script shows.
 #![tactic(auto)]
 
-mod causes;
-mod facts;
-mod failures;
-mod head;
+mod frame;
+mod laws;
 mod page;
-mod plans;
-mod runs;
-mod tables;
-mod texts;
 
-pub use causes::first_causes;
-pub use facts::About;
+pub use frame::{BEFORE, BEHIND, BETWEEN};
+pub use laws::nothing_ends_what_it_stands_in;
 pub use page::page_text;
-pub use plans::linked_plans;

@@ -1,14 +1,13 @@
 -- Lines that are written one after the other.
-use Rattle.std.proofs.Common.{◌≡◌, ℕ, ◌+◌, ◌<◌, not, List, [], ◌∷◌, ◌++◌, take, drop, length, get_or, ap, sym, ◌∙◌, add-one}
+use Rattle.std.proofs.Common.{◌≡◌, ℕ, ◌+◌, ◌<◌, List, [], ◌∷◌, ◌++◌, take, drop, length, get_or, ap, sym, ◌∙◌, add-one}
 use Rattle.std.proofs.Math.Seq.{take-suc}
 use Rattle.scenario_values.specs.declared.term.Term.{Term}
-use Rattle.scenario_values.specs.Scenario.{Entries, is_off}
+use Rattle.scenario_values.specs.Scenario.{Entries}
 use Rattle.action_eval.specs.Answers.{Hit}
 use Rattle.report.specs.ReportText.{ended, text_of}
 use Rattle.report.proofs.Written.{goes_on, next_of}
 use Rattle.report.proofs.ReportedLines.{lines_on}
 use Rattle.run_explained.specs.Explained.{hit_line, hit_lines, idle_of, idle_in, idle_lines}
-use Rattle.run_explained.specs.Told.{HitFacts, hit_facts}
 
 -- the element at i, and those after it
 element_of : {A : Type 0} (xs : List A) (i : ℕ) (x : A) → i < length xs → x ≡ get_or xs i x → drop i xs ≡ x ∷ drop (i + 1) xs
@@ -44,16 +43,3 @@ pub entry_on : (history : List Hit) (old new whole : List ℕ) (all rest : Entri
 entry_on history old new whole all rest e all_is added so_far =
     lines_on old new whole (idle_in history e.0 0 e.1) (idle_lines history rest) added
     (ap (λ (es : Entries). old ++ text_of (idle_lines history es)) (sym all_is) ∙ so_far)
-
--- the line of a hit is there
-pub fact_on : (names : List (List ℕ)) (old new whole : List HitFacts) (n : ℕ) (hits : List Hit) (h : Hit) → n < length hits → h ≡ get_or hits n h → (x : HitFacts) → new ≡ old ++ x ∷ []
-    → x ≡ record { text = ended (hit_line names (take n hits) h); is_fault = not (is_off h.did) }
-    → old ++ hit_facts names (take n hits) (drop n hits) ≡ whole → new ++ hit_facts names (take (n + 1) hits) (drop (n + 1) hits) ≡ whole
-fact_on names old new whole n hits h lt is x added x_is so_far =
-    let rest = drop (n + 1) hits in
-    let fact : HitFacts = record { text = ended (hit_line names (take n hits) h); is_fault = not (is_off h.did) } in
-    let all : old ++ (fact ∷ [] ++ hit_facts names (take n hits ++ h ∷ []) rest) ≡ whole =
-    ap (λ (hs : List Hit). old ++ hit_facts names (take n hits) hs) (sym (element_of hits n h lt is)) ∙ so_far in
-    ap (λ (b : List Hit). new ++ hit_facts names b rest) (taken hits n h lt is)
-    ∙ goes_on old new (fact ∷ []) (hit_facts names (take n hits ++ h ∷ []) rest) whole all
-    (added ∙ ap (λ (y : HitFacts). old ++ y ∷ []) x_is)

@@ -33,7 +33,7 @@ fn hits_of(counts: &[usize], hits: &[Answered<'_>], point: u32) -> usize
 }
 
 /// Counts the hit of this number, after those before it.
-pub fn count_hit(counts: &mut [usize], hits: &[Answered<'_>], number: usize)
+fn count_hit(counts: &mut [usize], hits: &[Answered<'_>], number: usize)
     requires within { number < length hits.now }
     requires counted { AreCounts counts.old (take number hits.now) }
     ensures { AreCounts counts.new (take (number + 1) hits.now) }
@@ -44,7 +44,7 @@ pub fn count_hit(counts: &mut [usize], hits: &[Answered<'_>], number: usize)
     }
 }
 
-pub fn write_hit(
+fn write_hit(
     out: &mut String,
     catalogue: &[&str],
     counts: &[usize],

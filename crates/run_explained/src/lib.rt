@@ -11,4 +11,4 @@ mod told;
 pub use by_answer::{explain_answer, has_idle};
 pub use tales::explain_telling;
 pub use telling::{Explained, explain};
-pub use told::{HitLine, ToldRun, tell};
+pub use told::{ToldRun, tell};

@@ -26,7 +26,7 @@ use Rattle.answered_runs.specs.WholeList.{AreAllTold, unseen_count}
 use Rattle.campaign_core.specs.declared.ending.CampaignFault.TheVariants as campaign
 use Rattle.campaign_given.specs.Description.{Description}
 use Rattle.campaign_given.specs.Given.{Given}
-use Rattle.outside_campaign.specs.declared.forms.Form.{Form}
+use Rattle.report_forms.specs.declared.forms.Form.{Form}
 use Rattle.outside_campaign.specs.declared.refusal.OutsideFault.TheVariants as refusal
 use Rattle.outside_grown.specs.Asked.{unrun}
 use Rattle.answered_campaigns.specs.Grown.{known}

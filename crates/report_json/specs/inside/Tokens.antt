@@ -3,7 +3,7 @@ use Rattle.std.specs.Prelude.{List, ℕ, zero, suc, [], ◌∷◌, flat_map}
 use Rattle.json.specs.Json.{Json}
 use Rattle.json.specs.Token.{Token, key}
 use Rattle.json.specs.Tree.{json_tokens}
-use Rattle.report_json.specs.Document.{whole}
+use Rattle.report_json.specs.Values.{whole}
 
 -- a member of an object
 abbrev pub member_tokens : List ℕ → Json → List Token

@@ -1,4 +1,4 @@
-use Rattle.std.proofs.Common.{◌≡◌, ◌≤◌, ◌∙◌, ℕ, List, Some, ap, map, subst}
+use Rattle.std.proofs.Common.{◌≡◌, ◌≤◌, ◌∙◌, ℕ, List, Some, ap, length, map, subst}
 use Rattle.std.proofs.lemmas.Result.{IfOk-weaker}
 use Rattle.campaign_given.specs.Description.{Description}
 use Rattle.campaign_given.specs.Given.{Given}
@@ -10,7 +10,7 @@ use Rattle.report.specs.Reports.{CauseFacts, ReportFacts}
 use Rattle.answer_text.specs.Runs.{told_in}
 use Rattle.answered_runs.specs.Answered.{Answered, runs_in}
 use Rattle.answered_runs.specs.Components.{AgreesWithRuns, IsComponent}
-use Rattle.outside_campaign.specs.Forms.{ShownFacts}
+use Rattle.report_json.specs.About.{ShownFacts, without_runs}
 use Rattle.target_trait.specs.declared.judgement.Verdict.{Verdict}
 use Rattle.answered_campaigns.proofs.Reports.{cause_within, text_is}
 use Rattle.answered_campaigns.proofs.grown_report.reported_text.Goals as goal
@@ -67,16 +67,12 @@ returns c =
     ∙ ap (λ (x : List ℕ). F c.clean_of.result outside.label given.plans.seed counts k.known.now.1 lists.listed.known.levels.items x c.in_ok-causes.causes.items) c.as_slice-3.ensures.value
     ∙ ap (λ (x : List CauseFacts). F c.clean_of.result outside.label given.plans.seed counts k.known.now.1 lists.listed.known.levels.items most x) causes_are
     ∙ ap (λ (x : Verdict). F x outside.label given.plans.seed counts k.known.now.1 lists.listed.known.levels.items most (map (cause_of k.plans.now) c.args.told.causes.items)) c.clean_of.ensures in
-    let S : _ → List ℕ → ShownFacts = λ pairs text. record {
-      plans = k.plans.now;
-      pairs = pairs;
-      grown = lists.listed.known.plans;
-      onward = lists.listed.known.onward;
-      settings = text;
-    } in
+    let S : ℕ → ℕ → List ℕ → ShownFacts = λ storms listed text. without_runs k.plans.now lists.listed.known.plans storms listed text in
     let shown =
-    ap (λ x. S x c.as_str-2.result.now) (ap (λ (g : Given). g.plans.pairs) c.settings.view_is)
-    ∙ ap (λ (x : List ℕ). S given.plans.pairs x) (c.as_str-2.ensures ∙ ap (λ (g : Given). g.source) c.settings.view_is) in
+    c.shown_of-shown.ensures
+    ∙ ap (λ (n : ℕ). S n c.len-listed.result c.as_str-source.result.now) (ap (λ (g : Given). g.plans.storms) c.settings.view_is)
+    ∙ ap (λ (n : ℕ). S given.plans.storms n c.as_str-source.result.now) (c.len-listed.ensures ∙ c.settings.inside.scenarios.ok.0 ∙ ap (λ (g : Given). length g.plans.listed) c.settings.view_is)
+    ∙ ap (λ (x : List ℕ). S given.plans.storms (length given.plans.listed) x) (c.as_str-source.ensures ∙ ap (λ (g : Given). g.source) c.settings.view_is) in
     IfOk-weaker c.text_in.result _ _
     (λ text is. text_is c.args.form.now outside given k.known.now.0 k.known.now.1 lists k.plans.now c.args.verdicts.now c.args.told counts most _ _ text.items d c.in_ok-census.ensures reaches
     facts shown is)

@@ -1,13 +1,21 @@
-use Rattle.std.proofs.Common.{◌<◌, ◌≤◌, ◌∙◌, List, length, arith, subst, sym}
+use Rattle.std.proofs.Common.{◌≡◌, [], get_or, ◌<◌, ◌≤◌, ◌∙◌, List, length, arith, subst, sym}
 use Rattle.action_eval.specs.declared.rig.Rig.{Rig}
 use Rattle.answered_runs.specs.Answered.{runs_in}
-use Rattle.answered_runs.proofs.Breaks.{short_at, unbroken_more, unbroken_all}
+use Rattle.answered_runs.proofs.Breaks.{short_at, short_forerunner, unbroken_more, unbroken_all}
 use Rattle.answered_runs.proofs.broken.first_break.Goals as goal
 
-pub told_broken-requires : goal.told_broken-requires
-told_broken-requires c =
+pub told_broken-requires-clause-plan : goal.told_broken-requires-clause-plan
+told_broken-requires-clause-plan c =
     let less : c.loop-number.number < length c.args.plans.now = omega (arith, c.loop-number-test.true, c.len-number-end.ensures) in
     subst (λ (plan : List Rig). length plan ≤ 64) (sym (c.as_slice-faults.ensures.value ∙ c.in_ok-faults_of.ensures)) (short_at 64 c.args.plans.now c.loop-number.number less c.requires)
+
+pub told_broken-requires-clause-forerunner : goal.told_broken-requires-clause-forerunner
+told_broken-requires-clause-forerunner c =
+    let less : c.loop-number.number < length c.args.plans.now = omega (arith, c.loop-number-test.true, c.len-number-end.ensures) in
+    let plan : c.as_slice-faults.result.now ≡ get_or c.args.plans.now c.loop-number.number [] = c.as_slice-faults.ensures.value ∙ c.in_ok-faults_of.ensures in
+    let short : length (get_or c.args.plans.now c.loop-number.number []) ≤ 64 = short_at 64 c.args.plans.now c.loop-number.number less c.requires in
+    subst (λ (f : List Rig). length f ≤ 64) (sym (c.as_slice-forerunner.ensures.value ∙ c.in_ok-find_forerunner.ensures))
+    (short_forerunner c.as_slice-faults.result.now 64 (subst (λ (p : List Rig). length p ≤ 64) (sym plan) short))
 
 pub loop-number-preserved : goal.loop-number-preserved
 loop-number-preserved c =

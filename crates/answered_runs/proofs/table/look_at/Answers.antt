@@ -5,8 +5,8 @@ use Rattle.answered_runs.specs.Answered.{is_low}
 use Rattle.answered_runs.proofs.Runs.{low_hits}
 use Rattle.answered_runs.proofs.table.look_at.Goals as goal
 
-pub returns-then-len-le-MOST_HITS-clause-points : goal.returns-then-len-le-MOST_HITS-clause-points
-returns-then-len-le-MOST_HITS-clause-points c =
+pub returns-then-len-clause-points : goal.returns-then-len-clause-points
+returns-then-len-clause-points c =
     let low : list_all is_low c.stretches-2.result.now ≡ true = search rules in
     let same : c.stretches-2.result.now ≡ c.stretches.result.now = c.stretches-2.ensures ∙ sym c.stretches.ensures in
     let hits : c.push_hits.new.hits.items ≡ points_of c.stretches.result.now = c.in_ok-push_hits.ensures ∙ ap (λ (l : List ℕ). l ++ points_of c.stretches.result.now) c.clear.ensures.items in

@@ -1,8 +1,6 @@
-use Rattle.std.proofs.Common.{◌≡◌, IfSome, length, refl, subst, sym}
-use Rattle.report.specs.Reports.{GrowthFacts, ReportFacts}
+use Rattle.std.proofs.Common.{refl}
 use Rattle.campaign_core.specs.Headline.{Campaign, campaign_in, plans, say}
 use Rattle.campaign_core.proofs.Firsts.{first_is}
-use Rattle.campaign_core.proofs.Grown.{reached_counts}
 use Rattle.campaign_core.proofs.Tried.{tried_by}
 use Rattle.campaign_core.proofs.running.campaign.Goals as goal
 
@@ -11,12 +9,6 @@ returns-clause-first g c =
     let k : Campaign = campaign_in g.T.Target c.args.subject.now in
     let ran = c.in_ok-ran.ensures.ran in
     first_is (say k) (plans k) (plans k) c.in_ok-ran.ran.results.firsts.items c.ending.result.first c.ending.ensures ran.results.1 refl
-
-pub text-requires-clause-reached : goal.text-requires-clause-reached
-text-requires-clause-reached g c =
-    let k : Campaign = campaign_in g.T.Target c.args.subject.now in
-    subst (λ (r : ReportFacts). IfSome r.growth (λ (x : GrowthFacts). length x.reached ≡ length k.points)) (sym c.in_ok-report.ensures.report)
-    (reached_counts k k.given.depth)
 
 pub returns-clause-promises : goal.returns-clause-promises
 returns-clause-promises g c =

@@ -6,4 +6,4 @@ use Rattle.campaign_main.proofs.notes.listed_on.Given as goal
 
 abbrev pub invariant-loop-place : goal.invariant-loop-place
 invariant-loop-place l =
-    string_bytes l.lines ++ listed_from (texts l.points) (l.place + 1) (drop l.place l.listed) ≡ listed_from (texts l.points) 1 l.listed
+    string_bytes l.lines ++ listed_from (texts l.points) l.place (drop l.place l.listed) ≡ listed_from (texts l.points) 0 l.listed

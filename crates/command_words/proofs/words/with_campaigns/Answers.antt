@@ -8,5 +8,4 @@ pub returns : goal.returns
 returns c =
     let run = also c.run_command.result (app_of c.args.command) (app_of c.args.command) _ c.in_ok-command.command refl c.run_command.ensures.app c.in_ok-command.ensures in
     let plans = also c.file_command-plans.result (app_of c.in_ok-command.command) _ _ c.in_ok-command-2.command run c.file_command-plans.ensures.app c.in_ok-command-2.ensures in
-    let map = also c.drawn_command-map.result _ _ _ c.in_ok-command-3.command plans c.drawn_command-map.ensures.app c.in_ok-command-3.ensures in
-    IfOk-weaker c.with-4.result _ _ (λ r h. also c.drawn_command-page.result _ _ _ r map c.drawn_command-page.ensures.app h) c.with-4.ensures
+    IfOk-weaker c.with-3.result _ _ (λ r h. also c.page_command-page.result _ _ _ r plans c.page_command-page.ensures.app h) c.with-3.ensures

@@ -2,7 +2,7 @@ use Rattle.std.proofs.Common.{◌∙◌, ap, length, arith, List, ℕ}
 use Rattle.action_eval.specs.Answers.{texts}
 use Rattle.scenario_values.specs.Scenario.{Entries}
 use Rattle.plan_gen.specs.PlanList.{Asked, plan_list}
-use Rattle.plan_gen.specs.Counts.{total_of}
+use Rattle.plan_gen.specs.inside.Counts.{total_of}
 use Rattle.plan_gen.proofs.Counting.{judged, plans_length}
 use Rattle.plan_gen.proofs.list.plans.Goals as goal
 

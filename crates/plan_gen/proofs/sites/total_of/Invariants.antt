@@ -1,5 +1,5 @@
 use Rattle.std.proofs.Common.{◌≡◌, ◌+◌, ◌*◌, ◌^◌, ◌≤◌, drop}
-use Rattle.plan_gen.specs.Counts.{total_of}
+use Rattle.plan_gen.specs.inside.Counts.{total_of}
 use Rattle.plan_gen.proofs.sites.total_of.Given as goal
 
 abbrev pub invariant-loop-count : goal.invariant-loop-count

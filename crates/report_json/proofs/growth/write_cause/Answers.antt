@@ -4,7 +4,8 @@ use Rattle.json.specs.Json.{string}
 use Rattle.json.specs.Tree.{json_tokens}
 use Rattle.report_json.specs.inside.Tokens.{member_tokens}
 use Rattle.report.specs.Reports.{CauseFacts}
-use Rattle.report_json.specs.Document.{whole, scenario_value, cause_value}
+use Rattle.report_json.specs.Document.{cause_value}
+use Rattle.report_json.specs.Values.{whole, scenario_value}
 use Rattle.report_json.proofs.Lists.{three_members, as_value}
 use Rattle.report_json.proofs.growth.write_cause.Goals as goal
 

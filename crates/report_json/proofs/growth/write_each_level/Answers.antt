@@ -1,4 +1,4 @@
-use Rattle.report_json.specs.Document.{whole}
+use Rattle.report_json.specs.Values.{whole}
 use Rattle.report_json.proofs.Lists.{value_next}
 use Rattle.report_json.proofs.growth.write_each_level.Goals as goal
 

@@ -1,5 +1,5 @@
 use Rattle.std.proofs.Common.{◌≡◌, ◌++◌, drop, map}
-use Rattle.report_json.specs.Document.{whole}
+use Rattle.report_json.specs.Values.{whole}
 use Rattle.report_json.specs.inside.Tokens.{all_tokens}
 use Rattle.report_json.proofs.growth.write_each_level.Given as goal
 

@@ -2,7 +2,8 @@ use Rattle.std.proofs.Common.{◌≡◌, List, ℕ, map, codes, refl, ap, ◌∙
 use Rattle.std.proofs.lemmas.Result.{on_ok_weaker}
 use Rattle.json.specs.Json.{no_members, member}
 use Rattle.report.specs.Reports.{CauseFacts, GrowthFacts}
-use Rattle.report_json.specs.Document.{whole, list_of, point_values, cause_value}
+use Rattle.report_json.specs.Document.{point_values, cause_value}
+use Rattle.report_json.specs.Values.{whole, list_of}
 use Rattle.report_json.specs.inside.Tokens.{member_tokens}
 use Rattle.report_json.proofs.Lists.{as_value, seven_members}
 use Rattle.report_json.proofs.growth.write_grown.Goals as goal

@@ -3,7 +3,8 @@ use Rattle.std.proofs.lemmas.Result.{on_ok_weaker}
 use Rattle.json.specs.Tree.{json_tokens}
 use Rattle.report_json.specs.inside.Tokens.{member_tokens}
 use Rattle.target_trait.specs.Verdicts.{is_pass, is_fail, is_unresolved}
-use Rattle.report_json.specs.Document.{whole, counts_value}
+use Rattle.report_json.specs.Document.{counts_value}
+use Rattle.report_json.specs.Values.{whole}
 use Rattle.report_json.proofs.Lists.{key_first, four_members, as_value}
 use Rattle.report_json.proofs.plans.write_counts.Goals as goal
 

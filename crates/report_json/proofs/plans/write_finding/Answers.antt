@@ -4,7 +4,8 @@ use Rattle.json.specs.Json.{string}
 use Rattle.json.specs.Tree.{json_tokens}
 use Rattle.report_json.specs.inside.Tokens.{member_tokens}
 use Rattle.report.specs.Reports.{FindingFacts}
-use Rattle.report_json.specs.Document.{whole, scenario_value, finding_value}
+use Rattle.report_json.specs.Document.{finding_value}
+use Rattle.report_json.specs.Values.{whole, scenario_value}
 use Rattle.report_json.proofs.Lists.{five_members, as_value}
 use Rattle.report_json.proofs.plans.write_finding.Goals as goal
 

@@ -2,7 +2,8 @@ use Rattle.std.proofs.Common.{codes, ap}
 use Rattle.std.proofs.lemmas.Result.{on_ok_weaker}
 use Rattle.json.specs.Json.{string}
 use Rattle.report_json.specs.inside.Tokens.{member_tokens}
-use Rattle.report_json.specs.Document.{whole, verdict_word, code_of, scenario_value}
+use Rattle.report_json.specs.Document.{verdict_word, code_of}
+use Rattle.report_json.specs.Values.{whole, scenario_value}
 use Rattle.report_json.proofs.Lists.{four_members, as_value}
 use Rattle.report_json.proofs.plans.write_plan.Goals as goal
 

@@ -1,4 +1,4 @@
-use Rattle.std.proofs.Common.{◌≤◌, List, length, map, subst}
+use Rattle.std.proofs.Common.{◌≤◌, length, subst}
 use Rattle.std.specs.List.{AllByRecursion}
 use Rattle.grown_plans.specs.Promises.{CanBeTried}
 use Rattle.grown_plans.proofs.Members.{all_map, all_weaker}

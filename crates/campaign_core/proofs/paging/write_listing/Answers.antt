@@ -1,7 +1,0 @@
-use Rattle.std.proofs.Common.{append_assoc}
-use Rattle.campaign_core.specs.Pages.{listing_text}
-use Rattle.campaign_core.proofs.paging.write_listing.Goals as goal
-
-pub returns : goal.returns
-unfolding listing_text
-returns c = rw (c.in_ok-write.ensures.bytes, c.bool_text-pairs.ensures) (simp append_assoc)

@@ -1,7 +1,0 @@
-use Rattle.std.proofs.Common.{append_assoc}
-use Rattle.campaign_map.specs.Map.{ground_row}
-use Rattle.campaign_map.proofs.map.write_ground_row.Goals as goal
-
-pub returns : goal.returns
-unfolding ground_row
-returns c = rw (c.in_ok-push_str.ensures.bytes, c.in_ok-write-2.ensures.bytes, c.in_ok-write.ensures.bytes) (simp append_assoc)

@@ -1,0 +1,15 @@
+//! The public calls that take a target, a probe or a table of the caller's own, each made once at concrete types: so there is a caller who
+//! can meet its bounds and what it requires. `paklour` makes none of them; programs with a target of their own do.
+//!
+//! Such a call is proved over what its bounds say, of whatever type. That a type with these bounds is there is shown here, and by nothing else.
+#![tactic(auto)]
+
+mod censuses;
+mod commands;
+mod looks;
+mod reductions;
+
+pub use censuses::{census_of_a_transfer, looped_census_of_a_transfer};
+pub use commands::{journal_is_cut, transfer_is_performed};
+pub use looks::{law_that_a_transfer_breaks, plan_that_says_otherwise};
+pub use reductions::{Pair, reduced_by_a_core, reduced_by_workers, reduced_plainly};

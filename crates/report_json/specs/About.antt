@@ -1,0 +1,104 @@
+-- What a document tells beside its report: who made it, by which settings, each plan that grew, and runs hit by hit.
+use Rattle.std.specs.Prelude.{ℕ, ◌-◌, List, [], ◌∷◌, ◌++◌, codes, drop, length, map, take, Option, None, Some}
+use Rattle.std.specs.Fmt.{decimal}
+use Rattle.json.specs.Json.{Json, null, string, object, no_members, member}
+use Rattle.scenario_values.specs.Scenario.{Entries}
+use Rattle.action_eval.specs.declared.rig.Rig.{Rig}
+use Rattle.action_eval.specs.declared.rig.Kind.{Kind}
+use Rattle.action_eval.specs.declared.rig.Kind.TheVariants.{OnceReturn, OnwardReturn, OncePanic}
+use Rattle.run_explained.specs.Told.{RunFacts}
+use Rattle.report_json.specs.Values.{list_of, nonzero, scenario_value}
+
+-- the program's version, who told the runs, and the command
+pub record NotesFacts : Type 0 where
+  pub version : List ℕ
+  pub told_by : List ℕ
+  pub command : List ℕ
+
+-- the plans of a report, and those that grew, which come first among them; how many storms and how many listed scenarios stand behind the others; the
+-- text of the settings; and the runs that are told: that without faults, those of the findings, and those of the causes, as far as each is told
+pub record ShownFacts : Type 0 where
+  pub plans : List Entries
+  pub grown : List (List Rig)
+  pub storms : ℕ
+  pub listed : ℕ
+  pub settings : List ℕ
+  pub clean_run : Option RunFacts
+  pub finding_runs : List RunFacts
+  pub cause_runs : List RunFacts
+
+-- the same where no run is told
+abbrev pub without_runs : List Entries → List (List Rig) → ℕ → ℕ → List ℕ → ShownFacts
+without_runs plans grown storms listed settings = record {
+  plans = plans;
+  grown = grown;
+  storms = storms;
+  listed = listed;
+  settings = settings;
+  clean_run = None;
+  finding_runs = [];
+  cause_runs = [];
+}
+
+-- ---- plans
+
+-- the scenarios of storms and those that are listed
+abbrev pub listed_from : ShownFacts → ℕ
+listed_from shown = length shown.plans - shown.listed
+
+abbrev pub storms_from : ShownFacts → ℕ
+storms_from shown = listed_from shown - shown.storms
+
+abbrev pub plans_between : ℕ → ℕ → List Entries → List Entries
+plans_between first end plans = drop first (take end plans)
+
+-- what happens at a hit, as the grammar says it
+abbrev pub argument_text : Option (List ℕ) → List ℕ
+argument_text None = []
+argument_text (Some text) = codes "(" ++ text ++ codes ")"
+
+abbrev pub kind_text : Kind → List ℕ
+kind_text (OnceReturn text) = codes "1*return" ++ argument_text text
+kind_text (OnwardReturn text) = codes "return" ++ argument_text text
+kind_text OncePanic = codes "1*panic"
+
+-- a fault: its point's place in the census, which hit of it, and what happens there
+abbrev pub fault_text : Rig → List ℕ
+fault_text r = decimal r.site.point ++ codes " " ++ decimal r.site.hit ++ codes " " ++ kind_text r.kind
+
+abbrev pub separator : List Rig → List ℕ
+separator [] = []
+separator (r ∷ earlier) = codes "; "
+
+-- a plan that grew: its faults in the order in which they act, as `2 1 1*return; 4 1 1*panic`. So it begins with the plan that it grew from
+abbrev pub faults_text : List Rig → List ℕ
+faults_text [] = []
+faults_text (r ∷ earlier) = faults_text earlier ++ separator earlier ++ fault_text r
+
+abbrev pub grown_value : List Rig → Json
+grown_value plan = string (faults_text plan)
+
+-- ---- runs
+
+-- the lines of `explain`, and how many hits have no line among them
+abbrev pub run_value : RunFacts → Json
+run_value run = object (member (codes "explained") (string run.text) (nonzero (codes "left_out") run.left_out no_members))
+
+abbrev pub run_or_null : Option RunFacts → Json
+run_or_null None = null
+run_or_null (Some run) = run_value run
+
+-- ---- all of it
+
+abbrev pub about_value : NotesFacts → ShownFacts → Json
+about_value notes shown =
+    object (member (codes "program_version") (string notes.version)
+    (member (codes "told_by") (string notes.told_by)
+    (member (codes "command") (string notes.command)
+    (member (codes "settings") (string shown.settings)
+    (member (codes "storms") (list_of (map scenario_value (plans_between (storms_from shown) (listed_from shown) shown.plans)))
+    (member (codes "listed") (list_of (map scenario_value (plans_between (listed_from shown) (length shown.plans) shown.plans)))
+    (member (codes "grown") (list_of (map grown_value shown.grown))
+    (member (codes "clean_run") (run_or_null shown.clean_run)
+    (member (codes "finding_runs") (list_of (map run_value shown.finding_runs))
+    (member (codes "cause_runs") (list_of (map run_value shown.cause_runs)) no_members))))))))))

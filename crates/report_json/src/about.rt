@@ -1,0 +1,271 @@
+//! What a document tells beside its report.
+ghost use Rattle.std.specs.Prelude.{◌≡◌, ◌++◌, ◌≤◌, length, map, codes, option_copied, OnOk};
+ghost use Rattle.json.specs.Json.{string};
+ghost use Rattle.json.specs.Tree.{json_tokens};
+ghost use Rattle.campaign_plans.specs.GrownScenarios.{grown_among};
+ghost use Rattle.report_json.specs.About.{about_value, grown_value, listed_from, plans_between, run_or_null, run_value, storms_from, without_runs};
+ghost use Rattle.report_json.specs.Values.{list_of, scenario_value};
+ghost use Rattle.report_json.specs.inside.Tokens.{all_tokens, member_tokens};
+
+use crate::faults::write_faults;
+use crate::members::{begin_list, write_nonzero, write_scenario_value, write_text};
+use campaign_plans::CampaignPlans;
+use grown_plans::GrownPlans;
+use json::{Pretty, Token};
+use run_explained::ToldRun;
+use std::alloc::{AllocError, Global};
+use std::marker::Model;
+
+/// Who made a document.
+#[derive(Drop)]
+pub struct Notes<'a> {
+    /// The version of the program.
+    pub version: &'a str,
+    /// Who told the runs: `target` or `answers`.
+    pub told_by: &'a str,
+    /// The command that makes the document.
+    pub command: &'a str,
+}
+
+impl<'a> Model for Notes<'a> {
+    ghost use Rattle.report_json.specs.About.{NotesFacts};
+
+    ghost Value = { NotesFacts };
+
+    ghost view = { λ n. record { version = n.version.now; told_by = n.told_by.now; command = n.command.now } };
+}
+
+/// What is shown of a campaign beside what its report tells.
+#[derive(Drop)]
+pub struct Shown<'a> {
+    /// The plans, in the order of their numbers, from 0.
+    pub plans: &'a CampaignPlans<'a>,
+    /// Those plans that grew, of a campaign with a depth. They come first among the plans.
+    pub grown: Option<&'a GrownPlans>,
+    /// How many storms stand behind them.
+    pub storms: usize,
+    /// How many scenarios that the settings list stand at the end.
+    pub listed: usize,
+    /// The text of the settings.
+    pub settings: &'a str,
+    /// The run without faults, where it is told.
+    pub clean_run: Option<&'a ToldRun>,
+    /// The runs of the report's findings, as reduced, in their order, as far as they are told.
+    pub finding_runs: &'a [ToldRun],
+    /// The runs of its causes, in their order, as far as they are told.
+    pub cause_runs: &'a [ToldRun],
+}
+
+impl<'a> Model for Shown<'a> {
+    ghost use Rattle.std.specs.Prelude.{option_copied};
+    ghost use Rattle.campaign_plans.specs.GrownScenarios.{grown_among};
+    ghost use Rattle.report_json.specs.About.{ShownFacts};
+
+    ghost Value = { ShownFacts };
+
+    ghost view = { λ s. record {
+      plans = s.plans.now;
+      grown = grown_among (option_copied s.grown);
+      storms = s.storms;
+      listed = s.listed;
+      settings = s.settings.now;
+      clean_run = option_copied s.clean_run;
+      finding_runs = s.finding_runs.now;
+      cause_runs = s.cause_runs.now;
+    } };
+}
+
+impl<'a> Shown<'a> {
+    /// What is shown where no run is told.
+    pub fn without_runs(
+        plans: &'a CampaignPlans<'a>,
+        grown: Option<&'a GrownPlans>,
+        storms: usize,
+        listed: usize,
+        settings: &'a str,
+    ) -> Self
+        ensures { result ≡ without_runs plans.entry.now (grown_among (option_copied grown.entry)) storms listed settings.entry.now }
+    {
+        Shown {
+            plans,
+            grown,
+            storms,
+            listed,
+            settings,
+            clean_run: None,
+            finding_runs: &[],
+            cause_runs: &[],
+        }
+    }
+}
+
+fn write_each_scenario(
+    alloc: Global,
+    out: &mut Pretty,
+    plans: &CampaignPlans<'_>,
+    first: usize,
+    end: usize,
+) -> Result<(), AllocError>
+    requires ordered { first ≤ end }
+    requires within { end ≤ length plans.now }
+    ensures { OnOk result (out.new ≡ out.old ++ all_tokens (map scenario_value (plans_between first end plans.now))) }
+{
+    for number in first..end {
+        write_scenario_value(alloc, out, &plans.plan(number).scenario(alloc)?)?;
+    }
+    Ok(())
+}
+
+/// A member that tells the scenarios of the plans from one number up to another.
+fn write_scenarios(
+    alloc: Global,
+    out: &mut Pretty,
+    name: &str,
+    plans: &CampaignPlans<'_>,
+    first: usize,
+    end: usize,
+) -> Result<(), AllocError>
+    requires ordered { first ≤ end }
+    requires within { end ≤ length plans.now }
+    ensures { OnOk result (out.new ≡ out.old ++ member_tokens name.now (list_of (map scenario_value (plans_between first end plans.now)))) }
+{
+    begin_list(out, name)?;
+    write_each_scenario(alloc, out, plans, first, end)?;
+    out.token(Token::EndArray)
+}
+
+fn write_each_grown(alloc: Global, out: &mut Pretty, grown: &GrownPlans) -> Result<(), AllocError>
+    ensures { OnOk result (out.new ≡ out.old ++ all_tokens (map grown_value grown.now)) }
+{
+    let mut faults = Vec::new(alloc);
+    for number in 0..grown.len() {
+        grown.faults_of(number, &mut faults)?;
+        let mut text = String::new(alloc);
+        write_faults(&mut text, faults.as_slice())?;
+        out.token(Token::String(text.as_str()))?;
+    }
+    Ok(())
+}
+
+fn write_each_grown_among(
+    alloc: Global,
+    out: &mut Pretty,
+    grown: Option<&GrownPlans>,
+) -> Result<(), AllocError>
+    ensures { OnOk result (out.new ≡ out.old ++ all_tokens (map grown_value (grown_among (option_copied grown.entry)))) }
+{
+    match grown {
+        None => Ok(()),
+        Some(grown) => write_each_grown(alloc, out, grown),
+    }
+}
+
+/// A member that tells each plan that grew.
+fn write_grown(
+    alloc: Global,
+    out: &mut Pretty,
+    grown: Option<&GrownPlans>,
+) -> Result<(), AllocError>
+    ensures { OnOk result (out.new ≡ out.old ++ member_tokens (codes "grown") (list_of (map grown_value (grown_among (option_copied grown.entry))))) }
+{
+    begin_list(out, "grown")?;
+    write_each_grown_among(alloc, out, grown)?;
+    out.token(Token::EndArray)
+}
+
+fn write_run(out: &mut Pretty, run: &ToldRun) -> Result<(), AllocError>
+    ensures { OnOk result (out.new ≡ out.old ++ json_tokens (run_value run.now)) }
+{
+    out.token(Token::BeginObject)?;
+    write_text(out, "explained", run.text.as_str())?;
+    write_nonzero(out, "left_out", run.left_out as u64)?;
+    out.token(Token::EndObject)
+}
+
+fn write_each_run(out: &mut Pretty, runs: &[ToldRun]) -> Result<(), AllocError>
+    ensures { OnOk result (out.new ≡ out.old ++ all_tokens (map run_value runs.now)) }
+{
+    for run in runs {
+        write_run(out, run)?;
+    }
+    Ok(())
+}
+
+/// A member that tells runs.
+fn write_runs(out: &mut Pretty, name: &str, runs: &[ToldRun]) -> Result<(), AllocError>
+    ensures { OnOk result (out.new ≡ out.old ++ member_tokens name.now (list_of (map run_value runs.now))) }
+{
+    begin_list(out, name)?;
+    write_each_run(out, runs)?;
+    out.token(Token::EndArray)
+}
+
+/// A member that tells a run, or that none is told.
+fn write_run_or_null(out: &mut Pretty, name: &str, run: Option<&ToldRun>) -> Result<(), AllocError>
+    ensures { OnOk result (out.new ≡ out.old ++ member_tokens name.now (run_or_null (option_copied run.entry))) }
+{
+    out.token(Token::Key(name))?;
+    match run {
+        None => out.token(Token::Null),
+        Some(run) => write_run(out, run),
+    }
+}
+
+/// Who made the document, and by which settings.
+fn write_made(out: &mut Pretty, notes: &Notes<'_>, settings: &str) -> Result<(), AllocError>
+    ensures { OnOk result (out.new ≡ out.old
+        ++ member_tokens (codes "program_version") (string notes.now.version)
+        ++ member_tokens (codes "told_by") (string notes.now.told_by)
+        ++ member_tokens (codes "command") (string notes.now.command)
+        ++ member_tokens (codes "settings") (string settings.now)) }
+{
+    write_text(out, "program_version", notes.version)?;
+    write_text(out, "told_by", notes.told_by)?;
+    write_text(out, "command", notes.command)?;
+    write_text(out, "settings", settings)
+}
+
+/// The plans that the report doesn't spell.
+fn write_plans(alloc: Global, out: &mut Pretty, shown: &Shown<'_>) -> Result<(), AllocError>
+    ensures { OnOk result (out.new ≡ out.old
+        ++ member_tokens (codes "storms") (list_of (map scenario_value (plans_between (storms_from shown.now) (listed_from shown.now) shown.now.plans)))
+        ++ member_tokens (codes "listed") (list_of (map scenario_value (plans_between (listed_from shown.now) (length shown.now.plans) shown.now.plans)))
+        ++ member_tokens (codes "grown") (list_of (map grown_value shown.now.grown))) }
+{
+    let plans = shown.plans;
+    let count = plans.len();
+    let listed_from = count.saturating_sub(shown.listed);
+    let storms_from = listed_from.saturating_sub(shown.storms);
+    write_scenarios(alloc, out, "storms", plans, storms_from, listed_from)?;
+    write_scenarios(alloc, out, "listed", plans, listed_from, count)?;
+    write_grown(alloc, out, shown.grown)
+}
+
+/// The runs that are told.
+fn write_told_runs(out: &mut Pretty, shown: &Shown<'_>) -> Result<(), AllocError>
+    ensures { OnOk result (out.new ≡ out.old
+        ++ member_tokens (codes "clean_run") (run_or_null shown.now.clean_run)
+        ++ member_tokens (codes "finding_runs") (list_of (map run_value shown.now.finding_runs))
+        ++ member_tokens (codes "cause_runs") (list_of (map run_value shown.now.cause_runs))) }
+{
+    write_run_or_null(out, "clean_run", shown.clean_run)?;
+    write_runs(out, "finding_runs", shown.finding_runs)?;
+    write_runs(out, "cause_runs", shown.cause_runs)
+}
+
+/// What a document tells beside its report.
+pub fn write_about(
+    alloc: Global,
+    out: &mut Pretty,
+    notes: &Notes<'_>,
+    shown: &Shown<'_>,
+) -> Result<(), AllocError>
+    ensures { OnOk result (out.new ≡ out.old ++ member_tokens (codes "about") (about_value notes.now shown.now)) }
+{
+    out.token(Token::Key("about"))?;
+    out.token(Token::BeginObject)?;
+    write_made(out, notes, shown.settings)?;
+    write_plans(alloc, out, shown)?;
+    write_told_runs(out, shown)?;
+    out.token(Token::EndObject)
+}

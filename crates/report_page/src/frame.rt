@@ -1,0 +1,2213 @@
+//! The frame of the page, made of the files of viewer/ by tools/frame.
+
+/// What stands before the text of the brief report.
+pub const BEFORE: &str = r###"<!doctype html>
+<html lang="en">
+<head>
+<meta charset="utf-8">
+<meta name="viewport" content="width=device-width, initial-scale=1">
+<meta name="color-scheme" content="light dark">
+<meta http-equiv="Content-Security-Policy" content="default-src 'none'; style-src 'sha256-F21hftB0O+VWy9EyNdqxxLozEMqY0zlpsrJI3FTWd3A='; script-src 'sha256-XjPtzdQgb+Z+dRi1+kA2H+qTabx2xQNedMHAu+qPfdU='; base-uri 'none'; form-action 'none'">
+<title>Paklour report</title>
+<style>
+:root {
+  color-scheme: light dark;
+  --ground: #ffffff;
+  --raised: #f5f6f8;
+  --ink: #1c232b;
+  --muted: #58636f;
+  --line: #d8dde3;
+  --accent: #1f5fbf;
+  --pass: #8a96a3;
+  --unresolved: #4a5561;
+  --fault: #fdf0d8;
+  --code-0: #b93a0c;
+  --code-1: #1d4ed8;
+  --code-2: #86198f;
+  --code-3: #8f5b00;
+  --code-4: #04724d;
+  --code-5: #0b6f8a;
+  --code-6: #4338ca;
+  --code-7: #57534e;
+}
+
+@media (prefers-color-scheme: dark) {
+  :root {
+    --ground: #14181d;
+    --raised: #1d232a;
+    --ink: #e4e9ee;
+    --muted: #9ba7b4;
+    --line: #37414b;
+    --accent: #86b4f5;
+    --pass: #71808f;
+    --unresolved: #b6c1cc;
+    --fault: #3a2f17;
+    --code-0: #fb8a4c;
+    --code-1: #6ea8fe;
+    --code-2: #e48af5;
+    --code-3: #f2c744;
+    --code-4: #3fcf9b;
+    --code-5: #35cbe6;
+    --code-6: #a9aefb;
+    --code-7: #cfcac4;
+  }
+}
+
+* { box-sizing: border-box; }
+html { scroll-padding-top: 1rem; }
+body {
+  margin: 0 auto;
+  padding: 1.5rem 1rem 4rem;
+  max-width: 70rem;
+  background: var(--ground);
+  color: var(--ink);
+  font: 16px/1.5 system-ui, sans-serif;
+  overflow-wrap: break-word;
+}
+h1, h2, h3, p, ul, ol { margin: 0 0 0.6rem; }
+h1 { font-size: 1.6rem; line-height: 1.25; }
+h2 { font-size: 1.2rem; margin-top: 2.4rem; padding-top: 1rem; border-top: 1px solid var(--line); }
+h3 { font-size: 1rem; }
+a { color: var(--accent); }
+code, pre { font: 0.86em/1.5 ui-monospace, "DejaVu Sans Mono", monospace; }
+pre { margin: 0.6rem 0; padding: 0.8rem; background: var(--raised); border-radius: 6px; white-space: pre-wrap; unicode-bidi: plaintext; }
+code { unicode-bidi: isolate; }
+:focus-visible { outline: 2px solid var(--accent); outline-offset: 2px; }
+header p, section > p { max-width: 48rem; }
+.kind { margin: 0; color: var(--muted); }
+.headline { font-size: 1.25rem; font-weight: 600; }
+.ways, .legend { display: flex; flex-wrap: wrap; gap: 0.2rem 1.4rem; padding: 0; list-style: none; }
+.muted { color: var(--muted); font-size: 0.92rem; }
+h1, .words, .scenario, p code, li, summary { overflow-wrap: anywhere; }
+.whole, .open { padding-left: 0.8rem; border-left: 3px solid var(--line); }
+.whole { border-left-color: var(--accent); }
+.icon { margin-right: 0.4em; vertical-align: -0.1em; }
+/* A name may be very long: what doesn't fit in so many lines can be had from the document. */
+h1, .words, .scenario, td code, .verdict, .ways li, .legend li, .hit, .pointed {
+  display: -webkit-box;
+  -webkit-box-orient: vertical;
+  -webkit-line-clamp: 5;
+  overflow: hidden;
+}
+.verdict { display: -webkit-inline-box; vertical-align: top; -webkit-line-clamp: 2; }
+.scenario { color: var(--muted); user-select: all; }
+button, select, input {
+  max-width: 100%;
+  padding: 0.15rem 0.5rem;
+  font: inherit;
+  color: inherit;
+  background: var(--raised);
+  border: 1px solid var(--line);
+  border-radius: 5px;
+}
+button { cursor: pointer; }
+.more { font-size: 0.9rem; margin: 0.2rem 0; }
+summary { cursor: pointer; }
+#brief { margin-top: 2.4rem; padding-top: 1rem; border-top: 1px solid var(--line); color: var(--muted); }
+
+/* first failures, causes, runs */
+.finding, .chosen:not(:empty) { margin: 0.8rem 0; padding: 0.8rem 1rem; border: 1px solid var(--line); border-radius: 8px; }
+.finding .words, .chosen .words { font-size: 1.08rem; }
+.group { margin: 0.4rem 0; }
+.causes { padding: 0; list-style: none; }
+.causes li { margin: 0.5rem 0; padding-left: 0.8rem; border-left: 2px solid var(--line); }
+.causes p { margin: 0; }
+.scroll { overflow-x: auto; }
+table { border-collapse: collapse; font-size: 0.94rem; }
+th, td { padding: 0.2rem 0.8rem 0.2rem 0; text-align: left; vertical-align: top; border-bottom: 1px solid var(--line); }
+th { font-weight: 600; color: var(--muted); }
+th[scope="row"] { white-space: nowrap; }
+td code, .verdict, td { overflow-wrap: anywhere; }
+.plans td:nth-child(2) { width: 9rem; min-width: 7rem; }
+.plans td:first-child { width: 4rem; }
+.hits td { min-width: 6rem; }
+.hits .number, .plans .number { min-width: 3rem; }
+.points td:first-child { min-width: 12rem; }
+.number { text-align: right; font-variant-numeric: tabular-nums; white-space: nowrap; }
+th.number { white-space: normal; }
+.hits { margin: 0.4rem 0; }
+.hits td, .hits th { border: 0; padding: 0.05rem 1rem 0.05rem 0; }
+.hits .number { color: var(--muted); }
+.hits td[colspan] { color: var(--muted); }
+.hits .fault-line td { background: var(--fault); color: var(--ink); }
+.hits .fault-line td:first-child::before { content: "\25b6\a0"; }
+.fault { text-decoration: underline; text-underline-offset: 3px; }
+.plans { width: 100%; }
+.plans .words { min-width: 11rem; }
+label { min-width: 0; max-width: 100%; }
+.filters { display: flex; flex-wrap: wrap; gap: 0.5rem 1rem; margin: 0 0 0.6rem; }
+
+/* the map */
+.map-box { position: relative; border: 1px solid var(--line); border-radius: 8px; }
+.map { max-height: min(80vh, 60rem); overflow: auto; padding: 0 10px 8px; border-bottom: 1px solid var(--line); scroll-padding: 3rem 1rem 1rem; }
+.map-head, .map-band { display: flex; min-width: max-content; }
+.map-head { position: sticky; top: 0; z-index: 2; padding: 8px 0 4px; background: var(--ground); border-bottom: 1px solid var(--line); margin-bottom: 8px; }
+.map-label {
+  position: sticky;
+  left: 0;
+  z-index: 1;
+  flex: none;
+  width: 168px;
+  padding-right: 10px;
+  overflow: hidden;
+  background: var(--ground);
+  font-size: 0.82rem;
+  line-height: 14px;
+  text-overflow: ellipsis;
+  white-space: nowrap;
+}
+.map-head .map-label { color: var(--muted); line-height: 22px; }
+.map-strips { position: relative; flex: none; }
+.map-head .map-strips { height: 22px; }
+.wide { border-top: 1px dashed var(--line); padding-top: 8px; }
+.narrow .map-band { display: block; }
+.narrow .map-band .map-label { width: max-content; max-width: 20rem; }
+.narrow .map-head .map-label { display: none; }
+.map-column { position: absolute; top: 0; }
+.map-column button { width: 100%; height: 22px; padding: 0; font-size: 0.78rem; line-height: 20px; overflow: hidden; white-space: nowrap; }
+.map-column button[aria-expanded="false"] { border-style: dashed; color: var(--muted); }
+.strip { position: absolute; top: 0; line-height: 0; cursor: pointer; }
+.strip svg { display: block; overflow: visible; }
+.strip .closed { font-size: 0.78rem; line-height: 12px; color: var(--muted); cursor: default; }
+#map-current { position: absolute; pointer-events: none; }
+/* The room of two lines, three where it is narrow. */
+.pointed { -webkit-line-clamp: 2; margin: 0.4rem 10px; height: 2.6rem; font-size: 0.9rem; line-height: 1.3rem; }
+.narrow .pointed { -webkit-line-clamp: 3; height: 3.9rem; }
+.swatch { display: inline-block; width: 13px; height: 13px; margin-right: 0.4em; vertical-align: -0.1em; border: 1.5px solid var(--ink); }
+.mark-pass { fill: var(--pass); }
+.mark-unresolved { fill: var(--unresolved); fill-rule: evenodd; }
+.mark-code-0 { fill: var(--code-0); }
+.mark-code-1 { fill: var(--code-1); }
+.mark-code-2 { fill: var(--code-2); }
+.mark-code-3 { fill: var(--code-3); }
+.mark-code-4 { fill: var(--code-4); }
+.mark-code-5 { fill: var(--code-5); }
+.mark-code-6 { fill: var(--code-6); }
+.mark-code-7 { fill: var(--code-7); }
+.frame-first, .frame-selected, .frame-before { fill: none; stroke: var(--ink); stroke-width: 1.5; }
+.frame-selected { stroke: var(--accent); stroke-width: 3; }
+.frame-before { stroke: var(--accent); stroke-width: 1.5; stroke-dasharray: 3 2; }
+
+@media (max-width: 640px) {
+  body { padding: 1rem 0.7rem 3rem; }
+  .hits td, .hits th { padding-right: 0.5rem; }
+}
+
+@media print {
+  body { max-width: none; padding: 0; font-size: 10.5pt; }
+  .map { max-height: none; overflow: visible; }
+  .map-head { position: static; }
+  .map-band, tr, .causes li { break-inside: avoid; }
+  h2, h3, summary { break-after: avoid; }
+  .run:not([open]) { display: none; }
+  .controls, .filters, .pointed, .more, #brief { display: none; }
+  .fold .more { display: inline; border: 0; padding: 0; background: none; }
+  .mark-pass, .mark-unresolved, svg path, .hits .fault-line td { print-color-adjust: exact; }
+}
+</style>
+</head>
+<body>
+<main id="page"></main>
+<details id="brief" open>
+<summary>The report as text</summary>
+<pre>"###;
+
+/// What stands between that and the document.
+pub const BETWEEN: &str = r###"</pre>
+</details>
+<script type="application/json" id="document">"###;
+
+/// What stands behind the document.
+pub const BEHIND: &str = r###"</script>
+<script>
+"use strict";
+(() => {
+// The plans of a campaign, from what its document tells of them: with a depth they grew, each from an earlier one, without one they follow from the census.
+
+/** @typedef {{point: number, hit: number, kind: string}} Fault */
+/**
+ * A plan that has one fault more than an earlier one, or a text, where it grew from none.
+ * @typedef {{parent: number|null, fault: Fault|null, text: string|null}} Row
+ */
+
+/** @type {Row} */
+const WITHOUT_FAULTS = { parent: null, fault: null, text: "" };
+const BETWEEN_FAULTS = "; ";
+const FAULT = /^(\d+) (\d+) (1\*panic|(?:1\*)?return(?:\(.*\))?)$/s;
+
+/**
+ * The plans that grew: each is an earlier one's text with one fault more. Null stands where a text isn't that.
+ * @param {any} told
+ * @returns {(Row|null)[]}
+ */
+function grownRows({ census, about }) {
+  const numbers = new Map();
+  return about.grown.map((text, number) => {
+    numbers.set(text, number);
+    if (number === 0) return text === "" ? WITHOUT_FAULTS : null;
+    const cut = text.lastIndexOf(BETWEEN_FAULTS);
+    const parent = numbers.get(text.slice(0, Math.max(cut, 0)));
+    const match = FAULT.exec(cut < 0 ? text : text.slice(cut + BETWEEN_FAULTS.length));
+    if (parent === undefined || !match || Number(match[1]) >= census.length) return null;
+    return { parent, fault: { point: Number(match[1]), hit: Number(match[2]), kind: match[3] }, text: null };
+  });
+}
+
+/** The plans at hits of the run without faults: each fails once, from then on, and panics. @param {any} told @returns {Row[]} */
+function hitRows({ census }) {
+  const hits = census.flatMap(({ hits }, point) => Array.from({ length: hits }, (_, index) => ({ point, hit: index + 1 })));
+  return hits.flatMap((hit) => ["1*return", "return", "1*panic"].map((kind) => ({ parent: 0, fault: { ...hit, kind }, text: null })));
+}
+
+/** The plans of two hits: both fail, and the second panics. @param {Row[]} rows those at hits, three of each @returns {Row[]} */
+function pairRows(rows) {
+  const firsts = rows.map((row, index) => ({ fault: row.fault, number: index + 1 })).filter((_, index) => index % 3 === 0);
+  return firsts.flatMap(({ number }, index) => firsts.slice(index + 1).flatMap(({ fault }) =>
+    ["1*return", "1*panic"].map((kind) => ({ parent: number, fault: { ...fault, kind }, text: null }))));
+}
+
+/**
+ * All plans, in the order of their numbers. Null stands for one that can't be read.
+ * @param {any} told
+ * @returns {(Row|null)[]}
+ */
+function rowsOfPlans(told) {
+  const { storms, listed } = told.about;
+  const texts = [...storms, ...listed].map((text) => ({ parent: null, fault: null, text }));
+  if (told.growth) return [...grownRows(told), ...texts];
+  if (told.counts.plans === 0) return texts;
+  const rows = hitRows(told);
+  const pairs = told.counts.plans > 1 + rows.length + texts.length ? pairRows(rows) : [];
+  return [WITHOUT_FAULTS, ...rows, ...pairs, ...texts];
+}
+
+// The syntax of scenarios, that of fail-rs: `POINT=TERM->TERM;POINT=TERM`, a term being `[PERCENT%][COUNT*]TASK[(ARGUMENT)]`.
+
+/** @typedef {{percent: string|null, count: number|null, task: string, argument: string|null}} Term */
+/** @typedef {{point: string, terms: Term[], chain: string}} Entry */
+/**
+ * Where a term acts: at the hits `first` to `last` of its point, counted from 1. `last` is Infinity where it goes on from then on. A term that
+ * acts by chance has no certain hits: `percent` tells how often.
+ * @typedef {{point: string, term: Term, first: number, last: number}} Clause
+ */
+
+/** The point at which a power cut asks for each pending change whether it is kept. */
+const KEEP = "power::keep";
+
+const TASKS = new Set(["off", "yield", "print", "sleep", "delay", "return", "panic", "pause"]);
+const PASSING = new Set(["off", "yield"]);
+const TERM = /^(?:(\d+(?:\.\d{1,4})?)%)?(?:(\d+)\*)?([a-z]+)$/;
+
+/**
+ * @param {string} text
+ * @returns {Term|null}
+ */
+function parseTerm(text) {
+  const opening = text.indexOf("(");
+  if (opening >= 0 && !text.endsWith(")")) return null;
+  const head = opening < 0 ? text : text.slice(0, opening);
+  const match = TERM.exec(head.trim());
+  if (!match || !TASKS.has(match[3])) return null;
+  return {
+    percent: match[1] ?? null,
+    count: match[2] === undefined ? null : Number(match[2]),
+    task: match[3],
+    argument: opening < 0 ? null : text.slice(opening + 1, -1),
+  };
+}
+
+/**
+ * @param {string} piece
+ * @returns {Entry|null}
+ */
+function parseEntry(piece) {
+  const equals = piece.indexOf("=");
+  const point = piece.slice(0, Math.max(equals, 0)).trim();
+  if (point === "") return null;
+  const chain = piece.slice(equals + 1).trim();
+  const terms = chain.split("->").map((term) => parseTerm(term.trim()));
+  return terms.every((term) => term !== null) ? { point, terms: /** @type {Term[]} */ (terms), chain } : null;
+}
+
+/**
+ * The entries of a scenario: none of `none` and of an empty text, null of one that isn't a scenario.
+ * @param {string} text
+ * @returns {Entry[]|null}
+ */
+function parseScenario(text) {
+  if (text === "none") return [];
+  const entries = text.split(";").filter((piece) => piece.trim() !== "").map(parseEntry);
+  return entries.every((entry) => entry !== null) ? /** @type {Entry[]} */ (entries) : null;
+}
+
+/**
+ * Where each term of an entry acts. Beside a term that acts by chance nobody knows which hits another one has: such a chain is one clause, its
+ * task `drawn`.
+ * @param {Entry} entry
+ * @returns {Clause[]}
+ */
+function clausesOfEntry({ point, terms, chain }) {
+  if (terms.length > 1 && terms.some((term) => term.percent !== null)) {
+    return [{ point, term: { percent: null, count: null, task: "drawn", argument: chain }, first: 1, last: Infinity }];
+  }
+  const clauses = [];
+  let next = 1;
+  for (const term of terms) {
+    const last = term.count === null ? Infinity : next + term.count - 1;
+    if (!PASSING.has(term.task) && term.count !== 0) clauses.push({ point, term, first: next, last });
+    next = last + 1;
+  }
+  return clauses;
+}
+
+/**
+ * @param {string} text
+ * @returns {Clause[]|null}
+ */
+function clausesOf(text) {
+  const entries = parseScenario(text);
+  return entries && entries.flatMap(clausesOfEntry);
+}
+
+/**
+ * The terms of one point's faults, in the order of their hits. A fault that goes on from then on takes the same faults right before it into itself.
+ * @param {{hit: number, kind: string}[]} faults
+ */
+function chainOf(faults) {
+  const terms = [];
+  let done = 0;
+  for (const { hit, kind } of faults) {
+    if (hit - 1 > done) terms.push(`${hit - 1 - done}*off`);
+    while (!kind.startsWith("1*") && terms[terms.length - 1] === `1*${kind}`) terms.pop();
+    terms.push(kind);
+    done = hit;
+  }
+  return terms.join("->");
+}
+
+/**
+ * The scenario of faults that each act at one hit, or from there on: as the program spells it, points in the order of the catalogue.
+ * @param {{point: number, hit: number, kind: string}[]} faults
+ * @param {string[]} points
+ */
+function spell(faults, points) {
+  const sorted = [...faults].sort((one, other) => one.point - other.point || one.hit - other.hit);
+  let text = "";
+  for (let begin = 0, end = 0; begin < sorted.length; begin = end) {
+    const { point } = sorted[begin];
+    while (end < sorted.length && sorted[end].point === point) end += 1;
+    text += `${begin > 0 ? ";" : ""}${points[point]}=${chainOf(sorted.slice(begin, end))}`;
+  }
+  return text;
+}
+
+// A run hit by hit, beside another one.
+
+/** @typedef {{point: number, answer: string|null}} Step */
+/** @typedef {{scenario: string, steps: Step[], more: number, end: string|null}} Run */
+/** @typedef {{number: number, point: string, ordinal: number, answer: string|null}} Hit */
+/**
+ * A line of two runs side by side. `same` is where both hit the same and are answered the same.
+ * @typedef {{here: Hit|null, there: Hit|null, same: boolean, fault: boolean}} Line
+ */
+/** @typedef {{fold: false, line: Line}|{fold: true, lines: Line[]}} Piece */
+
+/** A stretch of so many lines that are the same is folded. */
+const FOLDED = 6;
+const KEPT_BEFORE = 2;
+
+/** Where the lines of `explain` are cut: names and tasks may have line feeds. Behind the last hit stands what stopped the run, and which faults were idle. */
+const BEFORE_HIT = /\n(?=hit \d)/;
+const BEHIND_HITS = /\n(?=stopped |idle |$)/;
+
+/**
+ * By what a run is known: its scenario, and where something in it may be left to chance, the plan whose numbers were drawn.
+ * @param {number} number
+ * @param {string} scenario
+ */
+function runKey(number, scenario) {
+  return scenario.includes("%") ? `${number} ${scenario}` : scenario;
+}
+
+/**
+ * The point and the answer of a hit, from its line behind `hit N `; null where the line isn't the next hit of any point. A name may have blanks, and
+ * another one may begin with it: the longest counts.
+ * @param {string} line
+ * @param {Map<string, number>} places
+ * @param {number[]} hits how often each point was hit before
+ * @returns {Step|null}
+ */
+function readHit(line, places, hits) {
+  for (let at = line.lastIndexOf(" "); at > 0; at = line.lastIndexOf(" ", at - 1)) {
+    const point = places.get(line.slice(0, at));
+    const next = point === undefined ? null : `${hits[point] + 1} `;
+    if (next === null || !line.startsWith(next, at + 1)) continue;
+    const task = line.slice(at + 1 + next.length);
+    return { point, answer: task === "go" ? null : task };
+  }
+  return null;
+}
+
+/**
+ * A run, from the lines of `explain`.
+ * @param {string} scenario
+ * @param {{explained: string, left_out?: number}} told
+ * @param {string[]} names
+ * @returns {Run}
+ */
+function readRun(scenario, { explained, left_out: more = 0 }, names) {
+  const places = new Map(names.map((name, place) => [name, place]));
+  const hits = names.map(() => 0);
+  const steps = [];
+  const lines = explained.split(BEFORE_HIT);
+  const [last, ...behind] = lines.pop().split(BEHIND_HITS);
+  for (const line of [...lines, last]) {
+    const head = `hit ${steps.length + 1} `;
+    const step = line.startsWith(head) ? readHit(line.slice(head.length), places, hits) : null;
+    if (step) {
+      hits[step.point] += 1;
+      steps.push(step);
+    } else if (steps.length > 0) steps[steps.length - 1].answer = `${steps[steps.length - 1].answer ?? "go"}\n${line}`;
+  }
+  const stopped = behind.find((line) => line.startsWith("stopped "));
+  return { scenario, steps, more, end: stopped ? stopped.slice("stopped ".length) : null };
+}
+
+/**
+ * @param {Run} run
+ * @param {string[]} names
+ * @returns {Hit[]}
+ */
+function hitsOf(run, names) {
+  const ordinals = new Map();
+  return run.steps.map(({ point, answer }, index) => {
+    const ordinal = (ordinals.get(point) ?? 0) + 1;
+    ordinals.set(point, ordinal);
+    return { number: index + 1, point: names[point], ordinal, answer };
+  });
+}
+
+/** Whether an answer is a fault: the call fails, or the run stops there. @param {string|null} answer */
+function isFault(answer) {
+  return answer !== null && /^(return|panic|pause)/.test(answer);
+}
+
+/** @param {Hit|null} one @param {Hit|null} other */
+function isSame(one, other) {
+  return one !== null && other !== null && one.point === other.point && one.answer === other.answer;
+}
+
+/**
+ * The faults of a scenario of which each acts at one hit, or from there on; none of any other scenario.
+ * @param {string} scenario
+ * @param {string[]} names
+ */
+function singleFaults(scenario, names) {
+  const clauses = clausesOf(scenario) ?? [];
+  const isSingle = ({ term, first, last }) => term.percent === null && term.task !== "drawn" && (last === first || last === Infinity);
+  if (!clauses.every(isSingle)) return [];
+  return clauses.map(({ point, term, first, last }) => {
+    const kind = term.argument === null ? term.task : `${term.task}(${term.argument})`;
+    return { point: names.indexOf(point), hit: first, kind: last === first ? `1*${kind}` : kind };
+  });
+}
+
+/**
+ * The run to look at beside another one: that without the fault which acted last, where it is told, else that without faults.
+ * @param {Map<string, Run>} runs
+ * @param {Run} run
+ * @param {string[]} names
+ * @returns {Run|null}
+ */
+function runBeside(runs, run, names) {
+  if (run.scenario === "") return null;
+  const faults = run.more > 0 ? [] : singleFaults(run.scenario, names);
+  const acted = hitsOf(run, names).flatMap((hit) => faults.filter((fault) => fault.hit === hit.ordinal && names[fault.point] === hit.point));
+  const last = acted[acted.length - 1];
+  const before = last && runs.get(spell(faults.filter((fault) => fault !== last), names));
+  return before ?? runs.get("") ?? null;
+}
+
+/**
+ * Two runs, line by line; `beside` is null where none is told.
+ * @param {Run} run
+ * @param {Run|null} beside
+ * @param {string[]} names
+ * @returns {Line[]}
+ */
+function linesOf(run, beside, names) {
+  const here = hitsOf(run, names);
+  const there = beside ? hitsOf(beside, names) : [];
+  return Array.from({ length: Math.max(here.length, there.length) }, (_, index) => {
+    const one = here[index] ?? null;
+    const other = there[index] ?? null;
+    return { here: one, there: other, same: isSame(one, other), fault: isFault(one?.answer ?? null) };
+  });
+}
+
+/**
+ * Long stretches without a fault, that are the same in both runs, folded.
+ * @param {Line[]} lines
+ * @returns {Piece[]}
+ */
+function foldLines(lines) {
+  const pieces = [];
+  let begin = 0;
+  for (let at = 0; at <= lines.length; at += 1) {
+    if (at < lines.length && lines[at].same && !lines[at].fault) continue;
+    const stretch = lines.slice(begin, at);
+    const folded = stretch.length >= FOLDED ? stretch.length - KEPT_BEFORE : 0;
+    if (folded > 0) pieces.push({ fold: true, lines: stretch.slice(0, folded) });
+    for (const line of stretch.slice(folded)) pieces.push({ fold: false, line });
+    if (at < lines.length) pieces.push({ fold: false, line: lines[at] });
+    begin = at + 1;
+  }
+  return pieces;
+}
+
+// Scenarios, runs and what was tried, in words.
+
+/** @typedef {import("./scenario.js").Clause} Clause */
+/** How a point is called. @typedef {(point: string) => string} Call */
+
+const SHOWN_AS_CODE = /[\u0000-\u001f\u007f-\u009f\u061c\u200b-\u200f\u2028-\u202e\u2060-\u206f\ufeff\ufff9-\uffff]/g;
+
+/**
+ * A text of others, to be shown: characters that can't be seen, or that turn what follows them around, stand as their numbers.
+ * @param {string} text
+ */
+function shown(text) {
+  return text.replace(SHOWN_AS_CODE, (character) => `\u27e8U+${character.charCodeAt(0).toString(16).toUpperCase().padStart(4, "0")}\u27e9`);
+}
+
+/** @param {number} count @param {string} one @param {string} [many] */
+function counted(count, one, many = `${one}s`) {
+  return `${grouped(count)} ${count === 1 ? one : many}`;
+}
+
+/** @param {number} count */
+function grouped(count) {
+  return String(count).replace(/\B(?=(\d{3})+$)/g, "\u202f");
+}
+
+/** @param {number} number */
+function ordinal(number) {
+  const tens = number % 100;
+  const ending = tens >= 11 && tens <= 13 ? "th" : ["th", "st", "nd", "rd"][number % 10] ?? "th";
+  return `${grouped(number)}${ending}`;
+}
+
+/** @param {string[]} texts @param {string} [word] */
+function listed(texts, word = "and") {
+  if (texts.length < 2) return texts.join("");
+  return `${texts.slice(0, -1).join(", ")} ${word} ${texts[texts.length - 1]}`;
+}
+
+/** @param {string} text */
+function sentence(text) {
+  return `${text.charAt(0).toUpperCase()}${text.slice(1)}.`;
+}
+
+/**
+ * How points are called: by what stands behind the last `::`, where no other point is called so; `libc::write@a.db` is `write of a.db`.
+ * @param {string[]} points
+ * @returns {(point: string) => string}
+ */
+function callsOf(points) {
+  const short = points.map(lastOf);
+  const calls = new Map();
+  points.forEach((point, index) => {
+    const alone = short.filter((name) => name === short[index]).length === 1;
+    const [name, ...file] = (alone ? short[index] : point).split("@");
+    calls.set(point, file.length > 0 && name !== "" ? `${name} of ${file.join("@")}` : name || point);
+  });
+  return (point) => calls.get(point) ?? point;
+}
+
+/** @param {string} point */
+function lastOf(point) {
+  const at = point.indexOf("@");
+  const name = at < 0 ? point : point.slice(0, at);
+  const colons = name.lastIndexOf("::");
+  return colons >= 0 && colons + 2 < name.length ? point.slice(colons + 2) : point;
+}
+
+/** @param {Clause} clause @param {Call} call */
+function hitWords({ point, first, last }, call) {
+  const name = call(point);
+  if (last === Infinity) return first === 1 ? `each ${name}` : `each ${name} from the ${ordinal(first)} on`;
+  if (last > first) return `each ${name} from the ${ordinal(first)} to the ${ordinal(last)}`;
+  return `the ${ordinal(first)} ${name}`;
+}
+
+/** @param {string|null} argument */
+function failureWords(argument) {
+  if (argument === null) return "fails";
+  if (/^E[A-Z0-9]+$/.test(argument)) return `fails with ${argument}`;
+  if (argument === "HALF") return "does its first half alone";
+  if (argument === "DROP") return "answers that all is done, and does nothing";
+  return `fails with the text \u201c${argument}\u201d`;
+}
+
+/** @param {Clause} clause @param {Call} call */
+function actWords(clause, call) {
+  const hit = hitWords(clause, call);
+  const { task, argument } = clause.term;
+  switch (task) {
+    case "return": return `${hit} ${failureWords(argument)}`;
+    case "panic": return `the program ends at ${hit}`;
+    case "pause": return `the run is ended at ${hit}`;
+    case "print": return `a note is taken at ${hit}`;
+    case "drawn": return `what ${hit} answers is drawn by ${argument}`;
+    default: return `${hit} takes ${argument} ms more`;
+  }
+}
+
+/** @param {Clause} clause */
+function keptWords({ first, last, term }) {
+  const half = term.argument === null ? "" : term.argument === "HALF" ? "the first half of " : `(${term.argument}) `;
+  if (last === Infinity) return half + (first === 1 ? "each pending change" : `each pending change from the ${ordinal(first)} on`);
+  if (last > first) return `${half}pending changes ${first} to ${last}`;
+  return `${half}the ${ordinal(first)} pending change`;
+}
+
+/** @param {Clause} clause */
+function isKept(clause) {
+  return clause.point === KEEP && clause.term.task === "return" && clause.term.percent === null;
+}
+
+/** @param {Clause} clause @param {Call} call */
+function clauseWords(clause, call) {
+  const { percent } = clause.term;
+  const words = actWords(clause, call);
+  if (percent === null) return words;
+  const times = clause.term.count === null ? "" : `, ${clause.term.count} times at most`;
+  const anywhere = actWords({ ...clause, first: 1, last: Infinity }, call);
+  return `${anywhere} by chance, in ${percent} of 100${times}`;
+}
+
+/**
+ * What happens where these clauses act. What the power cut keeps stands last, as the cut comes at the end.
+ * @param {Clause[]} clauses
+ * @param {Call} call
+ */
+function wordsOfClauses(clauses, call) {
+  if (clauses.length === 0) return "no fault";
+  const kept = clauses.filter(isKept);
+  const parts = clauses.filter((clause) => !isKept(clause)).map((clause) => clauseWords(clause, call));
+  if (kept.length > 0) parts.push(`the power cut keeps ${listed(kept.map(keptWords))}`);
+  return parts.join("; ");
+}
+
+/**
+ * @param {string} scenario
+ * @param {Call} call
+ */
+function wordsOfScenario(scenario, call) {
+  const clauses = clausesOf(scenario);
+  return clauses === null ? "a scenario that this page can't put in words" : wordsOfClauses(clauses, call);
+}
+
+/**
+ * A kind of fault, as `return(ENOSPC)`, in words.
+ * @param {string} kind
+ */
+function wordsOfKind(kind) {
+  return kind === "return" || kind === "panic" ? `a ${kind}` : kind;
+}
+
+/**
+ * A word of a command, as a shell reads it.
+ * @param {string} word
+ */
+function quoted(word) {
+  return /^[A-Za-z0-9_./=:@%+,-]+$/.test(word) ? word : `'${word.replace(/'/g, "'\\''")}'`;
+}
+
+// Reads the report's document, checks it against what docs/report.schema.json says, and makes of it the campaign that the page shows.
+
+/** @typedef {"pass"|"fail"|"unresolved"} Verdict */
+/** @typedef {import("./grown.js").Fault} Fault */
+/**
+ * A part of the list of plans: `none`, `hits`, `pairs` without a depth; `level`, `onward` with one; `storms`, `listed`.
+ * @typedef {{name: string, level: number|null, first: number, count: number}} Part
+ */
+/**
+ * @typedef {{number: number, verdict: Verdict, code: string|null, part: Part, parent: number|null, fault: Fault|null, text: string}} Plan
+ */
+
+/** A document that can't be shown, with the first things that are wrong with it. */
+class ReadError extends Error {
+  /** @param {string[]} problems */
+  constructor(problems) {
+    super(problems.slice(0, 5).join("; "));
+    this.problems = problems;
+  }
+}
+
+const VERSION = 1;
+const VERDICTS = ["pass", "fail", "unresolved"];
+
+// ---- the checks: each tells what is wrong at a path
+
+/** @typedef {(value: any, path: string) => string[]} Check */
+
+/** @param {string} what @param {(value: any) => boolean} holds @returns {Check} */
+const is = (what, holds) => (value, path) => (holds(value) ? [] : [`${path} isn't ${what}`]);
+const isCount = (value) => Number.isInteger(value) && value >= 0;
+const count = is("a whole number from 0", isCount);
+const text = is("a text", (value) => typeof value === "string");
+const digits = is("a text of digits", (value) => typeof value === "string" && /^(0|[1-9][0-9]*)$/.test(value));
+const verdict = is("a verdict", (value) => VERDICTS.includes(value));
+const orNull = (check) => (value, path) => (value === null ? [] : check(value, path));
+
+/** @param {Check} check @returns {Check} */
+const list = (check) => (value, path) =>
+  Array.isArray(value) ? value.flatMap((item, index) => check(item, `${path}[${index}]`)) : [`${path} isn't a list`];
+
+/** @param {Record<string, Check>} needed @param {Record<string, Check>} [optional] @returns {Check} */
+const members = (needed, optional = {}) => (value, path) => {
+  if (value === null || typeof value !== "object" || Array.isArray(value)) return [`${path} isn't an object`];
+  const lacking = Object.keys(needed).filter((name) => !Object.hasOwn(value, name)).map((name) => `${path}.${name} lacks`);
+  const wrong = Object.entries({ ...needed, ...optional })
+    .filter(([name]) => Object.hasOwn(value, name))
+    .flatMap(([name, check]) => check(value[name], `${path}.${name}`));
+  return [...lacking, ...wrong];
+};
+
+const points = list(members({ point: text, hits: count }));
+const growth = members(
+  {
+    depth: count, levels: list(count), onward: count, beyond: count, reached: points,
+    causes: list(members({ number: count, code: text, scenario: text })),
+  },
+  { unseen: count },
+);
+const run = members({ explained: text }, { left_out: count });
+const about = members({
+  program_version: text, told_by: is("target or answers", (value) => value === "target" || value === "answers"), command: text, settings: text,
+  storms: list(text), listed: list(text), grown: list(text), clean_run: orNull(run), finding_runs: list(run), cause_runs: list(run),
+});
+const report = members(
+  {
+    label: text, seed: digits, census: points, clean: members({ verdict, code: orNull(text) }),
+    counts: members({ plans: count, pass: count, fail: count, unresolved: count }),
+    not_passed: list(members({ number: count, verdict, code: orNull(text), scenario: text })),
+    findings: list(members({ number: count, code: text, scenario: text, reduced: text, tests: count })),
+    growth: orNull(growth), about,
+  },
+  { unmet: count },
+);
+
+/** What holds between members. @param {any} told @returns {string[]} */
+function contradictions(told) {
+  const { counts, not_passed: notPassed, findings, growth, about } = told;
+  const found = [];
+  if (counts.pass + counts.fail + counts.unresolved !== counts.plans) found.push("the counts don't add up");
+  if (notPassed.length !== counts.fail + counts.unresolved) found.push("not_passed doesn't have as many plans as are counted");
+  if ([...notPassed, ...findings, ...(growth?.causes ?? [])].some((item) => item.number >= counts.plans)) found.push("a plan has a number that no plan has");
+  const grew = growth ? growth.levels.reduce((sum, size) => sum + size, growth.onward) : 0;
+  if (about.grown.length !== grew) found.push("about.grown doesn't have as many plans as grew");
+  if (about.finding_runs.length > findings.length) found.push("about.finding_runs has more runs than there are findings");
+  if (about.cause_runs.length > (growth?.causes.length ?? 0)) found.push("about.cause_runs has more runs than there are causes");
+  const parts = partsOf(told);
+  const inParts = parts.reduce((sum, part) => sum + part.count, 0);
+  if (inParts !== counts.plans || parts.some((part) => part.count < 0)) found.push("the parts of the list don't add up");
+  return found;
+}
+
+/**
+ * The document, checked. A version that this page doesn't know is refused, members that it doesn't know are passed over.
+ * @param {string} json
+ */
+function readDocument(json) {
+  let told;
+  try {
+    told = JSON.parse(json);
+  } catch (error) {
+    throw new ReadError([`this is no JSON: ${error.message}`]);
+  }
+  if (told === null || typeof told !== "object" || Array.isArray(told)) throw new ReadError(["the document isn't an object"]);
+  if (told.version !== VERSION) throw new ReadError([`the document has version ${JSON.stringify(told.version)}, and this page shows version ${VERSION}`]);
+  const problems = report(told, "document");
+  const found = problems.length > 0 ? problems : contradictions(told);
+  if (found.length > 0) throw new ReadError(found);
+  return told;
+}
+
+// ---- the campaign
+
+/**
+ * The parts of the list of plans, in the order of their numbers; none is empty but for level 0.
+ * @param {any} told
+ * @returns {Part[]}
+ */
+function partsOf(told) {
+  const { growth, counts, census, about: { storms, listed } } = told;
+  const sizes = [];
+  if (growth) {
+    growth.levels.forEach((size, level) => sizes.push(["level", level, size]));
+    sizes.push(["onward", growth.depth, growth.onward]);
+  } else {
+    const hits = 3 * census.reduce((sum, point) => sum + point.hits, 0);
+    sizes.push(["none", 0, Math.min(1, counts.plans)], ["hits", 1, Math.min(hits, Math.max(0, counts.plans - 1))]);
+    const before = sizes.reduce((sum, [, , size]) => sum + size, 0);
+    sizes.push(["pairs", 2, counts.plans - before - storms.length - listed.length]);
+  }
+  sizes.push(["storms", null, storms.length], ["listed", null, listed.length]);
+  return numbered(sizes.filter(([, , size]) => size !== 0));
+}
+
+/** @param {[string, number|null, number][]} sizes @returns {Part[]} */
+function numbered(sizes) {
+  let first = 0;
+  return sizes.map(([name, level, count]) => {
+    const part = { name, level, first, count };
+    first += count;
+    return part;
+  });
+}
+
+/** @param {any} told @param {Part[]} parts @returns {Plan[]} */
+function plansOf(told, parts) {
+  const notPassed = new Map(told.not_passed.map((item) => [item.number, item]));
+  const rows = rowsOfPlans(told);
+  if (rows.length !== told.counts.plans) throw new ReadError(["the plans that are told aren't as many as are counted"]);
+  if (rows.includes(null)) throw new ReadError([`about.grown[${rows.indexOf(null)}] isn't a plan that grew`]);
+  const planAt = (number, part) => {
+    const item = notPassed.get(number);
+    const { parent, fault, text } = rows[number];
+    return { number, part, verdict: item?.verdict ?? "pass", code: item?.code ?? null, parent, fault, text: item?.scenario ?? text };
+  };
+  return parts.flatMap((part) => Array.from({ length: part.count }, (_, index) => planAt(part.first + index, part)));
+}
+
+/** The runs that a document tells, by their keys. @param {any} told @param {string[]} names */
+function runsOf({ findings, growth, about }, names) {
+  const told = [
+    ...(about.clean_run ? [[0, "", about.clean_run]] : []),
+    ...about.finding_runs.map((run, index) => [findings[index].number, findings[index].reduced, run]),
+    ...about.cause_runs.map((run, index) => [growth.causes[index].number, growth.causes[index].scenario, run]),
+  ];
+  return new Map(told.map(([number, scenario, run]) => [runKey(number, scenario), readRun(scenario, run, names)]));
+}
+
+/**
+ * The campaign that a checked document tells.
+ * @param {any} told
+ */
+function campaignOf(told) {
+  const parts = partsOf(told);
+  const plans = plansOf(told, parts);
+  const byNumber = new Map(plans.map((plan) => [plan.number, plan]));
+  const codes = [...new Set(told.findings.map((finding) => finding.code))];
+  const reached = told.growth && new Map(told.growth.reached.map((item) => [item.point, item.hits]));
+  const names = told.census.map((item) => item.point);
+  const campaign = {
+    told, parts, plans, byNumber, codes, names, call: callsOf(names),
+    points: told.census.map(({ point, hits }) => ({ point, clean: hits, reached: reached ? reached.get(point) ?? null : null })),
+    runs: runsOf(told, names),
+  };
+  for (const plan of plans) plan.text ??= spell(faultsOf(campaign, plan), names);
+  return campaign;
+}
+
+/**
+ * The faults of a plan that grew from others, in the order of time; none of any other plan.
+ * @param {{byNumber: Map<number, Plan>}} campaign
+ * @param {Plan} plan
+ * @returns {Fault[]}
+ */
+function faultsOf(campaign, plan) {
+  const faults = [];
+  for (let one = plan; one?.fault; one = campaign.byNumber.get(one.parent)) faults.push(one.fault);
+  return faults.reverse();
+}
+
+/** The name of a plan's part, as filters know it. @param {Plan} plan */
+function levelKeyOf(plan) {
+  const { name, level } = plan.part;
+  return name === "level" || name === "none" || name === "hits" || name === "pairs" ? String(level) : name;
+}
+
+/**
+ * The plans that a filter lets through; a member that is empty lets all.
+ * @param {{plans: Plan[], byNumber: Map<number, Plan>, names: string[]}} campaign
+ * @param {{verdict?: string, point?: string, level?: string, text?: string}} filter `verdict` is a verdict, or `fail` and a code behind a blank; `text` stands
+ *   in the scenario, small or large, or in the number
+ */
+function filterPlans(campaign, { verdict = "", point = "", level = "", text = "" }) {
+  const wanted = text.trim();
+  const pattern = new RegExp(wanted.replace(/[\\^$.*+?()[\]{}|]/g, "\\$&"), "i");
+  return campaign.plans.filter((plan) =>
+    (verdict === "" || verdict === plan.verdict || (plan.code !== null && verdict === `${plan.verdict} ${plan.code}`))
+    && (level === "" || level === levelKeyOf(plan))
+    && (point === "" || hasFaultAt(campaign, plan, point))
+    && (wanted === "" || pattern.test(plan.text) || String(plan.number).includes(wanted)));
+}
+
+/** Whether a plan has a fault at this point. @param {any} campaign @param {Plan} plan @param {string} point */
+function hasFaultAt({ byNumber, names }, plan, point) {
+  if (!plan.fault) return (clausesOf(plan.text) ?? []).some((clause) => clause.point === point);
+  for (let one = plan; one?.fault; one = byNumber.get(one.parent)) if (names[one.fault.point] === point) return true;
+  return false;
+}
+
+// Plans in words.
+
+/** @typedef {import("./document.js").Plan} Plan */
+
+/** A plan in words. One that grew has its faults in the order of time. @param {any} campaign @param {Plan} plan */
+function planWords(campaign, plan) {
+  const { names, call } = campaign;
+  if (!plan.fault) return wordsOfScenario(plan.text, call);
+  const clauses = faultsOf(campaign, plan).map(({ point, hit, kind }) =>
+    ({ point: names[point], term: parseTerm(kind), first: hit, last: kind.startsWith("1*") ? hit : Infinity }));
+  return wordsOfClauses(clauses, call);
+}
+
+/**
+ * A scenario that a plan has, or that its own is reduced to.
+ * @param {any} campaign
+ * @param {number} number
+ * @param {string} scenario
+ */
+function wordsOfNumbered(campaign, number, scenario) {
+  const plan = campaign.byNumber.get(number);
+  return plan.text === scenario ? planWords(campaign, plan) : wordsOfScenario(scenario, campaign.call);
+}
+
+/**
+ * Scenarios grouped by the calls that they have a fault at, in the order of the first of each group.
+ * @template {{scenario: string}} T
+ * @param {T[]} items
+ * @returns {{points: string[], items: T[]}[]}
+ */
+function groupByCalls(items) {
+  const groups = new Map();
+  for (const item of items) {
+    const points = [...new Set((clausesOf(item.scenario) ?? []).map((clause) => clause.point))];
+    const key = JSON.stringify(points);
+    if (!groups.has(key)) groups.set(key, { points, items: [] });
+    groups.get(key).items.push(item);
+  }
+  return [...groups.values()];
+}
+
+/** The command that tells a plan's run hit by hit. @param {{told_by: string}} about @param {Plan} plan */
+function explainCommand({ told_by: toldBy }, plan) {
+  if (toldBy === "target") return `paklour explain --plan ${plan.number} FILE`;
+  return `paklour report --explain ${plan.text === "" ? "none" : quoted(plan.text)} FILE < ANSWERS`;
+}
+
+/** How many plans grew from one, and how many of these fail. @param {any} campaign @param {number} number */
+function descendantsOf(campaign, number) {
+  const among = new Set([number]);
+  let fail = 0;
+  for (const plan of campaign.plans) {
+    if (plan.parent === null || plan.number <= number || !among.has(plan.parent)) continue;
+    among.add(plan.number);
+    if (plan.verdict === "fail") fail += 1;
+  }
+  return { plans: among.size - 1, fail };
+}
+
+// How a verdict is marked: by a shape and a colour, so that either alone tells codes apart.
+
+/** As many shapes there are, and as many colours (style.css has them as --code-0 and on). */
+const SHAPES = 8;
+
+/**
+ * @param {{verdict: string, code: string|null}} plan
+ * @param {string[]} codes
+ * @returns {number} 0 of a pass, 1 of what is unresolved, from 2 on of the codes in their order
+ */
+function markOf({ verdict, code }, codes) {
+  if (verdict === "pass") return 0;
+  return verdict === "unresolved" ? 1 : 2 + Math.max(0, codes.indexOf(code));
+}
+
+/** The class that colours a mark: each shape comes in each colour before a mark comes again. @param {number} mark */
+function markClass(mark) {
+  if (mark < 2) return mark === 0 ? "mark-pass" : "mark-unresolved";
+  const code = mark - 2;
+  return `mark-code-${(code + Math.floor(code / SHAPES)) % SHAPES}`;
+}
+
+/** @typedef {(x: number, y: number, s: number) => string} Shape */
+
+/** @type {Shape[]} */
+const CODE_SHAPES = [
+  (x, y, s) => `M${x} ${y}h${s}v${s}h${-s}z`,
+  (x, y, s) => `M${x + s / 2} ${y}l${s / 2} ${s / 2}l${-s / 2} ${s / 2}l${-s / 2} ${-s / 2}z`,
+  (x, y, s) => `M${x + s / 2} ${y}l${s / 2} ${s}h${-s}z`,
+  (x, y, s) => cross(x, y, s, s / 4),
+  (x, y, s) => `M${x} ${y + s / 2}a${s / 2} ${s / 2} 0 1 0 ${s} 0a${s / 2} ${s / 2} 0 1 0 ${-s} 0z`,
+  (x, y, s) => `M${x} ${y}h${s}l${-s / 2} ${s}z`,
+  (x, y, s) => `M${x} ${y}h${s}v${s * 0.35}h${-s}zM${x} ${y + s * 0.65}h${s}v${s * 0.35}h${-s}z`,
+  (x, y, s) => `M${x} ${y}h${s}l${-s} ${s}h${s}z`,
+];
+
+/** @param {number} x @param {number} y @param {number} s @param {number} w */
+function cross(x, y, s, w) {
+  const arm = s / 2 - w;
+  const turns = [[w, -w], [arm, arm], [arm, -arm], [w, w], [-arm, arm], [arm, arm], [-w, w], [-arm, -arm], [-arm, arm], [-w, -w], [arm, -arm]];
+  return `M${x} ${y + w}${turns.map(([right, down]) => `l${right} ${down}`).join("")}z`;
+}
+
+/**
+ * The outline of a mark in a cell: a pass is a small square, what is unresolved a frame, each code a shape of its own.
+ * @param {number} mark
+ * @param {number} x
+ * @param {number} y
+ * @param {number} cell
+ */
+function markPath(mark, x, y, cell) {
+  if (mark === 0) {
+    const side = Math.round(cell / 3);
+    const inset = (cell - side) / 2;
+    return `M${x + inset} ${y + inset}h${side}v${side}h${-side}z`;
+  }
+  const side = cell - 3;
+  if (mark > 1) return CODE_SHAPES[(mark - 2) % SHAPES](x + 1.5, y + 1.5, side);
+  const inner = side - 4;
+  return `M${x + 1.5} ${y + 1.5}h${side}v${side}h${-side}zM${x + 3.5} ${y + 3.5}v${inner}h${inner}v${-inner}z`;
+}
+
+/** A frame around a cell. @param {number} x @param {number} y @param {number} cell */
+function framePath(x, y, cell) {
+  return `M${x} ${y}h${cell}v${cell}h${-cell}z`;
+}
+
+// Elements, made without a text ever being read as HTML: what a document names goes into text nodes and attributes alone.
+
+const SVG = "http://www.w3.org/2000/svg";
+
+/** @typedef {Node|string|null} Child */
+
+/**
+ * @param {string} name
+ * @param {Record<string, string|number|boolean|null>} [attributes] one that is null or false is left out
+ * @param {...Child} children
+ * @returns {HTMLElement}
+ */
+function element(name, attributes = {}, ...children) {
+  return /** @type {HTMLElement} */ (filled(document.createElement(name), attributes, children));
+}
+
+/** @param {string} name @param {Record<string, string|number>} [attributes] @param {...Child} children */
+function svgElement(name, attributes = {}, ...children) {
+  return filled(document.createElementNS(SVG, name), attributes, children);
+}
+
+/** @param {Element} made @param {Record<string, string|number|boolean|null>} attributes @param {Child[]} children */
+function filled(made, attributes, children) {
+  for (const [key, value] of Object.entries(attributes)) {
+    if (value !== null && value !== false) made.setAttribute(key, value === true ? "" : shown(String(value)));
+  }
+  made.append(...children.filter((child) => child !== null).map((child) => (typeof child === "string" ? shown(child) : child)));
+  return made;
+}
+
+/** A text of several lines, as it stands. @param {string} text */
+function preformatted(text) {
+  const lines = text.split("\n").map((line) => line.split("\t").map(shown).join("\t"));
+  const made = element("pre");
+  made.append(lines.join("\n"));
+  return made;
+}
+
+/** A mark as it stands in the map. @param {number} mark @param {number} [size] */
+function markIcon(mark, size = 13) {
+  const path = svgElement("path", { d: markPath(mark, 0, 0, size), class: markClass(mark) });
+  return svgElement("svg", { class: "icon", width: size, height: size, viewBox: `0 0 ${size} ${size}`, "aria-hidden": "true" }, path);
+}
+
+/** @param {string} title @param {string} id @param {...Child} children */
+function section(title, id, ...children) {
+  return element("section", { id, "aria-labelledby": `${id}-title` }, element("h2", { id: `${id}-title` }, title), ...children);
+}
+
+/**
+ * A list of which the first members are shown, and a button that shows as many more again.
+ * @template T
+ * @param {T[]} items
+ * @param {number} step
+ * @param {HTMLElement} into
+ * @param {(item: T) => Node} draw
+ * @returns {HTMLElement} the button, hidden where all is shown
+ */
+function drawSome(items, step, into, draw) {
+  let done = 0;
+  const button = element("button", { type: "button", class: "more" });
+  const more = () => {
+    into.append(...items.slice(done, done + step).map(draw));
+    done = Math.min(items.length, done + step);
+    button.textContent = `Show ${Math.min(step, items.length - done)} more of ${items.length - done}`;
+    button.hidden = done === items.length;
+  };
+  button.addEventListener("click", more);
+  more();
+  return button;
+}
+
+// Where each plan of a campaign lies in the map. Down the map stand the first faults, in the order of the run without faults; across it the levels, side by
+// side. Where a first fault and a level meet, a strip holds the plans that begin with that fault, in lines of cells, in the order of their numbers.
+
+/** @typedef {import("./document.js").Plan} Plan */
+/** @typedef {{key: string, level: number|null, plans: number, open: boolean, slots: number, left: number, width: number}} Column */
+/** @typedef {{column: number|null, left: number, slots: number, numbers: number[]}} Strip */
+/** @typedef {{row: number, part: number, top: number, firstLine: number, lines: number, height: number, strips: Strip[]}} Band */
+/** @typedef {{kind: "none"|"site"|"wide", point: string|null, hit: number, name: string|null}} Row */
+/**
+ * @typedef {{cell: number, gap: number, width: number, height: number, rows: Row[], columns: Column[], bands: Band[],
+ *   lineBands: number[], places: Map<number, {band: number, strip: number, index: number}>}} Layout
+ */
+
+/** Between two columns, and between two bands; between bands of one line each there is less. */
+const GAP = 10;
+const TIGHT = 4;
+/** The room of a closed column: its count is told there. */
+const CLOSED = 44;
+/** As many lines has a band at most, so that a page that is printed can end between two. */
+const LINES = 24;
+
+const FEWEST_SLOTS = 4;
+
+/**
+ * The rows of the map, and the row of each plan: the run without faults; a first fault's hit; a list that didn't grow (storms and the like).
+ * @param {{plans: Plan[], byNumber: Map<number, Plan>, names: string[]}} campaign
+ */
+function rowsOf(campaign) {
+  const rows = [];
+  const indexes = new Map();
+  const rowOf = new Map();
+  const add = (key, row) => {
+    if (!indexes.has(key)) indexes.set(key, rows.push(row) - 1);
+    return indexes.get(key);
+  };
+  for (const plan of campaign.plans) rowOf.set(plan.number, rowOfPlan(plan, campaign, rowOf, add));
+  return { rows, rowOf };
+}
+
+/** @param {Plan} plan @param {{names: string[]}} campaign @param {Map<number, number>} rowOf @param {(key: string, row: Row) => number} add */
+function rowOfPlan(plan, { names }, rowOf, add) {
+  const { name, level } = plan.part;
+  if (name === "storms" || name === "listed") return add(name, { kind: "wide", point: null, hit: 0, name });
+  if (level === 0 && name !== "onward") return add("none", { kind: "none", point: null, hit: 0, name: null });
+  if (plan.parent) return rowOf.get(plan.parent);
+  const { point, hit } = plan.fault;
+  return add(`${hit} ${point}`, { kind: "site", point: names[point], hit, name: null });
+}
+
+/**
+ * How many cells a line has in each column, of so many in all: each column gets a few, and of the rest as much as its share of the plans, but none more than
+ * its longest strip.
+ * @param {{plans: number, longest: number}[]} columns
+ * @param {number} room
+ * @returns {number[]}
+ */
+function shareSlots(columns, room) {
+  const slots = columns.map(({ longest }) => Math.min(longest, FEWEST_SLOTS));
+  let left = room - slots.reduce((sum, count) => sum + count, 0);
+  let growing = columns.map((_, index) => index).filter((index) => slots[index] < columns[index].longest);
+  while (left > 0 && growing.length > 0) {
+    const plans = growing.reduce((sum, index) => sum + columns[index].plans, 0);
+    const before = left;
+    for (const index of growing) {
+      const more = Math.min(Math.ceil((before * columns[index].plans) / plans), columns[index].longest - slots[index], left);
+      slots[index] += more;
+      left -= more;
+    }
+    growing = growing.filter((index) => slots[index] < columns[index].longest);
+  }
+  return slots;
+}
+
+/**
+ * The strips of each row: for each column, or across all of them, the numbers of the plans.
+ * @param {{plans: Plan[]}} campaign
+ * @param {Row[]} rows
+ * @param {Map<number, number>} rowOf
+ */
+function gather(campaign, rows, rowOf) {
+  const strips = rows.map(() => new Map());
+  for (const plan of campaign.plans) {
+    const row = rowOf.get(plan.number);
+    const key = rows[row].kind === "wide" ? null : levelKeyOf(plan);
+    const numbers = strips[row].get(key);
+    if (numbers) numbers.push(plan.number);
+    else strips[row].set(key, [plan.number]);
+  }
+  return strips;
+}
+
+/**
+ * @param {{parts: {name: string, level: number|null, count: number}[], plans: Plan[]}} campaign
+ * @param {Map<string|null, number[]>[]} strips
+ * @param {{width: number, cell: number, closed: Set<string>}} options
+ * @returns {Column[]}
+ */
+function columnsOf(campaign, strips, { width, cell, closed }) {
+  const keys = [];
+  for (const part of campaign.parts) if (part.level !== null) keys.push({ key: levelKeyOf({ part }), level: part.level });
+  const sizes = keys.map(({ key }) => {
+    const lengths = strips.map((strip) => strip.get(key)?.length ?? 0);
+    return { plans: lengths.reduce((sum, length) => sum + length, 0), longest: Math.max(1, ...lengths) };
+  });
+  const opened = keys.map(({ key }) => !closed.has(key));
+  const room = Math.floor((width - keys.length * GAP - opened.filter((open) => !open).length * CLOSED) / cell);
+  const shares = shareSlots(sizes.filter((_, index) => opened[index]), room);
+  let left = 0;
+  return keys.map(({ key, level }, index) => {
+    const slots = opened[index] ? shares.shift() : 0;
+    const column = { key, level, plans: sizes[index].plans, open: opened[index], slots, left, width: opened[index] ? slots * cell : CLOSED };
+    left += column.width + GAP;
+    return column;
+  });
+}
+
+/**
+ * The bands of a row: as many as its longest strip needs.
+ * @param {Map<string|null, number[]>} strips
+ * @param {number} row
+ * @param {Column[]} columns
+ * @param {{width: number, cell: number}} options
+ */
+function bandsOf(strips, row, columns, { width, cell }) {
+  const whole = [...strips].map(([key, numbers]) => {
+    const column = key === null ? null : columns.findIndex((one) => one.key === key);
+    const wide = { left: 0, open: true, slots: Math.max(FEWEST_SLOTS, Math.floor(width / cell)) };
+    const { left, slots, open } = column === null ? wide : columns[column];
+    return { column, left, slots, open, numbers };
+  });
+  const lines = Math.max(1, ...whole.map((strip) => (strip.open ? Math.ceil(strip.numbers.length / strip.slots) : 1)));
+  return Array.from({ length: Math.ceil(lines / LINES) }, (_, part) => ({
+    row, part,
+    strips: whole
+      .map(({ open, ...strip }) => ({
+        ...strip,
+        numbers: open ? strip.numbers.slice(part * LINES * strip.slots, (part + 1) * LINES * strip.slots) : part === 0 ? strip.numbers : [],
+      }))
+      .filter((strip) => strip.numbers.length > 0)
+      .sort((one, other) => one.left - other.left),
+    lines: Math.min(LINES, lines - part * LINES),
+  }));
+}
+
+/**
+ * The map of a campaign, `width` wide where its levels find room in that, with cells of this size. Plans of closed levels have no place.
+ * @param {any} campaign
+ * @param {{width: number, cell: number, closed?: Set<string>}} options
+ * @returns {Layout}
+ */
+function layoutMap(campaign, { width, cell, closed = new Set() }) {
+  const { rows, rowOf } = rowsOf(campaign);
+  const strips = gather(campaign, rows, rowOf);
+  const columns = columnsOf(campaign, strips, { width, cell, closed });
+  const whole = Math.max(width, ...columns.map((column) => column.left + column.width));
+  const unstacked = strips.flatMap((strip, row) => bandsOf(strip, row, columns, { width: whole, cell }));
+  const gap = unstacked.every((band) => band.lines === 1) ? TIGHT : GAP;
+  const bands = stack(unstacked, cell, gap);
+  const lineBands = bands.flatMap((band, index) => Array.from({ length: band.lines }, () => index));
+  const height = bands.reduce((sum, band) => sum + band.height + gap, 0);
+  return { cell, gap, width: whole, height, rows, columns, bands, lineBands, places: placesOf(bands) };
+}
+
+/** One band below the other. @param {{lines: number}[]} bands @param {number} cell @param {number} gap @returns {Band[]} */
+function stack(bands, cell, gap) {
+  let top = 0;
+  let firstLine = 0;
+  return bands.map((band) => {
+    const placed = { ...band, top, firstLine, height: band.lines * cell };
+    top += placed.height + gap;
+    firstLine += band.lines;
+    return placed;
+  });
+}
+
+/** @param {Band[]} bands */
+function placesOf(bands) {
+  const places = new Map();
+  bands.forEach((band, index) => band.strips.forEach((strip, at) => {
+    if (strip.slots > 0) strip.numbers.forEach((number, slot) => places.set(number, { band: index, strip: at, index: slot }));
+  }));
+  return places;
+}
+
+/**
+ * Where a plan's cell begins; null of a plan that has no place.
+ * @param {Layout} layout
+ * @param {number} number
+ */
+function placeOf(layout, number) {
+  const place = layout.places.get(number);
+  if (!place) return null;
+  const band = layout.bands[place.band];
+  const strip = band.strips[place.strip];
+  return {
+    x: strip.left + (place.index % strip.slots) * layout.cell,
+    y: band.top + Math.floor(place.index / strip.slots) * layout.cell,
+  };
+}
+
+/**
+ * The plan at a place of a strip; null where none is.
+ * @param {Strip} strip
+ * @param {number} cell
+ * @param {number} x from the strip's left
+ * @param {number} y from the band's top
+ */
+function planIn(strip, cell, x, y) {
+  const slot = Math.floor(x / cell);
+  if (slot < 0 || slot >= strip.slots || y < 0) return null;
+  return strip.numbers[Math.floor(y / cell) * strip.slots + slot] ?? null;
+}
+
+/** The cells of a line, of all lines of the map. @param {Layout} layout @param {number} at */
+function lineAt(layout, at) {
+  const band = layout.bands[layout.lineBands[at]];
+  const line = at - band.firstLine;
+  return band.strips.filter((strip) => strip.slots > 0).flatMap((strip) =>
+    strip.numbers.slice(line * strip.slots, (line + 1) * strip.slots).map((number, slot) => ({ number, x: strip.left + slot * layout.cell })));
+}
+
+/** The next line that has a cell, from this one in this direction. @param {Layout} layout @param {number} line @param {1|-1} step */
+function lineBeside(layout, line, step) {
+  for (let at = line + step; at >= 0 && at < layout.lineBands.length; at += step) {
+    const cells = lineAt(layout, at);
+    if (cells.length > 0) return { line: at, cells };
+  }
+  return null;
+}
+
+/** @param {{number: number, x: number}[]} cells @param {number} x */
+function nearest(cells, x) {
+  return cells.reduce((best, cell) => (Math.abs(cell.x - x) < Math.abs(best.x - x) ? cell : best)).number;
+}
+
+/**
+ * The plan that a key leads to from another: arrows to the next cell, Home and End to the line's ends, Page Up and Page Down by ten lines. Where the map ends,
+ * the plan itself.
+ * @param {Layout} layout
+ * @param {number} number
+ * @param {string} key
+ */
+function planBeside(layout, number, key) {
+  const place = layout.places.get(number);
+  if (!place) return number;
+  const band = layout.bands[place.band];
+  const line = band.firstLine + Math.floor(place.index / band.strips[place.strip].slots);
+  const cells = lineAt(layout, line);
+  const at = cells.findIndex((cell) => cell.number === number);
+  switch (key) {
+    case "ArrowRight": return (cells[at + 1] ?? lineBeside(layout, line, 1)?.cells[0] ?? cells[at]).number;
+    case "ArrowLeft": return (cells[at - 1] ?? lineBeside(layout, line, -1)?.cells.at(-1) ?? cells[at]).number;
+    case "Home": return cells[0].number;
+    case "End": return cells[cells.length - 1].number;
+    case "ArrowDown": return linesAway(layout, line, cells[at], 1);
+    case "ArrowUp": return linesAway(layout, line, cells[at], -1);
+    case "PageDown": return linesAway(layout, line, cells[at], 10);
+    case "PageUp": return linesAway(layout, line, cells[at], -10);
+    default: return number;
+  }
+}
+
+/** @param {Layout} layout @param {number} line @param {{number: number, x: number}} cell @param {number} lines */
+function linesAway(layout, line, cell, lines) {
+  let found = { line, cells: [cell] };
+  for (let left = Math.abs(lines); left > 0; left -= 1) found = lineBeside(layout, found.line, lines > 0 ? 1 : -1) ?? found;
+  return nearest(found.cells, cell.x);
+}
+
+// What was tried, exactly, and what came of it, in sentences.
+
+/** How many plans fail with each code, in the order of the codes. @param {any} campaign @returns {[string, number][]} */
+function failuresByCode({ told, codes }) {
+  return codes.map((code) => [code, told.not_passed.filter((item) => item.verdict === "fail" && item.code === code).length]);
+}
+
+/** What came of it. @param {any} campaign */
+function headline(campaign) {
+  const { counts, clean } = campaign.told;
+  const plans = counted(counts.plans, "plan");
+  const ended = counts.unresolved === 0 ? "" : `; ${counted(counts.unresolved, "run was", "runs were")} ended without a verdict`;
+  if (counts.fail === 0) return `None of ${plans} fails${ended}.`;
+  const ways = campaign.codes.length === 1 ? "in one way" : `in ${campaign.codes.length} ways`;
+  const already = clean.verdict === "fail" ? "The run without faults fails already: " : "";
+  return `${already}${grouped(counts.fail)} of ${plans} ${counts.fail === 1 ? "fails" : "fail"}, ${ways}${ended}.`;
+}
+
+/**
+ * The kinds of faults that were tried at each point where plans grew, in the order in which they were tried.
+ * @param {any} campaign
+ * @returns {Map<string, string[]>}
+ */
+function kindsByPoint({ plans, names }) {
+  const kinds = names.map(() => new Set());
+  for (const { part, fault } of plans) if (part.name === "level" && fault) kinds[fault.point].add(fault.kind.slice("1*".length));
+  return new Map(names.map((name, point) => [name, [...kinds[point]]]).filter(([, tried]) => tried.length > 0));
+}
+
+/** The points by the kinds that were tried at them, in words, the most common kinds last. @param {Map<string, string[]>} kinds @param {any} campaign */
+function pointsByKinds(kinds, { call }) {
+  const groups = new Map();
+  for (const [point, tried] of kinds) {
+    if (point === KEEP) continue;
+    const words = listed(tried.map(wordsOfKind), "or");
+    groups.set(words, [...(groups.get(words) ?? []), call(point)]);
+  }
+  return [...groups].sort((one, other) => one[1].length - other[1].length);
+}
+
+/** What a fault is, in words. @param {any} campaign */
+function faultsWords(campaign) {
+  const kinds = kindsByPoint(campaign);
+  const groups = pointsByKinds(kinds, campaign);
+  const parts = groups.map(([words, points], index) =>
+    `${words} at ${index < groups.length - 1 ? listed(points) : groups.length > 1 ? "each other point that is hit" : "any point that is hit"}`);
+  if (kinds.has(KEEP)) parts.push(keptKindsWords(kinds.get(KEEP)));
+  return parts.join(", or ");
+}
+
+/** @param {string[]} kinds */
+function keptKindsWords(kinds) {
+  const parts = kinds.map((kind) => (kind === "return" ? "a pending change" : kind === "return(HALF)" ? "the first half of one" : `${kind} of one`));
+  return `${listed(parts, "or")} that the power cut keeps`;
+}
+
+/** @param {any} campaign */
+function triedToDepth(campaign) {
+  const { growth: { depth, onward }, about } = campaign.told;
+  if (about.grown.length <= 1) return ["Tried was the run without faults, and no fault."];
+  const faults = depth === 1 ? "at most one fault acts" : `at most ${depth} faults act`;
+  const sentences = [`Tried was each behaviour in which ${faults}. A fault is ${faultsWords(campaign)}.`];
+  if (onward > 0) sentences.push(`In ${counted(onward, "plan")} more the ${depth === 1 ? "fault" : `last of ${depth} faults`} goes on from then on.`);
+  return sentences;
+}
+
+/** @param {any} campaign */
+function triedAtHits({ parts }) {
+  const size = (name) => parts.find((part) => part.name === name)?.count ?? 0;
+  const hits = size("hits") / 3;
+  if (hits === 0) return ["Tried was the run without faults."];
+  const sentences = [`Tried was one fault at each of ${counted(hits, "hit")} of the run without faults: a return, a return from then on, and a panic.`];
+  if (size("pairs") > 0) sentences.push(`In ${counted(size("pairs"), "plan")} more two of these hits have a fault: both a return, or the second a panic.`);
+  return sentences;
+}
+
+/** What was tried. @param {any} campaign @returns {string[]} */
+function tried(campaign) {
+  const size = (name) => campaign.parts.find((part) => part.name === name)?.count ?? 0;
+  const sentences = campaign.told.growth ? triedToDepth(campaign) : triedAtHits(campaign);
+  if (size("storms") > 0) sentences.push(`${counted(size("storms"), "storm")} ${size("storms") === 1 ? "has" : "have"} faults that were drawn by the seed.`);
+  if (size("listed") > 0) sentences.push(`${counted(size("listed"), "scenario")} ${size("listed") === 1 ? "was" : "were"} listed by the settings.`);
+  return sentences;
+}
+
+const BEYOND = "plan with one fault more isn\u2019t";
+const BEYOND_MANY = "plans with one fault more aren\u2019t";
+
+/** Whether it is whole, and what of it isn't. @param {any} campaign @returns {{whole: boolean, sentences: string[]}} */
+function wholeness({ told }) {
+  const { growth, counts, unmet = 0 } = told;
+  const whole = growth !== null && growth.beyond === 0 && counts.unresolved === 0;
+  const sentences = [];
+  if (growth === null) sentences.push("Not whole: without a depth, hits that only a fault leads to, as those of clean-up, get no fault of their own.");
+  else if (growth.beyond > 0) sentences.push(`Not whole: ${counted(growth.beyond, BEYOND, BEYOND_MANY)} tried.`);
+  else if (whole) sentences.push("Whole: no run has a hit left for one fault more, so more such faults show nothing else.");
+  if (counts.unresolved > 0) sentences.push(endedWords(counts.unresolved, growth !== null && growth.beyond === 0));
+  if (growth?.unseen) sentences.push(`Nobody knows the hits of ${counted(growth.unseen, "ended run")}: nothing grew from there.`);
+  if (unmet > 0) sentences.push(`${counted(unmet, "plan passes without meeting each of its", "plans pass without meeting each of their")} faults.`);
+  return { whole, sentences };
+}
+
+/** What runs mean that were ended. @param {number} ended @param {boolean} wholeElse */
+function endedWords(ended, wholeElse) {
+  if (!wholeElse) return `Besides, ${counted(ended, "run was", "runs were")} ended: what would have come after that isn\u2019t known.`;
+  return `Whole but for ${counted(ended, "run that was", "runs that were")} ended: what would have come after that isn\u2019t tried.`;
+}
+
+/** What holds only if something else does, and what is never in it. @param {any} campaign */
+function limits({ told }) {
+  const sentences = [];
+  if (told.about.told_by === "answers") sentences.push("This was told by answers: it holds of a program that does the same whenever it is answered the same.");
+  sentences.push("Never in it: threads, time, other kinds of faults, other workloads.");
+  return sentences;
+}
+
+/** What a part of the list is called. @param {{name: string, level: number|null}} part */
+function partWords({ name, level }) {
+  switch (name) {
+    case "none": return "no fault";
+    case "level": return level === 0 ? "no fault" : counted(level, "fault");
+    case "hits": return "1 fault";
+    case "pairs": return "2 faults";
+    case "onward": return level === 1 ? "1 fault, from then on" : `${level} faults, the last from then on`;
+    case "storms": return "storms";
+    default: return "listed scenarios";
+  }
+}
+
+/**
+ * What a row of the map is called.
+ * @param {{kind: string, point: string|null, hit: number, name: string|null}} row
+ * @param {(point: string) => string} call
+ */
+function rowWords({ kind, point, hit, name }, call) {
+  if (kind === "none") return "no fault";
+  if (kind === "wide") return partWords({ name, level: null });
+  return `${ordinal(hit)} ${point === KEEP ? "pending change" : call(point)}`;
+}
+
+// Draws the map, and leads pointer and keys to its plans.
+
+/** @typedef {import("./map.js").Layout} Layout */
+/** @typedef {import("./map.js").Band} Band */
+/** @typedef {import("./map.js").Strip} Strip */
+
+const NARROW = 640;
+const LABEL_WIDTH = 168;
+/** What a printed page has room for. */
+const PRINTED_WIDTH = 700;
+/** What the map's box has left and right of it. */
+const SIDES = 24;
+/** A map that would be far taller than this is made wider than its box, and scrolls. */
+const TALL = 12000;
+/** A column's head of this width has words in it. */
+const ROOM_FOR_WORDS = 90;
+const SMALLEST = 12;
+const CELLS = [{ most: 400, size: 20 }, { most: 3000, size: 16 }];
+const HINT = "Point at a mark to see its plan here, or press the arrow keys; a click or Enter tells more.";
+const MOVES = new Set(["ArrowLeft", "ArrowRight", "ArrowUp", "ArrowDown", "Home", "End", "PageUp", "PageDown"]);
+
+/** The size of a cell: large where there are few. @param {number} plans */
+function cellFor(plans) {
+  return CELLS.find(({ most }) => plans <= most)?.size ?? SMALLEST;
+}
+
+/** The marks of a strip, one path for each that it has. @param {any} campaign @param {Strip} strip @param {number} cell */
+function stripPaths(campaign, strip, cell) {
+  const paths = new Map();
+  strip.numbers.forEach((number, index) => {
+    const mark = markOf(campaign.byNumber.get(number), campaign.codes);
+    const path = markPath(mark, (index % strip.slots) * cell, Math.floor(index / strip.slots) * cell, cell);
+    paths.set(mark, (paths.get(mark) ?? "") + path);
+  });
+  return paths;
+}
+
+/** How many plans a strip has, and how many fail. @param {any} campaign @param {Strip} strip */
+function stripWords(campaign, strip) {
+  const fail = strip.numbers.filter((number) => campaign.byNumber.get(number).verdict === "fail").length;
+  return `${counted(strip.numbers.length, "plan")}${fail > 0 ? `, ${grouped(fail)} ${fail === 1 ? "fails" : "fail"}` : ""}`;
+}
+
+/** The map of a campaign: an element, and what chooses a plan in it. */
+class MapView {
+  /**
+   * @param {any} campaign
+   * @param {{label: (row: any) => string, tell: (number: number) => string, chosen: (number: number) => void}} options what a row and a plan are called
+   */
+  constructor(campaign, { label, tell, chosen }) {
+    Object.assign(this, { campaign, label, tell, chosen });
+    this.closed = new Set();
+    this.cell = cellFor(campaign.plans.length);
+    this.selected = null;
+    this.firsts = new Set(campaign.told.findings.map((finding) => finding.number));
+    this.grid = element("div", { class: "map", role: "grid", tabindex: "0", "aria-label": "Map of plans", "aria-describedby": "map-keys" });
+    this.pointed = element("p", { class: "pointed" }, HINT);
+    this.box = element("div", { class: "map-box" }, this.grid, this.pointed);
+    this.listen();
+  }
+
+  listen() {
+    this.grid.addEventListener("pointermove", (event) => this.point(this.planUnder(event)));
+    this.grid.addEventListener("pointerleave", () => this.point(null));
+    this.grid.addEventListener("click", (event) => {
+      const number = this.planUnder(event);
+      if (number !== null) this.choose(number);
+    });
+    this.grid.addEventListener("focus", () => this.begin());
+    this.grid.addEventListener("keydown", (event) => this.press(event));
+    new ResizeObserver(() => this.fit(this.box.clientWidth)).observe(this.box);
+    addEventListener("beforeprint", () => this.fit(PRINTED_WIDTH, Infinity));
+    addEventListener("afterprint", () => this.fit(this.box.clientWidth));
+  }
+
+  /** Where keys lead to the map a plan is selected; a pointer selects its own. */
+  begin() {
+    const isSelected = this.selected !== null && this.layout.places.has(this.selected);
+    if (!isSelected && this.grid.matches(":focus-visible")) this.select(this.firstPlan());
+  }
+
+  firstPlan() {
+    const failing = this.campaign.told.findings[0]?.number;
+    return this.layout.places.has(failing) ? failing : [...this.layout.places.keys()][0] ?? null;
+  }
+
+  /** Draws the map for this width, or wider where it would be far taller than `tall`. @param {number} width @param {number} [tall] */
+  fit(width, tall = TALL) {
+    if (width === 0 || (width === this.width && tall === this.tall)) return;
+    Object.assign(this, { width, tall });
+    this.draw();
+  }
+
+  /** @param {number} cell */
+  resize(cell) {
+    this.cell = cell;
+    this.draw();
+  }
+
+  draw() {
+    const labels = this.width < NARROW ? 0 : LABEL_WIDTH;
+    const width = Math.max(this.width - labels - SIDES, Math.ceil((this.campaign.plans.length * this.cell ** 2) / this.tall));
+    this.layout = layoutMap(this.campaign, { width, cell: this.cell, closed: this.closed });
+    this.box.classList.toggle("narrow", labels === 0);
+    this.grid.setAttribute("aria-rowcount", String(this.layout.bands.length + 1));
+    this.grid.setAttribute("aria-colcount", String(this.layout.columns.length + 1));
+    this.grid.replaceChildren(this.drawHead(), ...this.layout.bands.map((band, index) => this.drawBand(band, index)));
+    for (const strips of this.grid.querySelectorAll(".map-strips")) strips.style.width = `${this.layout.width}px`;
+    this.drawSelection();
+  }
+
+  drawHead() {
+    const strips = element("div", { class: "map-strips", role: "presentation" });
+    for (const column of this.layout.columns) {
+      const part = this.campaign.parts.find((one) => one.level === column.level && (one.name === "onward") === (column.key === "onward"));
+      const words = partWords(part);
+      const [short, long] = column.key === "onward" ? ["on", "from then on"] : [column.key, words];
+      const title = `${words}: ${counted(column.plans, "plan")}`;
+      const attributes = { type: "button", "aria-expanded": String(column.open), title, "aria-label": title };
+      const button = element("button", attributes, column.width >= ROOM_FOR_WORDS ? long : short);
+      button.addEventListener("click", () => this.toggle(column.key));
+      const head = element("div", { role: "columnheader", class: "map-column" }, button);
+      Object.assign(head.style, { left: `${column.left}px`, width: `${Math.max(column.width, 18)}px` });
+      strips.append(head);
+    }
+    const label = element("div", { role: "columnheader", class: "map-label" }, "first fault \u2193  faults \u2192");
+    return element("div", { role: "row", class: "map-head", "aria-rowindex": "1" }, label, strips);
+  }
+
+  /** @param {string} key */
+  toggle(key) {
+    if (!this.closed.delete(key)) this.closed.add(key);
+    this.draw();
+    const at = this.layout.columns.findIndex((column) => column.key === key);
+    this.grid.querySelectorAll(".map-column button")[at]?.focus();
+  }
+
+  /** @param {Band} band @param {number} index */
+  drawBand(band, index) {
+    const row = this.layout.rows[band.row];
+    const words = this.label(row);
+    const label = element("div", { role: "rowheader", class: "map-label", title: row.point }, band.part === 0 ? words : `${words}, further`);
+    const strips = element("div", { class: "map-strips", role: "presentation" }, ...band.strips.map((strip, at) => this.drawStrip(band, strip, index, at)));
+    label.style.lineHeight = `${this.cell}px`;
+    strips.style.height = `${band.height}px`;
+    const made = element("div", { role: "row", class: row.kind === "wide" ? "map-band wide" : "map-band", "aria-rowindex": String(index + 2) }, label, strips);
+    made.style.marginBottom = `${this.layout.gap}px`;
+    return made;
+  }
+
+  /** @param {Band} band @param {Strip} strip @param {number} bandAt @param {number} stripAt */
+  drawStrip(band, strip, bandAt, stripAt) {
+    const words = stripWords(this.campaign, strip);
+    const index = strip.column === null ? null : strip.column + 2;
+    const made = element("div", { role: "gridcell", class: "strip", "aria-colindex": index, "aria-label": words });
+    made.style.left = `${strip.left}px`;
+    if (strip.slots === 0) {
+      made.append(element("span", { class: "closed", title: words }, grouped(strip.numbers.length)));
+      return made;
+    }
+    Object.assign(made.dataset, { band: String(bandAt), strip: String(stripAt) });
+    const width = Math.min(strip.slots, strip.numbers.length) * this.cell;
+    const height = Math.ceil(strip.numbers.length / strip.slots) * this.cell;
+    const picture = svgElement("svg", { width, height, viewBox: `0 0 ${width} ${height}`, "aria-hidden": "true" });
+    for (const [mark, d] of stripPaths(this.campaign, strip, this.cell)) picture.append(svgElement("path", { d, class: markClass(mark) }));
+    const frames = strip.numbers.flatMap((number, at) => (this.firsts.has(number) ? [this.frameAt(strip, at)] : []));
+    if (frames.length > 0) picture.append(svgElement("path", { d: frames.join(""), class: "frame-first" }));
+    made.append(picture);
+    return made;
+  }
+
+  /** @param {Strip} strip @param {number} index */
+  frameAt(strip, index) {
+    return framePath((index % strip.slots) * this.cell, Math.floor(index / strip.slots) * this.cell, this.cell);
+  }
+
+  /** @param {MouseEvent} event @returns {number|null} */
+  planUnder(event) {
+    const strip = /** @type {Element} */ (event.target).closest?.(".strip[data-band]");
+    if (!strip) return null;
+    const { left, top } = strip.getBoundingClientRect();
+    const { band, strip: at } = /** @type {HTMLElement} */ (strip).dataset;
+    return planIn(this.layout.bands[Number(band)].strips[Number(at)], this.cell, event.clientX - left, event.clientY - top);
+  }
+
+  /** Tells the plan under the pointer, or else the one that is selected. @param {number|null} number */
+  point(number) {
+    const told = number ?? this.selected;
+    this.pointed.textContent = told === null ? HINT : this.tell(told);
+  }
+
+  /** @param {KeyboardEvent} event */
+  press(event) {
+    if (event.target !== this.grid || this.selected === null || event.altKey || event.metaKey) return;
+    if (event.key === "Enter" || event.key === " ") this.choose(this.selected);
+    else if (MOVES.has(event.key)) this.select(this.target(event));
+    else return;
+    event.preventDefault();
+  }
+
+  /** @param {KeyboardEvent} event */
+  target({ key, ctrlKey }) {
+    const numbers = [...this.layout.places.keys()];
+    if (ctrlKey && key === "Home") return numbers[0];
+    if (ctrlKey && key === "End") return numbers[numbers.length - 1];
+    return planBeside(this.layout, /** @type {number} */ (this.selected), key);
+  }
+
+  /** @param {number} number */
+  choose(number) {
+    this.select(number);
+    this.chosen(number);
+  }
+
+  /** Marks a plan, and those that it grew from. @param {number|null} number */
+  select(number) {
+    this.selected = number;
+    this.drawSelection();
+    this.point(null);
+    this.grid.querySelector("#map-current")?.scrollIntoView({ block: "nearest", inline: "nearest" });
+  }
+
+  drawSelection() {
+    for (const old of this.grid.querySelectorAll(".frame-selected, .frame-before, #map-current")) old.remove();
+    this.grid.removeAttribute("aria-activedescendant");
+    if (this.selected === null) return;
+    let plan = this.campaign.byNumber.get(this.selected);
+    this.frame(this.selected, "frame-selected");
+    while (plan?.parent !== null && plan !== undefined) {
+      this.frame(plan.parent, "frame-before");
+      plan = this.campaign.byNumber.get(plan.parent);
+    }
+    this.drawCurrent(this.selected);
+  }
+
+  /** @param {number} number @returns {Element|null} */
+  stripOf(number) {
+    const place = this.layout.places.get(number);
+    return place ? this.grid.querySelector(`.strip[data-band="${place.band}"][data-strip="${place.strip}"]`) : null;
+  }
+
+  /** @param {number} number @param {string} name */
+  frame(number, name) {
+    const place = this.layout.places.get(number);
+    if (!place) return;
+    const strip = this.layout.bands[place.band].strips[place.strip];
+    this.stripOf(number)?.querySelector("svg")?.append(svgElement("path", { d: this.frameAt(strip, place.index), class: name }));
+  }
+
+  /** What a reader of screens is told: a cell that stands where the selected plan does. @param {number} number */
+  drawCurrent(number) {
+    const strip = this.stripOf(number);
+    const place = placeOf(this.layout, number);
+    if (!strip || !place) return;
+    const band = this.layout.bands[this.layout.places.get(number).band];
+    const current = element("div", { id: "map-current", role: "gridcell", "aria-label": this.tell(number), "aria-selected": "true" });
+    Object.assign(current.style, { left: `${place.x}px`, top: `${place.y - band.top}px`, width: `${this.cell}px`, height: `${this.cell}px` });
+    strip.parentElement.append(current);
+    this.grid.setAttribute("aria-activedescendant", "map-current");
+  }
+}
+
+// Draws the page: what came of a campaign, from its document.
+
+/** @typedef {import("./document.js").Plan} Plan */
+
+const SHOWN_PLANS = 100;
+const SHOWN_CAUSES = 10;
+const KEYS = "Arrow keys lead from plan to plan, Home and End along a line, Page Up and Page Down further; Enter tells more of a plan.";
+
+/** @param {{verdict: string, code: string|null}} plan */
+function verdictWords({ verdict, code }) {
+  return code === null ? verdict : `${verdict} ${code}`;
+}
+
+/** @param {any} campaign @param {{verdict: string, code: string|null}} plan */
+function verdictMark({ codes }, plan) {
+  return element("span", { class: "verdict" }, markIcon(markOf(plan, codes)), verdictWords(plan));
+}
+
+/** @param {number} number */
+function planLink(number) {
+  return element("a", { href: `#plan-${number}` }, `plan ${number}`);
+}
+
+/** @param {string} text */
+function scenarioCode(text) {
+  return element("code", { class: "scenario" }, text === "" ? "none" : text);
+}
+
+// ---- the verdict
+
+/** @param {any} campaign */
+function drawHeader(campaign) {
+  const { told } = campaign;
+  const { sentences, whole } = wholeness(campaign);
+  const ways = failuresByCode(campaign).map(([code, count]) =>
+    element("li", {}, markIcon(markOf({ verdict: "fail", code }, campaign.codes)), `${code}: ${counted(count, "plan")}`));
+  return element("header", {},
+    element("p", { class: "kind" }, "Paklour report"),
+    element("h1", {}, told.label),
+    element("p", { class: "headline" }, headline(campaign)),
+    ways.length > 0 ? element("ul", { class: "ways" }, ...ways) : null,
+    element("p", {}, tried(campaign).join(" ")),
+    element("p", { class: whole ? "whole" : "open" }, sentences.join(" ")),
+    element("p", { class: "muted" }, limits(campaign).join(" ")));
+}
+
+// ---- runs
+
+/** @param {(point: string) => string} call @param {import("./run.js").Hit|null} hit */
+function drawHit(call, hit) {
+  if (hit === null) return [element("span", { class: "muted" }, "\u2013")];
+  const keeps = hit.point === KEEP;
+  const name = keeps ? `${ordinal(hit.ordinal)} pending change` : `${ordinal(hit.ordinal)} ${call(hit.point)}`;
+  if (hit.answer === null) return [name];
+  return [name, " ", element("b", { class: isFault(hit.answer) ? "fault" : null }, keeps && hit.answer === "return" ? "kept" : hit.answer)];
+}
+
+/** @param {(point: string) => string} call @param {import("./run.js").Line} line @param {boolean} beside */
+function drawLine(call, { here, there, same, fault }, beside) {
+  const number = element("td", { class: "number" }, String((here ?? there).number));
+  const cell = (hit, columns) => element("td", { colspan: columns }, element("div", { class: "hit" }, ...drawHit(call, hit)));
+  const cells = beside && !same ? [cell(here, null), cell(there, null)] : [cell(here, beside ? "2" : null)];
+  return element("tr", { class: fault ? "fault-line" : same || !beside ? null : "differs" }, number, ...cells);
+}
+
+/** @param {(point: string) => string} call @param {{lines: any[]}} piece @param {boolean} beside */
+function drawFold(call, { lines }, beside) {
+  const button = element("button", { type: "button", class: "more" }, `${lines.length} hits go on, the same${beside ? " in both" : ""}`);
+  const row = element("tr", { class: "fold" }, element("td", { class: "number" }, "\u22ee"), element("td", { colspan: beside ? "2" : null }, button));
+  button.addEventListener("click", () => row.replaceWith(...lines.map((line) => drawLine(call, line, beside))));
+  return row;
+}
+
+/** A run hit by hit, beside another one. @param {any} campaign @param {{number: number, scenario: string}} plan @param {boolean} open */
+function drawRun({ runs, names, call }, { number, scenario }, open) {
+  const run = runs.get(runKey(number, scenario));
+  if (!run) return null;
+  const other = runBeside(runs, run, names);
+  const beside = other !== null;
+  const lines = linesOf(run, other, names);
+  const pieces = foldLines(beside ? lines : lines.map((line) => ({ ...line, same: true })));
+  const rows = pieces.map((piece) => (piece.fold ? drawFold(call, piece, beside) : drawLine(call, piece.line, beside)));
+  const otherWords = other && `the run ${other.scenario === "" ? "without faults" : "without its last fault"}`;
+  const heads = [element("th", { class: "number" }, "hit"), element("th", {}, "this run"), beside ? element("th", {}, otherWords) : null];
+  const head = element("thead", {}, element("tr", {}, ...heads));
+  const notes = [run.more > 0 ? `${counted(run.more, "further hit")} of this run ${run.more === 1 ? "isn\u2019t" : "aren\u2019t"} told.` : null, endWords(run)];
+  return element("details", { class: "run", open },
+    element("summary", {}, `The run, hit by hit${beside ? `, beside ${otherWords}` : ""}`),
+    element("div", { class: "scroll" }, element("table", { class: "hits" }, head, element("tbody", {}, ...rows))),
+    ...notes.filter((note) => note !== null).map((note) => element("p", { class: "muted" }, note)));
+}
+
+/** @param {{end: string|null}} run */
+function endWords({ end }) {
+  if (end === "limit") return "The run was ended there: it has as many steps as max_hits allows.";
+  if (end === "pause") return "The run was ended there by a pause.";
+  return end === "panic" ? "A panic ended the program in this run." : null;
+}
+
+// ---- first failures and causes
+
+/** @param {any} campaign @param {any} finding @param {number} index */
+function drawFinding(campaign, finding, index) {
+  const planned = finding.reduced === finding.scenario ? null
+    : element("p", { class: "muted" }, `Reduced, in ${counted(finding.tests, "test")}, from `, scenarioCode(finding.scenario));
+  return element("article", { id: `first-${finding.number}`, class: "finding" },
+    element("h3", {}, verdictMark(campaign, { verdict: "fail", code: finding.code }), " ", planLink(finding.number)),
+    element("p", { class: "words" }, sentence(wordsOfNumbered(campaign, finding.number, finding.reduced))),
+    element("p", {}, scenarioCode(finding.reduced)),
+    planned,
+    drawRun(campaign, { number: finding.number, scenario: finding.reduced }, index === 0));
+}
+
+/** @param {any} campaign */
+function drawFindings(campaign) {
+  const { findings } = campaign.told;
+  if (findings.length === 0) return null;
+  const about = findings.length === 1 ? "The first plan that fails, reduced to faults of which none can be left out."
+    : "The first plan that fails with each code, reduced to faults of which none can be left out.";
+  return section(findings.length === 1 ? "First failure" : "First failures", "first", element("p", { class: "muted" }, about),
+    ...findings.map((finding, index) => drawFinding(campaign, finding, index)));
+}
+
+/** @param {any} campaign @param {any} cause */
+function drawCause(campaign, cause) {
+  const mark = verdictMark(campaign, { verdict: "fail", code: cause.code });
+  return element("li", { id: `cause-${cause.number}` },
+    element("p", {}, mark, " ", planLink(cause.number), ": ", sentence(wordsOfNumbered(campaign, cause.number, cause.scenario))),
+    scenarioCode(cause.scenario),
+    drawRun(campaign, cause, false));
+}
+
+/** @param {any} campaign @param {string[]} points */
+function groupWords({ call }, points) {
+  const calls = points.filter((point) => point !== KEEP).map(call);
+  const kept = points.includes(KEEP) ? "what the power cut keeps" : null;
+  return listed([...calls, ...(kept ? [kept] : [])]) || "no fault";
+}
+
+/** @param {{depth: number, causes: any[]}} growth */
+function causesWords({ depth, causes }) {
+  const what = causes.length === 1 ? "One failing plan doesn\u2019t fail so without any one of its faults."
+    : `${grouped(causes.length)} failing plans don\u2019t fail so without any one of their faults.`;
+  return `${what} Each plan with at most ${counted(depth, "fault")} that fails has the faults of one of these.`;
+}
+
+/** @param {any} campaign */
+function drawCauses(campaign) {
+  const { growth } = campaign.told;
+  if (!growth || growth.causes.length === 0) return null;
+  const groups = groupByCalls(growth.causes).map(({ points, items }) => {
+    const entries = element("ol", { class: "causes" });
+    const button = drawSome(items, SHOWN_CAUSES, entries, (cause) => drawCause(campaign, cause));
+    return element("details", { class: "group", open: growth.causes.length <= SHOWN_CAUSES },
+      element("summary", {}, `${groupWords(campaign, points)}: ${counted(items.length, "cause")}`), entries, button);
+  });
+  return section("Causes, by call", "causes",
+    element("p", { class: "muted" }, causesWords(growth)),
+    ...groups);
+}
+
+// ---- the map
+
+/** @param {any} campaign @param {number} number */
+function tellPlan(campaign, number) {
+  const plan = campaign.byNumber.get(number);
+  return `plan ${number}, ${verdictWords(plan)}: ${planWords(campaign, plan)}`;
+}
+
+/** @param {any} campaign */
+function drawLegend(campaign) {
+  const { told, codes } = campaign;
+  const entry = (plan, words) => element("li", {}, markIcon(markOf(plan, codes)), words);
+  const pass = entry({ verdict: "pass", code: null }, `pass (${grouped(told.counts.pass)})`);
+  const open = told.counts.unresolved > 0 ? [entry({ verdict: "unresolved", code: null }, `ended without a verdict (${grouped(told.counts.unresolved)})`)] : [];
+  const fails = failuresByCode(campaign).map(([code, count]) => entry({ verdict: "fail", code }, `fail ${code} (${grouped(count)})`));
+  const first = told.findings.length > 0 ? [element("li", {}, element("span", { class: "swatch" }), "framed: the first that fails with its code")] : [];
+  return element("ul", { class: "legend" }, pass, ...open, ...fails, ...first);
+}
+
+/** @param {any} campaign @param {(number: number) => void} chosen */
+function drawMap(campaign, chosen) {
+  const view = new MapView(campaign, { label: (row) => rowWords(row, campaign.call), tell: (number) => tellPlan(campaign, number), chosen });
+  const sizes = choice("cell-size", "Marks", [["12", "small"], ["16", "middle"], ["20", "large"]]);
+  sizes.select.value = String(view.cell);
+  sizes.select.addEventListener("change", () => view.resize(Number(sizes.select.value)));
+  const made = section("Map", "map",
+    element("p", {}, mapWords(campaign)),
+    drawLegend(campaign),
+    element("p", { class: "controls" }, sizes.label),
+    element("p", { id: "map-keys", hidden: true }, KEYS),
+    view.box);
+  return { made, view };
+}
+
+/** What the map shows. Only of plans that grew it is known which fault acts first. @param {any} campaign */
+function mapWords({ told }) {
+  const down = told.growth ? "acts first, in the order of the run without faults" : "its scenario names first";
+  return `Each mark is a plan. Down stands the fault that ${down}; across, how many faults it has. In a row the marks stand in the order of their plans\u2019 `
+    + "numbers. A column closes and opens by its head.";
+}
+
+/** What is told of the plan that was chosen. @param {any} campaign @param {number} number */
+function drawChosen(campaign, number) {
+  const plan = campaign.byNumber.get(number);
+  if (!plan) return [element("p", {}, `Plan ${number} isn\u2019t in this campaign.`)];
+  return [
+    element("h3", {}, `Plan ${number} `, verdictMark(campaign, plan)),
+    element("p", { class: "words" }, sentence(planWords(campaign, plan))),
+    element("p", {}, scenarioCode(plan.text)),
+    plan.parent === null ? null : element("p", {}, "It grew from ", planLink(plan.parent), "."),
+    drawDescendants(campaign, number),
+    element("p", {}, "Again, hit by hit: ", element("code", {}, explainCommand(campaign.told.about, plan))),
+    drawRun(campaign, { number, scenario: plan.text }, true),
+  ].filter((child) => child !== null);
+}
+
+/** @param {any} campaign @param {number} number */
+function drawDescendants(campaign, number) {
+  const { plans, fail } = descendantsOf(campaign, number);
+  if (plans === 0) return null;
+  const failing = fail === 0 ? "none fails" : `${grouped(fail)} ${fail === 1 ? "fails" : "fail"}`;
+  return element("p", {}, `${counted(plans, "plan")} grew from it; of these ${failing}.`);
+}
+
+// ---- points
+
+/** How many of the plans that fail have a fault at each point. @param {any} campaign @returns {Map<string, number>} */
+function failuresByPoint({ told }) {
+  const counts = new Map();
+  for (const { verdict, scenario } of told.not_passed) {
+    if (verdict !== "fail") continue;
+    for (const point of new Set((clausesOf(scenario) ?? []).map((clause) => clause.point))) counts.set(point, (counts.get(point) ?? 0) + 1);
+  }
+  return counts;
+}
+
+/** @param {any} campaign */
+function drawPoints(campaign) {
+  const { told } = campaign;
+  const failures = failuresByPoint(campaign);
+  const grown = told.growth !== null;
+  const cell = (count) => element("td", { class: count === 0 ? "number muted" : "number" }, count === 0 ? "none" : grouped(count));
+  const rows = campaign.points.map(({ point, clean, reached }) =>
+    element("tr", {}, element("td", {}, element("code", {}, point)), cell(clean), grown ? cell(reached ?? 0) : null, cell(failures.get(point) ?? 0)));
+  const heads = ["point", "hits without faults", ...(grown ? ["most hits of any run"] : []), "failing plans with a fault there"];
+  return section("Points", "points",
+    element("p", { class: "muted" }, grown ? "Of a point that no run hits this campaign says nothing." : "A point without hits gets no fault here."),
+    element("div", { class: "scroll" }, element("table", { class: "points" },
+      element("thead", {}, element("tr", {}, ...heads.map((head, index) => element("th", { class: index > 0 ? "number" : null }, head)))),
+      element("tbody", {}, ...rows))));
+}
+
+// ---- all plans
+
+/**
+ * A choice among values, each shown as a text. The value is told as it was given: attributes show characters that can't be seen by their numbers.
+ * @param {string} id
+ * @param {string} words
+ * @param {[string, string][]} options
+ */
+function choice(id, words, options) {
+  const select = element("select", { id }, ...options.map(([value, text]) => element("option", { value }, text)));
+  return { select, label: element("label", { for: id }, `${words} `, select), value: () => options[select.selectedIndex][0] };
+}
+
+/** @param {any} campaign @returns {[string, string][]} */
+function verdictChoices({ told, codes }) {
+  const fails = codes.length > 1 ? codes.map((code) => [`fail ${code}`, `fail ${code}`]) : [];
+  const unresolved = told.counts.unresolved > 0 ? [["unresolved", "unresolved"]] : [];
+  return [["", "any"], ["fail", "fail"], ...fails, ...unresolved, ["pass", "pass"]];
+}
+
+/** @param {any} campaign @param {Plan} plan */
+function drawPlan(campaign, plan) {
+  return element("tr", {},
+    element("td", { class: "number" }, element("a", { href: `#plan-${plan.number}` }, String(plan.number))),
+    element("td", {}, verdictMark(campaign, plan)),
+    element("td", {}, element("div", { class: "words" }, planWords(campaign, plan)), scenarioCode(plan.text)));
+}
+
+/** @param {any} campaign */
+function drawPlans(campaign) {
+  const { told, call } = campaign;
+  const levels = campaign.parts.map((part) => [levelKeyOf({ part }), partWords(part)]);
+  const verdict = choice("by-verdict", "Verdict", verdictChoices(campaign));
+  const point = choice("by-point", "Fault at", [["", "any point"], ...campaign.names.map((name) => [name, call(name)])]);
+  const level = choice("by-level", "With", [["", "any faults"], ...levels]);
+  const text = element("input", { id: "by-text", type: "search", autocomplete: "off" });
+  const status = element("p", { role: "status", class: "muted" });
+  const body = element("tbody");
+  const after = element("div");
+  const show = () => {
+    const wanted = { verdict: verdict.value(), point: point.value(), level: level.value(), text: text.value };
+    const found = filterPlans(campaign, wanted);
+    status.textContent = `${counted(found.length, "plan")} of ${grouped(campaign.plans.length)}`;
+    body.replaceChildren();
+    after.replaceChildren(drawSome(found, SHOWN_PLANS, body, (plan) => drawPlan(campaign, plan)));
+  };
+  for (const input of [verdict.select, point.select, level.select, text]) input.addEventListener("input", show);
+  if (told.counts.fail > 0) verdict.select.value = "fail";
+  show();
+  const head = element("thead", {}, element("tr", {}, element("th", { class: "number" }, "plan"), element("th", {}, "verdict"), element("th", {}, "scenario")));
+  return section("Plans", "plans",
+    element("form", { class: "filters" }, verdict.label, point.label, level.label, element("label", { for: "by-text" }, "Number or text ", text)),
+    status, element("div", { class: "scroll" }, element("table", { class: "plans" }, head, body)), after);
+}
+
+// ---- again
+
+/** @param {any} campaign */
+function drawAgain({ told: { seed, about } }) {
+  const items = [["seed", seed], ["program", `paklour ${about.program_version}`], ["command", about.command]];
+  const rows = items.map(([name, value]) =>
+    element("tr", {}, element("th", { scope: "row" }, name), element("td", {}, element("code", {}, value))));
+  return section("Again", "again",
+    element("table", {}, element("tbody", {}, ...rows)),
+    preformatted(about.settings));
+}
+
+// ---- the page
+
+/** @param {any} campaign */
+function drawPage(campaign) {
+  const chosen = element("div", { id: "chosen", class: "chosen", tabindex: "-1", "aria-live": "polite" });
+  const choose = (number) => {
+    chosen.replaceChildren(...drawChosen(campaign, number));
+    if (location.hash !== `#plan-${number}`) history.replaceState(null, "", `#plan-${number}`);
+  };
+  const { made, view } = drawMap(campaign, choose);
+  made.append(chosen);
+  const parts = [drawHeader(campaign), drawFindings(campaign), drawCauses(campaign), made, drawPoints(campaign), drawPlans(campaign), drawAgain(campaign)];
+  document.getElementById("page").replaceChildren(...parts.filter((part) => part !== null));
+  view.fit(view.box.clientWidth);
+  followHash(view, choose, chosen);
+}
+
+/**
+ * A link to a plan leads to the map, and to what is told of the plan.
+ * @param {MapView} view
+ * @param {(number: number) => void} choose
+ * @param {HTMLElement} chosen
+ */
+function followHash(view, choose, chosen) {
+  const follow = () => {
+    const match = /^#plan-(\d+)$/.exec(location.hash);
+    if (!match) return;
+    const number = Number(match[1]);
+    view.select(view.campaign.byNumber.has(number) ? number : null);
+    choose(number);
+    chosen.scrollIntoView({ block: "center" });
+  };
+  addEventListener("hashchange", follow);
+  document.getElementById("page").addEventListener("click", (event) => {
+    const link = /** @type {Element} */ (event.target).closest("a");
+    if (link && link.getAttribute("href") === location.hash) follow();
+  });
+  follow();
+}
+
+/** @param {unknown} error */
+function drawError(error) {
+  const problems = error instanceof ReadError ? error.problems : [String(error)];
+  document.getElementById("page").replaceChildren(
+    element("h1", {}, "This report can\u2019t be shown"),
+    element("ul", {}, ...problems.slice(0, 5).map((problem) => element("li", {}, problem))),
+    element("p", {}, "Its text stands below."));
+}
+
+/** Shows the report that stands in this page. The text that is there without a script is folded then. */
+function start() {
+  try {
+    const campaign = campaignOf(readDocument(document.getElementById("document").textContent));
+    drawPage(campaign);
+    document.title = shown(`${campaign.told.label} \u2013 Paklour`);
+    document.getElementById("brief").open = false;
+  } catch (error) {
+    drawError(error);
+  }
+}
+
+// What the page does when it is opened.
+
+start();
+})();
+</script>
+</body>
+</html>
+"###;

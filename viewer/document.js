@@ -1,0 +1,232 @@
+// Reads the report's document, checks it against what docs/report.schema.json says, and makes of it the campaign that the page shows.
+import { rowsOfPlans } from "./grown.js";
+import { readRun, runKey } from "./run.js";
+import { clausesOf, spell } from "./scenario.js";
+import { callsOf } from "./words.js";
+
+/** @typedef {"pass"|"fail"|"unresolved"} Verdict */
+/** @typedef {import("./grown.js").Fault} Fault */
+/**
+ * A part of the list of plans: `none`, `hits`, `pairs` without a depth; `level`, `onward` with one; `storms`, `listed`.
+ * @typedef {{name: string, level: number|null, first: number, count: number}} Part
+ */
+/**
+ * @typedef {{number: number, verdict: Verdict, code: string|null, part: Part, parent: number|null, fault: Fault|null, text: string}} Plan
+ */
+
+/** A document that can't be shown, with the first things that are wrong with it. */
+export class ReadError extends Error {
+  /** @param {string[]} problems */
+  constructor(problems) {
+    super(problems.slice(0, 5).join("; "));
+    this.problems = problems;
+  }
+}
+
+const VERSION = 1;
+const VERDICTS = ["pass", "fail", "unresolved"];
+
+// ---- the checks: each tells what is wrong at a path
+
+/** @typedef {(value: any, path: string) => string[]} Check */
+
+/** @param {string} what @param {(value: any) => boolean} holds @returns {Check} */
+const is = (what, holds) => (value, path) => (holds(value) ? [] : [`${path} isn't ${what}`]);
+const isCount = (value) => Number.isInteger(value) && value >= 0;
+const count = is("a whole number from 0", isCount);
+const text = is("a text", (value) => typeof value === "string");
+const digits = is("a text of digits", (value) => typeof value === "string" && /^(0|[1-9][0-9]*)$/.test(value));
+const verdict = is("a verdict", (value) => VERDICTS.includes(value));
+const orNull = (check) => (value, path) => (value === null ? [] : check(value, path));
+
+/** @param {Check} check @returns {Check} */
+const list = (check) => (value, path) =>
+  Array.isArray(value) ? value.flatMap((item, index) => check(item, `${path}[${index}]`)) : [`${path} isn't a list`];
+
+/** @param {Record<string, Check>} needed @param {Record<string, Check>} [optional] @returns {Check} */
+const members = (needed, optional = {}) => (value, path) => {
+  if (value === null || typeof value !== "object" || Array.isArray(value)) return [`${path} isn't an object`];
+  const lacking = Object.keys(needed).filter((name) => !Object.hasOwn(value, name)).map((name) => `${path}.${name} lacks`);
+  const wrong = Object.entries({ ...needed, ...optional })
+    .filter(([name]) => Object.hasOwn(value, name))
+    .flatMap(([name, check]) => check(value[name], `${path}.${name}`));
+  return [...lacking, ...wrong];
+};
+
+const points = list(members({ point: text, hits: count }));
+const growth = members(
+  {
+    depth: count, levels: list(count), onward: count, beyond: count, reached: points,
+    causes: list(members({ number: count, code: text, scenario: text })),
+  },
+  { unseen: count },
+);
+const run = members({ explained: text }, { left_out: count });
+const about = members({
+  program_version: text, told_by: is("target or answers", (value) => value === "target" || value === "answers"), command: text, settings: text,
+  storms: list(text), listed: list(text), grown: list(text), clean_run: orNull(run), finding_runs: list(run), cause_runs: list(run),
+});
+const report = members(
+  {
+    label: text, seed: digits, census: points, clean: members({ verdict, code: orNull(text) }),
+    counts: members({ plans: count, pass: count, fail: count, unresolved: count }),
+    not_passed: list(members({ number: count, verdict, code: orNull(text), scenario: text })),
+    findings: list(members({ number: count, code: text, scenario: text, reduced: text, tests: count })),
+    growth: orNull(growth), about,
+  },
+  { unmet: count },
+);
+
+/** What holds between members. @param {any} told @returns {string[]} */
+function contradictions(told) {
+  const { counts, not_passed: notPassed, findings, growth, about } = told;
+  const found = [];
+  if (counts.pass + counts.fail + counts.unresolved !== counts.plans) found.push("the counts don't add up");
+  if (notPassed.length !== counts.fail + counts.unresolved) found.push("not_passed doesn't have as many plans as are counted");
+  if ([...notPassed, ...findings, ...(growth?.causes ?? [])].some((item) => item.number >= counts.plans)) found.push("a plan has a number that no plan has");
+  const grew = growth ? growth.levels.reduce((sum, size) => sum + size, growth.onward) : 0;
+  if (about.grown.length !== grew) found.push("about.grown doesn't have as many plans as grew");
+  if (about.finding_runs.length > findings.length) found.push("about.finding_runs has more runs than there are findings");
+  if (about.cause_runs.length > (growth?.causes.length ?? 0)) found.push("about.cause_runs has more runs than there are causes");
+  const parts = partsOf(told);
+  const inParts = parts.reduce((sum, part) => sum + part.count, 0);
+  if (inParts !== counts.plans || parts.some((part) => part.count < 0)) found.push("the parts of the list don't add up");
+  return found;
+}
+
+/**
+ * The document, checked. A version that this page doesn't know is refused, members that it doesn't know are passed over.
+ * @param {string} json
+ */
+export function readDocument(json) {
+  let told;
+  try {
+    told = JSON.parse(json);
+  } catch (error) {
+    throw new ReadError([`this is no JSON: ${error.message}`]);
+  }
+  if (told === null || typeof told !== "object" || Array.isArray(told)) throw new ReadError(["the document isn't an object"]);
+  if (told.version !== VERSION) throw new ReadError([`the document has version ${JSON.stringify(told.version)}, and this page shows version ${VERSION}`]);
+  const problems = report(told, "document");
+  const found = problems.length > 0 ? problems : contradictions(told);
+  if (found.length > 0) throw new ReadError(found);
+  return told;
+}
+
+// ---- the campaign
+
+/**
+ * The parts of the list of plans, in the order of their numbers; none is empty but for level 0.
+ * @param {any} told
+ * @returns {Part[]}
+ */
+export function partsOf(told) {
+  const { growth, counts, census, about: { storms, listed } } = told;
+  const sizes = [];
+  if (growth) {
+    growth.levels.forEach((size, level) => sizes.push(["level", level, size]));
+    sizes.push(["onward", growth.depth, growth.onward]);
+  } else {
+    const hits = 3 * census.reduce((sum, point) => sum + point.hits, 0);
+    sizes.push(["none", 0, Math.min(1, counts.plans)], ["hits", 1, Math.min(hits, Math.max(0, counts.plans - 1))]);
+    const before = sizes.reduce((sum, [, , size]) => sum + size, 0);
+    sizes.push(["pairs", 2, counts.plans - before - storms.length - listed.length]);
+  }
+  sizes.push(["storms", null, storms.length], ["listed", null, listed.length]);
+  return numbered(sizes.filter(([, , size]) => size !== 0));
+}
+
+/** @param {[string, number|null, number][]} sizes @returns {Part[]} */
+function numbered(sizes) {
+  let first = 0;
+  return sizes.map(([name, level, count]) => {
+    const part = { name, level, first, count };
+    first += count;
+    return part;
+  });
+}
+
+/** @param {any} told @param {Part[]} parts @returns {Plan[]} */
+function plansOf(told, parts) {
+  const notPassed = new Map(told.not_passed.map((item) => [item.number, item]));
+  const rows = rowsOfPlans(told);
+  if (rows.length !== told.counts.plans) throw new ReadError(["the plans that are told aren't as many as are counted"]);
+  if (rows.includes(null)) throw new ReadError([`about.grown[${rows.indexOf(null)}] isn't a plan that grew`]);
+  const planAt = (number, part) => {
+    const item = notPassed.get(number);
+    const { parent, fault, text } = rows[number];
+    return { number, part, verdict: item?.verdict ?? "pass", code: item?.code ?? null, parent, fault, text: item?.scenario ?? text };
+  };
+  return parts.flatMap((part) => Array.from({ length: part.count }, (_, index) => planAt(part.first + index, part)));
+}
+
+/** The runs that a document tells, by their keys. @param {any} told @param {string[]} names */
+function runsOf({ findings, growth, about }, names) {
+  const told = [
+    ...(about.clean_run ? [[0, "", about.clean_run]] : []),
+    ...about.finding_runs.map((run, index) => [findings[index].number, findings[index].reduced, run]),
+    ...about.cause_runs.map((run, index) => [growth.causes[index].number, growth.causes[index].scenario, run]),
+  ];
+  return new Map(told.map(([number, scenario, run]) => [runKey(number, scenario), readRun(scenario, run, names)]));
+}
+
+/**
+ * The campaign that a checked document tells.
+ * @param {any} told
+ */
+export function campaignOf(told) {
+  const parts = partsOf(told);
+  const plans = plansOf(told, parts);
+  const byNumber = new Map(plans.map((plan) => [plan.number, plan]));
+  const codes = [...new Set(told.findings.map((finding) => finding.code))];
+  const reached = told.growth && new Map(told.growth.reached.map((item) => [item.point, item.hits]));
+  const names = told.census.map((item) => item.point);
+  const campaign = {
+    told, parts, plans, byNumber, codes, names, call: callsOf(names),
+    points: told.census.map(({ point, hits }) => ({ point, clean: hits, reached: reached ? reached.get(point) ?? null : null })),
+    runs: runsOf(told, names),
+  };
+  for (const plan of plans) plan.text ??= spell(faultsOf(campaign, plan), names);
+  return campaign;
+}
+
+/**
+ * The faults of a plan that grew from others, in the order of time; none of any other plan.
+ * @param {{byNumber: Map<number, Plan>}} campaign
+ * @param {Plan} plan
+ * @returns {Fault[]}
+ */
+export function faultsOf(campaign, plan) {
+  const faults = [];
+  for (let one = plan; one?.fault; one = campaign.byNumber.get(one.parent)) faults.push(one.fault);
+  return faults.reverse();
+}
+
+/** The name of a plan's part, as filters know it. @param {Plan} plan */
+export function levelKeyOf(plan) {
+  const { name, level } = plan.part;
+  return name === "level" || name === "none" || name === "hits" || name === "pairs" ? String(level) : name;
+}
+
+/**
+ * The plans that a filter lets through; a member that is empty lets all.
+ * @param {{plans: Plan[], byNumber: Map<number, Plan>, names: string[]}} campaign
+ * @param {{verdict?: string, point?: string, level?: string, text?: string}} filter `verdict` is a verdict, or `fail` and a code behind a blank; `text` stands
+ *   in the scenario, small or large, or in the number
+ */
+export function filterPlans(campaign, { verdict = "", point = "", level = "", text = "" }) {
+  const wanted = text.trim();
+  const pattern = new RegExp(wanted.replace(/[\\^$.*+?()[\]{}|]/g, "\\$&"), "i");
+  return campaign.plans.filter((plan) =>
+    (verdict === "" || verdict === plan.verdict || (plan.code !== null && verdict === `${plan.verdict} ${plan.code}`))
+    && (level === "" || level === levelKeyOf(plan))
+    && (point === "" || hasFaultAt(campaign, plan, point))
+    && (wanted === "" || pattern.test(plan.text) || String(plan.number).includes(wanted)));
+}
+
+/** Whether a plan has a fault at this point. @param {any} campaign @param {Plan} plan @param {string} point */
+function hasFaultAt({ byNumber, names }, plan, point) {
+  if (!plan.fault) return (clausesOf(plan.text) ?? []).some((clause) => clause.point === point);
+  for (let one = plan; one?.fault; one = byNumber.get(one.parent)) if (names[one.fault.point] === point) return true;
+  return false;
+}

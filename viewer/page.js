@@ -1,0 +1,389 @@
+// Draws the page: what came of a campaign, from its document.
+import { descendantsOf, explainCommand, groupByCalls, planWords, wordsOfNumbered } from "./describe.js";
+import { ReadError, campaignOf, filterPlans, levelKeyOf, readDocument } from "./document.js";
+import { drawSome, element, markIcon, preformatted, section } from "./dom.js";
+import { MapView } from "./mapview.js";
+import { markOf } from "./marks.js";
+import { foldLines, isFault, linesOf, runBeside, runKey } from "./run.js";
+import { KEEP, clausesOf } from "./scenario.js";
+import { failuresByCode, headline, limits, partWords, rowWords, tried, wholeness } from "./verdict.js";
+import { counted, grouped, listed, ordinal, sentence, shown } from "./words.js";
+
+/** @typedef {import("./document.js").Plan} Plan */
+
+const SHOWN_PLANS = 100;
+const SHOWN_CAUSES = 10;
+const KEYS = "Arrow keys lead from plan to plan, Home and End along a line, Page Up and Page Down further; Enter tells more of a plan.";
+
+/** @param {{verdict: string, code: string|null}} plan */
+function verdictWords({ verdict, code }) {
+  return code === null ? verdict : `${verdict} ${code}`;
+}
+
+/** @param {any} campaign @param {{verdict: string, code: string|null}} plan */
+function verdictMark({ codes }, plan) {
+  return element("span", { class: "verdict" }, markIcon(markOf(plan, codes)), verdictWords(plan));
+}
+
+/** @param {number} number */
+function planLink(number) {
+  return element("a", { href: `#plan-${number}` }, `plan ${number}`);
+}
+
+/** @param {string} text */
+function scenarioCode(text) {
+  return element("code", { class: "scenario" }, text === "" ? "none" : text);
+}
+
+// ---- the verdict
+
+/** @param {any} campaign */
+function drawHeader(campaign) {
+  const { told } = campaign;
+  const { sentences, whole } = wholeness(campaign);
+  const ways = failuresByCode(campaign).map(([code, count]) =>
+    element("li", {}, markIcon(markOf({ verdict: "fail", code }, campaign.codes)), `${code}: ${counted(count, "plan")}`));
+  return element("header", {},
+    element("p", { class: "kind" }, "Paklour report"),
+    element("h1", {}, told.label),
+    element("p", { class: "headline" }, headline(campaign)),
+    ways.length > 0 ? element("ul", { class: "ways" }, ...ways) : null,
+    element("p", {}, tried(campaign).join(" ")),
+    element("p", { class: whole ? "whole" : "open" }, sentences.join(" ")),
+    element("p", { class: "muted" }, limits(campaign).join(" ")));
+}
+
+// ---- runs
+
+/** @param {(point: string) => string} call @param {import("./run.js").Hit|null} hit */
+function drawHit(call, hit) {
+  if (hit === null) return [element("span", { class: "muted" }, "\u2013")];
+  const keeps = hit.point === KEEP;
+  const name = keeps ? `${ordinal(hit.ordinal)} pending change` : `${ordinal(hit.ordinal)} ${call(hit.point)}`;
+  if (hit.answer === null) return [name];
+  return [name, " ", element("b", { class: isFault(hit.answer) ? "fault" : null }, keeps && hit.answer === "return" ? "kept" : hit.answer)];
+}
+
+/** @param {(point: string) => string} call @param {import("./run.js").Line} line @param {boolean} beside */
+function drawLine(call, { here, there, same, fault }, beside) {
+  const number = element("td", { class: "number" }, String((here ?? there).number));
+  const cell = (hit, columns) => element("td", { colspan: columns }, element("div", { class: "hit" }, ...drawHit(call, hit)));
+  const cells = beside && !same ? [cell(here, null), cell(there, null)] : [cell(here, beside ? "2" : null)];
+  return element("tr", { class: fault ? "fault-line" : same || !beside ? null : "differs" }, number, ...cells);
+}
+
+/** @param {(point: string) => string} call @param {{lines: any[]}} piece @param {boolean} beside */
+function drawFold(call, { lines }, beside) {
+  const button = element("button", { type: "button", class: "more" }, `${lines.length} hits go on, the same${beside ? " in both" : ""}`);
+  const row = element("tr", { class: "fold" }, element("td", { class: "number" }, "\u22ee"), element("td", { colspan: beside ? "2" : null }, button));
+  button.addEventListener("click", () => row.replaceWith(...lines.map((line) => drawLine(call, line, beside))));
+  return row;
+}
+
+/** A run hit by hit, beside another one. @param {any} campaign @param {{number: number, scenario: string}} plan @param {boolean} open */
+function drawRun({ runs, names, call }, { number, scenario }, open) {
+  const run = runs.get(runKey(number, scenario));
+  if (!run) return null;
+  const other = runBeside(runs, run, names);
+  const beside = other !== null;
+  const lines = linesOf(run, other, names);
+  const pieces = foldLines(beside ? lines : lines.map((line) => ({ ...line, same: true })));
+  const rows = pieces.map((piece) => (piece.fold ? drawFold(call, piece, beside) : drawLine(call, piece.line, beside)));
+  const otherWords = other && `the run ${other.scenario === "" ? "without faults" : "without its last fault"}`;
+  const heads = [element("th", { class: "number" }, "hit"), element("th", {}, "this run"), beside ? element("th", {}, otherWords) : null];
+  const head = element("thead", {}, element("tr", {}, ...heads));
+  const notes = [run.more > 0 ? `${counted(run.more, "further hit")} of this run ${run.more === 1 ? "isn\u2019t" : "aren\u2019t"} told.` : null, endWords(run)];
+  return element("details", { class: "run", open },
+    element("summary", {}, `The run, hit by hit${beside ? `, beside ${otherWords}` : ""}`),
+    element("div", { class: "scroll" }, element("table", { class: "hits" }, head, element("tbody", {}, ...rows))),
+    ...notes.filter((note) => note !== null).map((note) => element("p", { class: "muted" }, note)));
+}
+
+/** @param {{end: string|null}} run */
+function endWords({ end }) {
+  if (end === "limit") return "The run was ended there: it has as many steps as max_hits allows.";
+  if (end === "pause") return "The run was ended there by a pause.";
+  return end === "panic" ? "A panic ended the program in this run." : null;
+}
+
+// ---- first failures and causes
+
+/** @param {any} campaign @param {any} finding @param {number} index */
+function drawFinding(campaign, finding, index) {
+  const planned = finding.reduced === finding.scenario ? null
+    : element("p", { class: "muted" }, `Reduced, in ${counted(finding.tests, "test")}, from `, scenarioCode(finding.scenario));
+  return element("article", { id: `first-${finding.number}`, class: "finding" },
+    element("h3", {}, verdictMark(campaign, { verdict: "fail", code: finding.code }), " ", planLink(finding.number)),
+    element("p", { class: "words" }, sentence(wordsOfNumbered(campaign, finding.number, finding.reduced))),
+    element("p", {}, scenarioCode(finding.reduced)),
+    planned,
+    drawRun(campaign, { number: finding.number, scenario: finding.reduced }, index === 0));
+}
+
+/** @param {any} campaign */
+function drawFindings(campaign) {
+  const { findings } = campaign.told;
+  if (findings.length === 0) return null;
+  const about = findings.length === 1 ? "The first plan that fails, reduced to faults of which none can be left out."
+    : "The first plan that fails with each code, reduced to faults of which none can be left out.";
+  return section(findings.length === 1 ? "First failure" : "First failures", "first", element("p", { class: "muted" }, about),
+    ...findings.map((finding, index) => drawFinding(campaign, finding, index)));
+}
+
+/** @param {any} campaign @param {any} cause */
+function drawCause(campaign, cause) {
+  const mark = verdictMark(campaign, { verdict: "fail", code: cause.code });
+  return element("li", { id: `cause-${cause.number}` },
+    element("p", {}, mark, " ", planLink(cause.number), ": ", sentence(wordsOfNumbered(campaign, cause.number, cause.scenario))),
+    scenarioCode(cause.scenario),
+    drawRun(campaign, cause, false));
+}
+
+/** @param {any} campaign @param {string[]} points */
+function groupWords({ call }, points) {
+  const calls = points.filter((point) => point !== KEEP).map(call);
+  const kept = points.includes(KEEP) ? "what the power cut keeps" : null;
+  return listed([...calls, ...(kept ? [kept] : [])]) || "no fault";
+}
+
+/** @param {{depth: number, causes: any[]}} growth */
+function causesWords({ depth, causes }) {
+  const what = causes.length === 1 ? "One failing plan doesn\u2019t fail so without any one of its faults."
+    : `${grouped(causes.length)} failing plans don\u2019t fail so without any one of their faults.`;
+  return `${what} Each plan with at most ${counted(depth, "fault")} that fails has the faults of one of these.`;
+}
+
+/** @param {any} campaign */
+function drawCauses(campaign) {
+  const { growth } = campaign.told;
+  if (!growth || growth.causes.length === 0) return null;
+  const groups = groupByCalls(growth.causes).map(({ points, items }) => {
+    const entries = element("ol", { class: "causes" });
+    const button = drawSome(items, SHOWN_CAUSES, entries, (cause) => drawCause(campaign, cause));
+    return element("details", { class: "group", open: growth.causes.length <= SHOWN_CAUSES },
+      element("summary", {}, `${groupWords(campaign, points)}: ${counted(items.length, "cause")}`), entries, button);
+  });
+  return section("Causes, by call", "causes",
+    element("p", { class: "muted" }, causesWords(growth)),
+    ...groups);
+}
+
+// ---- the map
+
+/** @param {any} campaign @param {number} number */
+function tellPlan(campaign, number) {
+  const plan = campaign.byNumber.get(number);
+  return `plan ${number}, ${verdictWords(plan)}: ${planWords(campaign, plan)}`;
+}
+
+/** @param {any} campaign */
+function drawLegend(campaign) {
+  const { told, codes } = campaign;
+  const entry = (plan, words) => element("li", {}, markIcon(markOf(plan, codes)), words);
+  const pass = entry({ verdict: "pass", code: null }, `pass (${grouped(told.counts.pass)})`);
+  const open = told.counts.unresolved > 0 ? [entry({ verdict: "unresolved", code: null }, `ended without a verdict (${grouped(told.counts.unresolved)})`)] : [];
+  const fails = failuresByCode(campaign).map(([code, count]) => entry({ verdict: "fail", code }, `fail ${code} (${grouped(count)})`));
+  const first = told.findings.length > 0 ? [element("li", {}, element("span", { class: "swatch" }), "framed: the first that fails with its code")] : [];
+  return element("ul", { class: "legend" }, pass, ...open, ...fails, ...first);
+}
+
+/** @param {any} campaign @param {(number: number) => void} chosen */
+function drawMap(campaign, chosen) {
+  const view = new MapView(campaign, { label: (row) => rowWords(row, campaign.call), tell: (number) => tellPlan(campaign, number), chosen });
+  const sizes = choice("cell-size", "Marks", [["12", "small"], ["16", "middle"], ["20", "large"]]);
+  sizes.select.value = String(view.cell);
+  sizes.select.addEventListener("change", () => view.resize(Number(sizes.select.value)));
+  const made = section("Map", "map",
+    element("p", {}, mapWords(campaign)),
+    drawLegend(campaign),
+    element("p", { class: "controls" }, sizes.label),
+    element("p", { id: "map-keys", hidden: true }, KEYS),
+    view.box);
+  return { made, view };
+}
+
+/** What the map shows. Only of plans that grew it is known which fault acts first. @param {any} campaign */
+function mapWords({ told }) {
+  const down = told.growth ? "acts first, in the order of the run without faults" : "its scenario names first";
+  return `Each mark is a plan. Down stands the fault that ${down}; across, how many faults it has. In a row the marks stand in the order of their plans\u2019 `
+    + "numbers. A column closes and opens by its head.";
+}
+
+/** What is told of the plan that was chosen. @param {any} campaign @param {number} number */
+function drawChosen(campaign, number) {
+  const plan = campaign.byNumber.get(number);
+  if (!plan) return [element("p", {}, `Plan ${number} isn\u2019t in this campaign.`)];
+  return [
+    element("h3", {}, `Plan ${number} `, verdictMark(campaign, plan)),
+    element("p", { class: "words" }, sentence(planWords(campaign, plan))),
+    element("p", {}, scenarioCode(plan.text)),
+    plan.parent === null ? null : element("p", {}, "It grew from ", planLink(plan.parent), "."),
+    drawDescendants(campaign, number),
+    element("p", {}, "Again, hit by hit: ", element("code", {}, explainCommand(campaign.told.about, plan))),
+    drawRun(campaign, { number, scenario: plan.text }, true),
+  ].filter((child) => child !== null);
+}
+
+/** @param {any} campaign @param {number} number */
+function drawDescendants(campaign, number) {
+  const { plans, fail } = descendantsOf(campaign, number);
+  if (plans === 0) return null;
+  const failing = fail === 0 ? "none fails" : `${grouped(fail)} ${fail === 1 ? "fails" : "fail"}`;
+  return element("p", {}, `${counted(plans, "plan")} grew from it; of these ${failing}.`);
+}
+
+// ---- points
+
+/** How many of the plans that fail have a fault at each point. @param {any} campaign @returns {Map<string, number>} */
+function failuresByPoint({ told }) {
+  const counts = new Map();
+  for (const { verdict, scenario } of told.not_passed) {
+    if (verdict !== "fail") continue;
+    for (const point of new Set((clausesOf(scenario) ?? []).map((clause) => clause.point))) counts.set(point, (counts.get(point) ?? 0) + 1);
+  }
+  return counts;
+}
+
+/** @param {any} campaign */
+function drawPoints(campaign) {
+  const { told } = campaign;
+  const failures = failuresByPoint(campaign);
+  const grown = told.growth !== null;
+  const cell = (count) => element("td", { class: count === 0 ? "number muted" : "number" }, count === 0 ? "none" : grouped(count));
+  const rows = campaign.points.map(({ point, clean, reached }) =>
+    element("tr", {}, element("td", {}, element("code", {}, point)), cell(clean), grown ? cell(reached ?? 0) : null, cell(failures.get(point) ?? 0)));
+  const heads = ["point", "hits without faults", ...(grown ? ["most hits of any run"] : []), "failing plans with a fault there"];
+  return section("Points", "points",
+    element("p", { class: "muted" }, grown ? "Of a point that no run hits this campaign says nothing." : "A point without hits gets no fault here."),
+    element("div", { class: "scroll" }, element("table", { class: "points" },
+      element("thead", {}, element("tr", {}, ...heads.map((head, index) => element("th", { class: index > 0 ? "number" : null }, head)))),
+      element("tbody", {}, ...rows))));
+}
+
+// ---- all plans
+
+/**
+ * A choice among values, each shown as a text. The value is told as it was given: attributes show characters that can't be seen by their numbers.
+ * @param {string} id
+ * @param {string} words
+ * @param {[string, string][]} options
+ */
+function choice(id, words, options) {
+  const select = element("select", { id }, ...options.map(([value, text]) => element("option", { value }, text)));
+  return { select, label: element("label", { for: id }, `${words} `, select), value: () => options[select.selectedIndex][0] };
+}
+
+/** @param {any} campaign @returns {[string, string][]} */
+function verdictChoices({ told, codes }) {
+  const fails = codes.length > 1 ? codes.map((code) => [`fail ${code}`, `fail ${code}`]) : [];
+  const unresolved = told.counts.unresolved > 0 ? [["unresolved", "unresolved"]] : [];
+  return [["", "any"], ["fail", "fail"], ...fails, ...unresolved, ["pass", "pass"]];
+}
+
+/** @param {any} campaign @param {Plan} plan */
+function drawPlan(campaign, plan) {
+  return element("tr", {},
+    element("td", { class: "number" }, element("a", { href: `#plan-${plan.number}` }, String(plan.number))),
+    element("td", {}, verdictMark(campaign, plan)),
+    element("td", {}, element("div", { class: "words" }, planWords(campaign, plan)), scenarioCode(plan.text)));
+}
+
+/** @param {any} campaign */
+function drawPlans(campaign) {
+  const { told, call } = campaign;
+  const levels = campaign.parts.map((part) => [levelKeyOf({ part }), partWords(part)]);
+  const verdict = choice("by-verdict", "Verdict", verdictChoices(campaign));
+  const point = choice("by-point", "Fault at", [["", "any point"], ...campaign.names.map((name) => [name, call(name)])]);
+  const level = choice("by-level", "With", [["", "any faults"], ...levels]);
+  const text = element("input", { id: "by-text", type: "search", autocomplete: "off" });
+  const status = element("p", { role: "status", class: "muted" });
+  const body = element("tbody");
+  const after = element("div");
+  const show = () => {
+    const wanted = { verdict: verdict.value(), point: point.value(), level: level.value(), text: text.value };
+    const found = filterPlans(campaign, wanted);
+    status.textContent = `${counted(found.length, "plan")} of ${grouped(campaign.plans.length)}`;
+    body.replaceChildren();
+    after.replaceChildren(drawSome(found, SHOWN_PLANS, body, (plan) => drawPlan(campaign, plan)));
+  };
+  for (const input of [verdict.select, point.select, level.select, text]) input.addEventListener("input", show);
+  if (told.counts.fail > 0) verdict.select.value = "fail";
+  show();
+  const head = element("thead", {}, element("tr", {}, element("th", { class: "number" }, "plan"), element("th", {}, "verdict"), element("th", {}, "scenario")));
+  return section("Plans", "plans",
+    element("form", { class: "filters" }, verdict.label, point.label, level.label, element("label", { for: "by-text" }, "Number or text ", text)),
+    status, element("div", { class: "scroll" }, element("table", { class: "plans" }, head, body)), after);
+}
+
+// ---- again
+
+/** @param {any} campaign */
+function drawAgain({ told: { seed, about } }) {
+  const items = [["seed", seed], ["program", `paklour ${about.program_version}`], ["command", about.command]];
+  const rows = items.map(([name, value]) =>
+    element("tr", {}, element("th", { scope: "row" }, name), element("td", {}, element("code", {}, value))));
+  return section("Again", "again",
+    element("table", {}, element("tbody", {}, ...rows)),
+    preformatted(about.settings));
+}
+
+// ---- the page
+
+/** @param {any} campaign */
+function drawPage(campaign) {
+  const chosen = element("div", { id: "chosen", class: "chosen", tabindex: "-1", "aria-live": "polite" });
+  const choose = (number) => {
+    chosen.replaceChildren(...drawChosen(campaign, number));
+    if (location.hash !== `#plan-${number}`) history.replaceState(null, "", `#plan-${number}`);
+  };
+  const { made, view } = drawMap(campaign, choose);
+  made.append(chosen);
+  const parts = [drawHeader(campaign), drawFindings(campaign), drawCauses(campaign), made, drawPoints(campaign), drawPlans(campaign), drawAgain(campaign)];
+  document.getElementById("page").replaceChildren(...parts.filter((part) => part !== null));
+  view.fit(view.box.clientWidth);
+  followHash(view, choose, chosen);
+}
+
+/**
+ * A link to a plan leads to the map, and to what is told of the plan.
+ * @param {MapView} view
+ * @param {(number: number) => void} choose
+ * @param {HTMLElement} chosen
+ */
+function followHash(view, choose, chosen) {
+  const follow = () => {
+    const match = /^#plan-(\d+)$/.exec(location.hash);
+    if (!match) return;
+    const number = Number(match[1]);
+    view.select(view.campaign.byNumber.has(number) ? number : null);
+    choose(number);
+    chosen.scrollIntoView({ block: "center" });
+  };
+  addEventListener("hashchange", follow);
+  document.getElementById("page").addEventListener("click", (event) => {
+    const link = /** @type {Element} */ (event.target).closest("a");
+    if (link && link.getAttribute("href") === location.hash) follow();
+  });
+  follow();
+}
+
+/** @param {unknown} error */
+function drawError(error) {
+  const problems = error instanceof ReadError ? error.problems : [String(error)];
+  document.getElementById("page").replaceChildren(
+    element("h1", {}, "This report can\u2019t be shown"),
+    element("ul", {}, ...problems.slice(0, 5).map((problem) => element("li", {}, problem))),
+    element("p", {}, "Its text stands below."));
+}
+
+/** Shows the report that stands in this page. The text that is there without a script is folded then. */
+export function start() {
+  try {
+    const campaign = campaignOf(readDocument(document.getElementById("document").textContent));
+    drawPage(campaign);
+    document.title = shown(`${campaign.told.label} \u2013 Paklour`);
+    document.getElementById("brief").open = false;
+  } catch (error) {
+    drawError(error);
+  }
+}

@@ -1,0 +1,258 @@
+// The page in a real browser, where Chromium is installed; elsewhere these tests are skipped, which says nothing.
+import assert from "node:assert/strict";
+import { mkdtempSync, rmSync, writeFileSync } from "node:fs";
+import { tmpdir } from "node:os";
+import { join } from "node:path";
+import { after, before, describe, test } from "node:test";
+import { shown } from "../words.js";
+import { Browser, findChromium } from "./chromium.js";
+import { drawn, hostileDocument, largestDocument, makeDocument } from "./made.js";
+import { exampleReport, savedReport, tool } from "./reports.js";
+
+const program = findChromium();
+/** The width of A4 between Chromium's margins, in pixels of style sheets. */
+const PRINTED = 717;
+const TAGS = `A ARTICLE B BODY BUTTON CODE DETAILS DIV FORM H1 H2 H3 HEAD HEADER HTML INPUT LABEL LI MAIN META OL OPTION P PATH PRE SCRIPT SECTION SELECT
+  SPAN STYLE SUMMARY SVG TABLE TBODY TD TH THEAD TITLE TR UL`;
+const ATTRIBUTES = `aria-activedescendant aria-colcount aria-colindex aria-describedby aria-expanded aria-hidden aria-label aria-labelledby aria-live
+  aria-rowcount aria-rowindex aria-selected autocomplete charset class colspan content d data-band data-strip for height hidden href http-equiv id lang name
+  open role scope style tabindex title type value viewBox width`;
+
+describe("in Chromium", { skip: program === null ? "Chromium isn't installed, so nothing is said of the page in a browser" : false }, () => {
+  let browser;
+  let folder;
+
+  before(() => {
+    folder = mkdtempSync(join(tmpdir(), "viewer-"));
+    browser = new Browser(program);
+  });
+  after(async () => {
+    await browser.close();
+    rmSync(folder, { recursive: true });
+  });
+
+  /** Opens the page of a document. */
+  async function open(document, options = {}, brief = "first none\n") {
+    writeFileSync(join(folder, "report.json"), JSON.stringify(document));
+    writeFileSync(join(folder, "brief"), brief);
+    writeFileSync(join(folder, "page.html"), tool("tools/frame", ["--with", join(folder, "report.json"), join(folder, "brief")]));
+    await browser.open(join(folder, "page.html"), options);
+  }
+
+  const side = (selector, name) => browser.evaluate(`document.querySelector("${selector}").getBoundingClientRect().${name}`);
+  /** How far the map's strips go. */
+  const widest = async () => await side(".map-strips", "right") - await side(".map-box", "left");
+  const saved = () => JSON.parse(savedReport());
+  const medium = () => makeDocument({ ...drawn(4), depth: 3, most: 900, longest: 9 }).document;
+
+  test("no name becomes an element, an attribute or a script, and nothing is asked for", async () => {
+    const { document } = hostileDocument();
+    await open(document, {}, `${document.label}\n</pre></details><img src=x onerror=pwned()>`);
+    await browser.evaluate("document.querySelectorAll('details').forEach((one) => { one.open = true; })");
+    await browser.evaluate("document.querySelectorAll('button.more').forEach((one) => one.click())");
+    await browser.evaluate("location.hash = '#plan-5'; new Promise((resolve) => setTimeout(resolve, 50))");
+    const found = await browser.evaluate(`(() => {
+      const all = [...document.querySelectorAll("*")];
+      return {
+        tags: [...new Set(all.map((one) => one.tagName.toUpperCase()))], attributes: [...new Set(all.flatMap((one) => one.getAttributeNames()))],
+        scripts: document.scripts.length, links: [...document.querySelectorAll("a")].map((one) => one.getAttribute("href")), pwned: typeof pwned,
+        hidden: all.flatMap((one) => [...one.attributes].map((attribute) => attribute.value)).filter((value) => /[\\u0000-\\u001f\\u202e\\u2066]/.test(value)),
+        width: document.documentElement.scrollWidth, text: document.body.textContent, title: document.title, label: document.querySelector("h1").textContent,
+      };
+    })()`);
+    assert.deepEqual(found.tags.filter((tag) => !TAGS.split(/\s+/).includes(tag)), []);
+    assert.deepEqual(found.attributes.filter((name) => !ATTRIBUTES.split(/\s+/).includes(name)), []);
+    assert.equal(found.scripts, 2);
+    assert.deepEqual(found.hidden, []);
+    assert.ok(found.width <= 1280, `the page is ${found.width} wide`);
+    assert.equal(found.pwned, "undefined");
+    assert.deepEqual(found.links.filter((link) => !/^#plan-\d+$/.test(link)), []);
+    assert.equal(found.label, shown(document.label));
+    assert.equal(found.title, shown(`${document.label} \u2013 Paklour`).replace(/\s+/g, " ").trim());
+    for (const code of document.findings.map((finding) => finding.code)) assert.ok(found.text.includes(shown(code)), code);
+    const asked = browser.events.filter((event) => event.method === "Network.requestWillBeSent").map((event) => event.params.request.url);
+    assert.equal(asked.length, 1, asked.join(" "));
+  });
+
+  test("each plan is told where the pointer is on its mark, and nowhere else", async () => {
+    for (const [document, width] of [[saved(), 1280], [medium(), 1280], [medium(), 390]]) {
+      await open(document, { width });
+      const found = await browser.evaluate(`(() => {
+        const told = [];
+        const box = document.querySelector(".map-box").getBoundingClientRect();
+        for (const strip of document.querySelectorAll(".strip[data-band]")) {
+          const { left, top } = strip.getBoundingClientRect();
+          const picture = strip.querySelector("svg").getBoundingClientRect();
+          const cell = Number(document.getElementById("cell-size").value);
+          for (let y = top + cell / 2; y < picture.bottom; y += cell) for (let x = left + cell / 2; x < picture.right; x += cell) {
+            strip.dispatchEvent(new PointerEvent("pointermove", { clientX: x, clientY: y, bubbles: true }));
+            const text = document.querySelector(".pointed").textContent;
+            if (text.startsWith("plan ")) told.push([parseInt(text.slice(5), 10), x, y, x > box.left]);
+          }
+        }
+        return told;
+      })()`);
+      assert.deepEqual(await browser.evaluate(`[...document.querySelectorAll(".strip[aria-colindex]")].filter((strip) => {
+        const head = document.querySelectorAll(".map-column")[strip.getAttribute("aria-colindex") - 2].getBoundingClientRect();
+        return Math.abs(head.left - strip.getBoundingClientRect().left) > 1;
+      }).length`), 0, "strips that don't stand below their column's head");
+      const numbers = found.map(([number]) => number).sort((one, other) => one - other);
+      assert.deepEqual(numbers, Array.from({ length: document.counts.plans }, (_, number) => number));
+      assert.equal(new Set(found.map(([, x, y]) => `${x} ${y}`)).size, document.counts.plans);
+      assert.ok(found.every(([, , , inside]) => inside));
+    }
+  });
+
+  test("keys lead to the map, through it, and open a plan", async () => {
+    await open(saved());
+    for (let presses = 0; presses < 60 && await browser.evaluate("document.activeElement?.className") !== "map"; presses += 1) await browser.press("Tab");
+    const current = () => browser.evaluate(`(() => {
+      const name = document.querySelector(".map").getAttribute("aria-activedescendant");
+      return document.getElementById(name).getAttribute("aria-label");
+    })()`);
+    assert.match(await current(), /^plan 31, fail lost: the 1st fsync fails; the power cut keeps the 3rd pending change$/);
+    await browser.press("ArrowRight");
+    assert.match(await current(), /^plan 32, pass: /);
+    await browser.press("Enter");
+    assert.equal(await browser.evaluate("document.querySelector('#chosen h3').textContent"), "Plan 32 pass");
+    assert.equal(await browser.evaluate("location.hash"), "#plan-32");
+    await browser.press("ArrowLeft");
+    await browser.press("Enter");
+    assert.match(await browser.evaluate("document.querySelector('#chosen').textContent"), /It grew from plan \d+\..*paklour report --explain/);
+  });
+
+  test("a click chooses the plan that it points at, and a link leads to its plan, again too", async () => {
+    const document = makeDocument({ ...drawn(4), depth: 6, most: 8000, longest: 12 }).document;
+    await open(document);
+    const place = await browser.evaluate(`(() => {
+      const map = document.querySelector(".map");
+      map.scrollIntoView({ block: "center" });
+      map.scrollTop = map.scrollHeight;
+      const { bottom } = map.getBoundingClientRect();
+      const strip = [...document.querySelectorAll(".strip[data-band]")].filter((one) => one.getBoundingClientRect().top < bottom - 20).pop();
+      const { left, top } = strip.getBoundingClientRect();
+      strip.dispatchEvent(new PointerEvent("pointermove", { clientX: left + 5, clientY: top + 5, bubbles: true }));
+      return { x: left + 5, y: top + 5, scrolled: map.scrollTop, plan: parseInt(document.querySelector(".pointed").textContent.slice(5), 10) };
+    })()`);
+    assert.ok(place.scrolled > 100, "the map doesn't scroll, so this says little");
+    await browser.click(place);
+    const chosen = () => browser.evaluate("parseInt(document.querySelector('#chosen h3').textContent.slice(5), 10)");
+    assert.equal(await chosen(), place.plan);
+    const isSeen = () => browser.evaluate(`(() => {
+      const { top, bottom } = document.getElementById("chosen").getBoundingClientRect();
+      return bottom > 0 && top < innerHeight;
+    })()`);
+    for (let clicks = 0; clicks < 2; clicks += 1) {
+      await browser.evaluate("scrollTo(0, 0); document.querySelector('.finding h3 a').click(); new Promise((resolve) => setTimeout(resolve, 50))");
+      assert.equal(await chosen(), document.findings[0].number);
+      assert.equal(await isSeen(), true);
+    }
+  });
+
+  test("a column closes and opens by its head", async () => {
+    const document = medium();
+    await open(document);
+    const sum = (selector, count) => browser.evaluate(`[...document.querySelectorAll("${selector}")].reduce((sum, one) => sum + ${count}, 0)`);
+    const marks = () => sum(".strip[data-band]", "parseInt(one.getAttribute('aria-label'), 10)");
+    const press = async () => {
+      await browser.evaluate("document.querySelectorAll('.map-column button')[2].focus()");
+      await browser.press("Enter");
+      return browser.evaluate("document.activeElement.getAttribute('aria-expanded')");
+    };
+    assert.equal(await marks(), document.counts.plans);
+    assert.equal(await press(), "false");
+    assert.equal(await marks(), document.counts.plans - document.growth.levels[2]);
+    assert.equal(await sum(".strip .closed", "Number(one.textContent)"), document.growth.levels[2]);
+    assert.equal(await press(), "true");
+    assert.equal(await marks(), document.counts.plans);
+  });
+
+  test("the filters show what they say", async () => {
+    const document = medium();
+    await open(document);
+    const set = (id, value) => browser.evaluate(`(() => {
+      const input = document.getElementById("${id}");
+      input.value = "${value}";
+      input.dispatchEvent(new Event("input"));
+    })()`);
+    const status = () => browser.evaluate("document.querySelector('#plans [role=status]').textContent");
+    assert.equal(await status(), `${document.counts.fail} plan${document.counts.fail === 1 ? "" : "s"} of ${document.counts.plans}`);
+    await set("by-verdict", "");
+    await set("by-level", "1");
+    assert.equal(await status(), `${document.growth.levels[1]} plans of ${document.counts.plans}`);
+    await set("by-text", "no such text");
+    assert.equal(await status(), `0 plans of ${document.counts.plans}`);
+  });
+
+  test("at 390 pixels, and printed, nothing is wider than the page; light and dark differ", async () => {
+    const grounds = [];
+    const deep = makeDocument({ ...drawn(4), depth: 8, most: 30000, longest: 12 }).document;
+    for (const dark of [false, true]) {
+      await open(deep, { width: 390, dark });
+      assert.ok(await browser.evaluate("document.documentElement.scrollWidth") <= 390);
+      grounds.push(await browser.evaluate("getComputedStyle(document.body).backgroundColor"));
+    }
+    assert.notEqual(grounds[0], grounds[1]);
+    await open(deep);
+    const before = await widest();
+    await browser.evaluate("dispatchEvent(new Event('beforeprint'))");
+    assert.ok(await widest() <= PRINTED, `${await widest()} of ${PRINTED}`);
+    await browser.evaluate("dispatchEvent(new Event('afterprint'))");
+    assert.equal(await widest(), before);
+  });
+
+  test("the first failure stands hit by hit beside the run without faults, and the page tells how it is made again", async () => {
+    const document = JSON.parse(exampleReport("replace_rename_first"));
+    await open(document);
+    const told = await browser.evaluate(`(() => {
+      const run = document.querySelector(".finding details");
+      const rows = [...run.querySelectorAll("tr")].map((row) => [...row.cells].map((cell) => cell.textContent).join("|"));
+      return { open: run.open, summary: run.querySelector("summary").textContent, rows, again: document.getElementById("again").textContent };
+    })()`);
+    assert.deepEqual([told.open, told.summary], [true, "The run, hit by hit, beside the run without faults"]);
+    assert.deepEqual(told.rows, [
+      "hit|this run|the run without faults", "1|1st create", "2|1st write", "3|2nd write", "4|1st rename", "5|1st sync return|1st sync",
+      "6|1st pending change|1st sync_dir", "7|2nd pending change|\u2013", "8|3rd pending change|\u2013", "9|4th pending change kept|\u2013"]);
+    const { program_version: version, command, settings } = document.about;
+    for (const text of [`paklour ${version}`, command, settings.trim()]) assert.ok(told.again.includes(text), text);
+  });
+
+  test("a document that can't be read leaves the text open", async () => {
+    await open({ version: 3 }, {}, "first 12 lost\n");
+    assert.match(await browser.evaluate("document.getElementById('page').textContent"), /This report can\u2019t be shown.*version 3/);
+    assert.equal(await browser.evaluate("document.getElementById('brief').open"), true);
+  });
+
+  test("without a script the text can be read", async () => {
+    await open(saved(), { scripts: false }, "first 12 lost\n");
+    const { root } = await browser.send("DOM.getDocument", { depth: -1 });
+    const { nodeId } = await browser.send("DOM.querySelector", { nodeId: root.nodeId, selector: "#brief pre" });
+    assert.equal((await browser.send("DOM.getOuterHTML", { nodeId })).outerHTML, "<pre>first 12 lost\n</pre>");
+    const { model } = await browser.send("DOM.getBoxModel", { nodeId });
+    assert.ok(model.height > 20, "the text isn't seen");
+    await open(saved());
+    assert.equal(await browser.evaluate("document.querySelector('#brief pre').checkVisibility()"), false);
+  });
+
+  test("65,536 plans are shown, and filtered", async (context) => {
+    for (const depth of [2, 8]) {
+      await open(largestDocument(depth).document);
+      const shownAfter = await browser.evaluate("performance.getEntriesByType('navigation')[0].loadEventEnd");
+      const filtered = await browser.evaluate(`(() => {
+        const text = document.getElementById("by-text");
+        document.getElementById("by-verdict").value = "";
+        const timed = (input, value) => {
+          input.value = value;
+          const begin = performance.now();
+          input.dispatchEvent(new Event("input"));
+          return Math.round(performance.now() - begin);
+        };
+        const times = ["fsync=1", "fsync=12", "", "no such text", ""].map((value) => timed(text, value));
+        return [...times, timed(document.getElementById("by-point"), "libc::fsync"), timed(document.getElementById("by-level"), "2")];
+      })()`);
+      context.diagnostic(`depth ${depth}: shown after ${Math.round(shownAfter)} ms, filtered in ${filtered.join(", ")} ms`);
+      await browser.evaluate("dispatchEvent(new Event('beforeprint'))");
+      assert.ok(await widest() <= PRINTED, `${await widest()} of ${PRINTED}, printed`);
+    }
+  });
+});
