@@ -24,14 +24,19 @@ build:
 examples:
 	@cd crates/paklour && rt try --cases ../../examples
 
-# Performs the sessions of tests/ with the program that `make build` makes.
+# Performs the sessions of tests/ with the program that `make build` makes. Some run what is built in outside/.
 sessions: build
+	@$(MAKE) -s -C outside
 	@tools/sessions $(BUILT)
 
-# Everything: the house rules, the tests of outside/, every proof from nothing, the must-fail edits, the tests, and the program as its
-# users run it.
+# What is seen to behave, in minutes and without a proof: the house rules, the tests of outside/ and of the crates, the sessions and the examples,
+# but for what only the program itself comes to.
 test:
-	@tools/gate_times tools/gate
+	@tools/test
+
+# The proof: every proof from nothing, the must-fail edits, and all that the proved program has to do. It and `make test` are the merge gate.
+prove:
+	@tools/gate_times tools/prove
 
 # Proves what changed since the last check.
 check:
@@ -77,9 +82,9 @@ dist-check:
 refuse: build
 	@tools/refuse.py $(BUILT) examples/*.toml
 
-# Tries the edits of must-fail/ and edits/, which the prover has to refuse, over the libraries that `make check` has proved.
+# Tries all edits of must-fail/, which the prover has to refuse, over the libraries that `make check` has proved, and writes their list.
 edits: check
-	@tools/wrong_bodies --further
+	@tools/wrong_bodies --all
 
 # Proves and builds the benchmarks, and runs them: work counts, which have to be those stored, and times beside them.
 bench:
@@ -92,4 +97,4 @@ help:
 	    { text = "" }' Makefile
 	@echo 'Each is told in README.md or in docs/WORKING.md.'
 
-.PHONY: help quick run build install uninstall pages dist dist-check examples sessions test check fmt refuse edits bench
+.PHONY: help quick run build install uninstall pages dist dist-check examples sessions test prove check fmt refuse edits bench

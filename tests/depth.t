@@ -311,6 +311,8 @@ A depth is 1 to 64, and goes with no pairs.
 
 A level that would make more than 65536 plans isn't run, and nothing is written.
 
+From here on the program itself is needed.
+
   $ sed 's/depth = 3/depth = 64/; s/, \["yes", "yes"\]//' forced.toml | sed 's/\[\["yes", "yes"\]\]/[["yes", "yes"], ["yes", "yes"], ["yes", "no"]]/' | paklour run
   too many plans
   [2]

@@ -1,6 +1,8 @@
+From here on the program itself is needed.
+
 Help is a text on standard output, and the exit status is 0.
 
-  $ for words in help --help -h 'help run' 'run -h' 'help plans' 'help map' 'help page' 'help try' 'try --help' 'help reduce' 'help explain' 'help asks' 'help report' 'help help'; do
+  $ for words in help --help -h 'help run' 'run -h' 'help plans' 'help page' 'help try' 'try --help' 'help reduce' 'help explain' 'help asks' 'help report' 'help help'; do
   >     paklour $words > text || echo "$words: $?"
   >     grep -q '^Usage: paklour' text || echo "$words: no text"
   >     awk 'length > 100' text
@@ -55,26 +57,20 @@ Each option has an example.
   $ paklour help reduce | grep -e ' --progress'
         --progress         Show on standard error how far it is; --progress=plain: in lines, for logs
     paklour reduce --progress --plan 10 my.toml   while it asks, how many tests there were so far
-  $ paklour help map | grep -e ' --progress'
-        --progress  Show on standard error how far it is; --progress=plain: in lines, for logs
-  $ paklour help map | sed -n '/^Example/,$p'
-  Example:
-    paklour map my.toml > map.svg
-  draws a row of plans for each point, each plan in the colour of its verdict.
   $ paklour help page | grep -e ' --progress'
         --progress  Show on standard error how far it is; --progress=plain: in lines, for logs
   $ paklour help page | sed -n '/^Example/,$p'
   Example:
     paklour page my.toml > page.html
-  tells what was tried and found, with the map and the run of each first failure, hit by hit.
-  $ paklour help report | grep -e --brief -e --map -e --page -e --explain
+  shows what was tried and found: each first failure with its run, hit by hit, a map of all plans,
+  and the plans by verdict, point and level. A browser opens it; it asks for nothing from elsewhere.
+  $ paklour help report | grep -e --brief -e --page -e --explain
         --brief           Count verdicts that pass, and write the scenario beside each other verdict
-        --map             Write the map, an SVG picture
-        --page            Write a page to look at, as HTML; it tells no run hit by hit
+        --page            Write a page to look at, as HTML; it shows no run hit by hit
         --explain <TEXT>  Write instead the run that an answer tells of this scenario, hit by hit
     paklour report --brief my.toml < answers
     paklour report --page my.toml < answers > page.html
-    paklour report --explain 'libc::fsync=1*return' my.toml < answers      one run, hit by hit
+    paklour report --explain 'sys::fsync=1*return' my.toml < answers      one run, hit by hit
 
 The help of the program names the keys of settings, their ranges and defaults, as settings.t and settings_tables.t show them, and the exit
 statuses.

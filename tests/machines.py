@@ -4,7 +4,7 @@
 
 REPORT is what `run` writes, PLANS what `plans` does, DOCUMENT what `run --json` does, and CASES what `run --junit` does. The last two are read
 by the parsers of Python's library, and each member, element and attribute is compared with what the lines of the first two say, as
-docs/MACHINES.md tells it. Prints each difference, and at last how many plans were compared.
+docs/MACHINES.md tells it; of `about` the plans. Prints each difference, and at last how many plans were compared.
 """
 import json
 import sys
@@ -71,6 +71,37 @@ def document_of(lines, plans):
     }
 
 
+def spelled(faults, points):
+    """The scenario of a plan that grew, by its faults: the place of a point, which hit, and what happens there. A return that only comes before one from then
+    on, with the same text, is a part of it."""
+    entries = []
+    for place, point in enumerate(points):
+        terms, done = [], 0
+        merged = []
+        for hit, kind in sorted(((int(hit), kind) for where, hit, kind in faults if int(where) == place), reverse=True):
+            is_part = merged and merged[0][0] == hit + 1 and kind == f"1*{merged[0][1]}"
+            merged[: 1 if is_part else 0] = [(hit, merged[0][1] if is_part else kind)]
+        for hit, kind in merged:
+            terms += [f"{hit - done - 1}*off"] * (hit > done + 1) + [kind]
+            done = hit
+        entries += [f"{point}={'->'.join(terms)}"] if terms else []
+    return ";".join(entries)
+
+
+def wrong_about(read, plans):
+    """What of the member `about` isn't so: of the plans behind those that grew or that the census makes, and of those that grew."""
+    about, growth, points = read["about"], read["growth"], [item["point"] for item in read["census"]]
+    behind = [scenario(plan) for plan in plans[len(plans) - len(about["storms"] + about["listed"]) :]]
+    if about["storms"] + about["listed"] != behind:
+        yield f"storms and listed: {about['storms']}, {about['listed']}"
+    grown = [[fault.split(" ", 2) for fault in plan.split("; ") if fault] for plan in about["grown"]]
+    if len(grown) != (sum(growth["levels"]) + growth["onward"] if growth else 0):
+        yield f"{len(grown)} plans that grew"
+    for number, (faults, plan) in enumerate(zip(grown, plans)):
+        if spelled(faults, points) != scenario(plan):
+            yield f"grown {number}: {faults}, not {plan}"
+
+
 def cases_of(document, plans):
     """The suite that a document tells, as nested lists: tag, attributes, text and children."""
     label, counts = document["label"], document["counts"]
@@ -102,6 +133,11 @@ def main():
     wanted = document_of(lines_of(report), plans)
     with open(document, encoding="utf-8") as file:
         read = json.load(file)
+    for line in wrong_about(read, plans):
+        print(line)
+    about = read.pop("about")
+    if (len(about["finding_runs"]), about["told_by"]) not in ((len(wanted["findings"]), "target"), (0, "answers")):
+        print(f"about: {about['told_by']}, with {len(about['finding_runs'])} runs of findings")
     for name in [*wanted, *(name for name in read if name not in wanted)]:
         if wanted.get(name) != read.get(name):
             print(f"{name}: {read.get(name)}, not {wanted.get(name)}")

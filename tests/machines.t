@@ -86,7 +86,25 @@ Of six sites the fourth is the sync. Where it comes too late its three plans lea
         "tests": 1
       }
     ],
-    "growth": null
+    "growth": null,
+    "about": {
+      "program_version": "0.4.0",
+      "told_by": "target",
+      "command": "paklour run --json FILE",
+      "settings": "target = \"replace\"\nvariant = \"late_sync\"\nseed = 7\n[replace]\nold = \"old\"\nreplacements = [[\"ne\", \"w\"]]\n",
+      "storms": [],
+      "listed": [],
+      "grown": [],
+      "clean_run": {
+        "explained": "verdict pass\nhit 1 replace::create 1 go\nhit 2 replace::write 1 go\nhit 3 replace::write 2 go\nhit 4 replace::rename 1 go\nhit 5 replace::sync_dir 1 go\nhit 6 replace::sync 1 go\n"
+      },
+      "finding_runs": [
+        {
+          "explained": "verdict fail torn\nhit 1 replace::create 1 go\nhit 2 replace::write 1 go\nhit 3 replace::write 2 go\nhit 4 replace::rename 1 go\nhit 5 replace::sync_dir 1 go\nhit 6 replace::sync 1 return\n"
+        }
+      ],
+      "cause_runs": []
+    }
   }
   [1]
 
@@ -205,5 +223,5 @@ A report is written in one form.
   error: the argument '--brief' cannot be used with '--json'
   $ paklour run --brief --json --junit small.toml 2>&1 | head -n 1
   error: the argument '--brief' cannot be used with '--json'
-  $ paklour map --junit small.toml 2>&1 | head -n 1
+  $ paklour page --junit small.toml 2>&1 | head -n 1
   error: unexpected argument '--junit' found

@@ -118,7 +118,8 @@ class Expected:
         self.levels = [[()]]
         for _ in range(component.depth):
             self.levels.append([child for plan in self.levels[-1] for child in self.children(plan)])
-        self.onward = [more for plan in self.levels[-1] for more in self.from_then_on(plan)]
+        self.leaves = [(plan, more) for plan in self.levels[-1] for more in self.from_then_on(plan)]
+        self.onward = [more for _, more in self.leaves]
         self.plans = sum(self.levels, []) + self.onward
 
     def run(self, plan):
@@ -263,7 +264,7 @@ class Campaign:
         self.look_at(expected, lines)
         self.expect("each plan of the levels was asked", set(), {text_of(self.component.points, plan) for plan in sum(expected.levels, [])} - set(known))
         if len(expected.plans) > 1 and not self.differs:
-            self.break_one(expected, known)
+            self.break_one(expected, {**known, **unasked})
         return len(expected.plans)
 
     def look_at_parts(self, asked, known, given):
@@ -297,16 +298,22 @@ class Campaign:
             if any(scenario == text_of(self.component.points, plan) for level in expected.levels for plan in level):
                 self.expect("of the levels, it keeps each", scenario, reduced)
 
+    def shared(self, expected):
+        """A plan, the one whose run its own begins like, and at which place of their hits this ends: that of its last fault, or of one from then on
+        the next hit of its point."""
+        if expected.leaves and self.draw.random() < 0.5:
+            leaf, plan = self.draw.choice(expected.leaves)
+            behind = [point for point, _ in expected.behind(leaf)]
+            return plan, leaf, len(expected.run(leaf)[0]) - len(behind) + behind.index(leaf[-1][0])
+        plan = self.draw.choice(self.draw.choice([level for level in expected.levels[1:] if level]))
+        return plan, plan[:-1], len(expected.run(plan)[0]) - len(expected.behind(plan)) - 1
+
     def break_one(self, expected, known):
-        """A plan's hits change before its last fault: another point, or an end."""
-        level = self.draw.choice([level for level in expected.levels[1:] if level] or [[]])
-        if not level:
-            return
-        plan = self.draw.choice(level)
-        text, parent = text_of(self.component.points, plan), text_of(self.component.points, plan[:-1])
+        """A plan's hits change where they are still those of another run: another point, or an end."""
+        plan, other, last = self.shared(expected)
+        text, parent = text_of(self.component.points, plan), text_of(self.component.points, other)
         hits = list(expected.run(plan)[0])
-        fault = len(hits) - len(expected.behind(plan)) - 1
-        at = self.draw.randint(0, fault)
+        at = self.draw.randint(0, last)
         if self.draw.random() < 0.5 or len(self.component.points) == 1:
             hits, why = hits[:at], "fault not met"
         else:

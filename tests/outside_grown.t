@@ -1,11 +1,5 @@
 Campaigns with a depth on components that somebody else runs: plans grow from the hits that answers tell.
 
-A thousand made components, whose next hit is drawn once for all from the answers so far: the list of plans, the report and its causes are worked out in the
-script by the definitions alone, and so is the line that is refused where a component breaks.
-
-  $ "$TESTDIR/made_campaigns.py" 1000
-  1000 campaigns of 30505 plans, 0 differ
-
 One by hand. Without faults it hits `a` and `b`; where one fails, `c` cleans up, and a panic ends it. The first failure behind a failure that is lost is that of
 `a`, whose clean-up fails.
 
@@ -179,6 +173,18 @@ return goes on with its own text.
   cause 5 lost a=return(ENOSPC)
   [1]
 
+The document tells each plan that grew by its faults, in the order in which they act, and so the one from then on.
+
+  $ paklour report --json kinds.toml < answers | sed -n '/"grown": \[/,/\]/p'
+      "grown": [
+        "",
+        "0 1 1*return(ENOSPC)",
+        "0 1 1*return",
+        "1 1 1*return",
+        "1 1 1*panic",
+        "0 1 return(ENOSPC)"
+      ],
+
 Hits in a row, and a fault from then on, which is asked where its point is hit again.
 
   $ cat > row.toml << END
@@ -210,14 +216,13 @@ Hits in a row, and a fault from then on, which is asked where its point is hit a
   first none
   causes 0
 
-Where nothing is hit there is one plan; where too much is, the list is refused before its first plan with a fault is asked.
+Where nothing is hit there is one plan; where too much is, the list is refused before its first plan with a fault is asked. The longest list is
+at the end.
 
   $ line pass none '' | paklour report --brief row.toml | grep -E '^(level|plans)'
   level 0 1
   level 1 0
   plans 1
-  $ line pass none '32767*a' | paklour asks row.toml | wc -l
-  65534
   $ line pass none '32768*a' | paklour asks row.toml
   too many plans
   [2]
@@ -253,7 +258,16 @@ What is wrong with a line
   $ told pass none '*a'
   answers: line 1: bad count
   [2]
-  $ told pass none '4294967296*a'
+  $ told pass none '65535*a;2*b'
+  answers: line 1: bad count
+  [2]
+
+A line has 65536 hits at most, and is refused before any hit is made of its counts: also where only 10 MB of memory are to be had.
+
+  $ told pass none '65535*a;b'
+  too many plans
+  [2]
+  $ (ulimit -v 10240; told pass none '1000000000*a')
   answers: line 1: bad count
   [2]
   $ told pass 'd=retrun' 'a;a'
@@ -291,6 +305,31 @@ A run goes as the one that it grew from, up to its last fault: where it hits ano
   $ broken unresolved 'a=1*return' 'a;c;b' 2>&1 | head -n 1
   a=1*panic
 
+With its last fault from then on a run goes as with this fault once, up to the next hit of the point; what comes behind that is its own.
+
+  $ row() { head -n 5 answers > row; line "$@" >> row; paklour asks row.toml < row; paklour report row.toml < row; }
+  $ sed -i 's/"a"/"a", "b"/' row.toml
+  $ { line pass none '2*a'; line pass a=1*return '2*a'; line pass a=1*panic 'a'; } > answers
+  $ { line pass 'a=1*off->1*return' '2*a'; line pass 'a=1*off->1*panic' '2*a'; } >> answers
+  $ row pass a=return 'b;2*a'
+  answers: line 6: hits differ from line 2 at hit 1
+  answers: line 6: hits differ from line 2 at hit 1
+  [2]
+  $ row pass a=return 'a;b;a'
+  answers: line 6: hits differ from line 2 at hit 2
+  answers: line 6: hits differ from line 2 at hit 2
+  [2]
+  $ row pass a=return ''
+  answers: line 6: fault not met
+  answers: line 6: fault not met
+  [2]
+  $ row pass a=return 'a'
+  answers: line 6: fault not met
+  answers: line 6: fault not met
+  [2]
+  $ row pass a=return '2*a;b' | tail -n 1
+  causes 0
+
 The first of them by the plans' order is told, whatever the lines' order; and none before the run that it grew from is known.
 
   $ { line pass 'b=1*return;c=1*return' 'a;b'; line pass 'b=1*return' 'a;b;c'; line pass 'b=1*panic' 'b'; line pass none 'a;b'; } > broken
@@ -302,6 +341,26 @@ The first of them by the plans' order is told, whatever the lines' order; and no
   [2]
   $ sed '3,4d' broken | paklour asks three.toml
   none
+
+Runs that were ended
+--------------------
+
+Their hits are those up to there: what would have come behind these nobody knows. So where the next level is empty, the page says for how many runs that is
+no end.
+
+  $ cat > ended.toml << END
+  > target = "outside"
+  > depth = 1
+  > [outside]
+  > label = "ended"
+  > codes = []
+  > points = ["a", "b"]
+  > END
+  $ { line pass none 'a;b;a'; line unresolved a=1*return a; line unresolved a=1*panic a; line unresolved b=1*return 'a;b'; } > ended
+  $ { line pass b=1*panic 'a;b'; line pass 'a=1*off->1*return' 'a;b;a'; line pass 'a=1*off->1*panic' 'a;b;a'; } >> ended
+  $ paklour report --brief ended.toml < ended | grep -E '^(beyond|counts)'
+  beyond 0
+  counts pass 4 unresolved 3
 
 Hits that nobody knows
 ----------------------
@@ -419,3 +478,15 @@ And where it doesn't do the same twice.
   $ loop
   answers: line 5: hits differ from line 1 at hit 1
   [2]
+
+The longest list
+----------------
+
+A run without faults that hits one point 32,767 times has 65,534 plans with one fault. With itself, and the one whose fault is from then on, these are
+all 65,536 plans that a list has.
+
+From here on the program itself is needed.
+
+  $ printf '%s\n' 'target = "outside"' 'depth = 1' '[outside]' 'label = "a row"' 'codes = []' 'points = ["a"]' > row.toml
+  $ line pass none '32767*a' | paklour asks row.toml | wc -l
+  65534

@@ -1,157 +1,77 @@
-"""Looks at a page that `page` has written.
+"""Looks at a page that `page` or `report --page` has written.
 
-    python3 page.py PAGE REPORT SETTINGS
+    python3 page.py PAGE BRIEF DOCUMENT
 
-PAGE is what `page` writes of SETTINGS, REPORT what `run` does. The page has to be well-formed XML and HTML whose elements are closed in their
-order; nothing in it may ask for a file or a script, and no address but that of SVG's names is in it; it has a style for dark screens and one for
-paper; each of its links has to lead to an element of its own, of which there is one; the codes, numbers and scenarios of REPORT have to be those
-of its articles and rows; each cell of the map whose verdict isn't pass has to lead to a row with that verdict, and no other; and the text of
-SETTINGS stands at its end. Prints each difference, and at last what was looked at.
+PAGE is read as a browser reads HTML. Its text has to be that of BRIEF, and its document that of DOCUMENT, as `--brief` and `--json` write them of the
+same campaign, but for the command that a document tells. The page may hold no other script, text or element than the frame of viewer/, its policy
+lets only the frame's script run and asks for nothing, and no address is in it. Prints each difference, the command, and how many differences there are.
 """
-import html.parser
+import json
+import os
 import re
+import subprocess
 import sys
-import xml.etree.ElementTree as xml
+from html.parser import HTMLParser
 
-VOID = {"meta"}
-NAMES = "http://www.w3.org/2000/svg"
-SVG = "{" + NAMES + "}"
+TOP = os.path.join(os.path.dirname(os.path.abspath(__file__)), "..")
+FRAME = os.path.join(TOP, "tools", "frame")
+# Elements that have no end.
+VOID = ("br", "hr", "img", "input", "link", "meta")
 
 
-class Elements(html.parser.HTMLParser):
-    """Which elements are open, and what is wrong with their order."""
+class Page(HTMLParser):
+    """The elements of a page in their order, and the text in each of those that have an id."""
 
-    def __init__(self):
-        super().__init__()
-        self.open = []
-        self.wrong = []
+    def __init__(self, text):
+        super().__init__(convert_charrefs=True)
+        self.elements, self.texts, self.open = [], {}, []
+        self.feed(text)
+        self.close()
 
-    def handle_starttag(self, tag, attributes):
+    def handle_starttag(self, tag, attrs):
+        self.elements.append((tag, tuple(attrs)))
         if tag not in VOID:
-            self.open.append(tag)
-
-    def handle_startendtag(self, tag, attributes):
-        pass
+            self.open.append((tag, dict(attrs).get("id")))
 
     def handle_endtag(self, tag):
-        if not self.open or self.open.pop() != tag:
-            self.wrong.append(f"</{tag}> ends another element")
+        if not self.open or self.open[-1][0] != tag:
+            raise ValueError(f"</{tag}> closes {self.open[-1:]}")
+        self.open.pop()
+
+    def handle_data(self, data):
+        key = next((name for _, name in reversed(self.open) if name), None), self.open[-1][0] if self.open else None
+        self.texts[key] = self.texts.get(key, "") + data
 
 
-def text_of(element):
-    return "".join(element.itertext())
+def read(path):
+    with open(path, encoding="utf-8", newline="") as file:
+        return file.read()
 
 
-def after(lines, word):
-    return [line[len(word) + 1 :] for line in lines if line.startswith(word + " ")]
+def differences(page, text, brief, document):
+    frame = Page(subprocess.run([FRAME], capture_output=True, text=True, check=True).stdout)
+    if page.elements != frame.elements or page.open:
+        yield f"{len(page.elements)} elements and not the {len(frame.elements)} of the frame"
+    if page.texts[("brief", "pre")] != brief:
+        yield "another text than that of --brief"
+    told = json.loads(page.texts[("document", "script")])
+    wanted = json.loads(document)
+    if {**told, "about": {**told["about"], "command": None}} != {**wanted, "about": {**wanted["about"], "command": None}}:
+        yield "another document than that of --json"
+    if re.search(r"""(src|href|url|action)\s*[=(]\s*["']?\s*https?:""", text):
+        yield "an address"
+    if "default-src 'none'" not in text:
+        yield "no policy"
 
 
-def links(page):
-    ids = [element.get("id") for element in page.iter() if element.get("id")]
-    for name in {name for name in ids if ids.count(name) > 1}:
-        yield f"{name} is the id of more than one element"
-    for element in page.iter():
-        target = element.get("href")
-        if target is not None and (target[0] != "#" or target[1:] not in ids):
-            yield f"{target} leads nowhere"
-
-
-def requests(page, text):
-    for address in set(re.findall(r"\w+://[^'\"\s<>]*", text)) - {NAMES}:
-        yield f"{address} is an address"
-    for element in page.iter():
-        if element.tag.replace(SVG, "") in {"script", "link", "img", "iframe", "object", "embed", "image", "use"}:
-            yield f"<{element.tag}> asks for something"
-        if element.get("src") or "url(" in (element.text or "") and element.tag.endswith("style"):
-            yield "an address is asked for"
-
-
-def styles(page):
-    style = text_of(page.find("head/style"))
-    for word in ("color-scheme:light dark", "@media(prefers-color-scheme:dark)", "@media print"):
-        if word not in style:
-            yield f"no {word} in the style"
-
-
-def cells(page):
-    """Each cell of the map: the class of its colour, and where it leads, if it does."""
-    linked = {a[0]: a.get("href") for a in page.iter(SVG + "a")}
-    rectangles = [element for element in page.iter(SVG + "rect") if element.find(SVG + "title") is not None]
-    return [(element.get("class"), linked.get(element)) for element in rectangles]
-
-
-def leads(page):
-    told = {row.get("id"): text_of(row.findall("td")[0]).split()[0] for row in page.iter("tr") if row.get("id")}
-    for shown, target in cells(page):
-        if shown != "pass" and target is None and len(told) < 1000:
-            yield f"a cell of {shown} leads nowhere"
-        if target is not None and shown.rstrip("0123456789") != told.get(target[1:]):
-            yield f"a cell of {shown} leads to {target}"
-
-
-def articles(page, kind):
-    return [element for element in page.iter("article") if element.get("id", "").startswith(kind + "-")]
-
-
-def same(what, found, wanted):
-    if found != wanted:
-        yield f"{what}: {found} and not {wanted}"
-
-
-def told(page, lines):
-    firsts = [tuple(line.split(" ", 1)) for line in after(lines, "first") if line != "none"]
-    found = articles(page, "first")
-    yield from same("first failures", [(a.get("id")[6:], text_of(a.find("h3")).rsplit(": plan ", 1)[0]) for a in found], firsts)
-    yield from same("scenarios", [text_of(a.findall(".//code")[0]) for a in found], after(lines, "scenario"))
-    yield from same("reduced scenarios", [text_of(a.findall(".//code")[1]) for a in found], after(lines, "reduced"))
-    yield from same("runs", [text_of(a.find(".//pre")).split("\n", 1)[0] for a in found], ["verdict fail " + code for _, code in firsts])
-    causes = [line.split(" ", 2) for line in after(lines, "cause")]
-    found = articles(page, "cause")
-    yield from same("causes", [(a.get("id")[6:], text_of(a.findall(".//code")[0])) for a in found], [(n, text) for n, _, text in causes[:100]])
-    rows = [element for element in page.iter("tr") if element.get("id", "").startswith("plan-")]
-    verdicts = [line.split(" ", 1) for line in after(lines, "verdict")]
-    wanted = [(number, verdict) for number, verdict in verdicts if verdict != "pass"]
-    yield from same("plans", [(row.get("id")[5:], text_of(row.findall("td")[0])) for row in rows], wanted[:1000])
-    yield from same("counts", text_of(page.find(".//p[@class]")).split()[0], str(sum(v.startswith("fail") for _, v in verdicts)) if firsts else "no")
-
-
-def points(page, lines):
-    census = [line.rsplit(" ", 1) for line in after(lines, "census")]
-    reached = [line.rsplit(" ", 1)[1] for line in after(lines, "reached")]
-    rows = page.find(".//*[@id='points']").findall(".//tbody/tr")
-    yield from same("points", [[text_of(row.find("th")), row.findall("td")[0].text.strip()] for row in rows], census)
-    if reached:
-        yield from same("reached", [row.findall("td")[1].text.strip() for row in rows], reached)
-        marked = [text_of(row.find("th")) for row in rows if row.find(".//span") is not None]
-        yield from same("never reached", marked, [name for (name, _), most in zip(census, reached) if most == "0"])
-
-
-def main(name, report, settings):
-    with open(name, encoding="utf-8") as file:
-        text = file.read()
-    with open(report, encoding="utf-8") as file:
-        lines = file.read().splitlines()
-    with open(settings, encoding="utf-8") as file:
-        given = file.read()
-    elements = Elements()
-    elements.feed(text)
-    page = xml.fromstring(text)
-    wrong = elements.wrong + [f"<{tag}> is left open" for tag in elements.open]
-    shown = text_of(page.find(".//*[@id='again']/pre"))
-    for differences in (
-        links(page),
-        requests(page, text),
-        styles(page),
-        leads(page),
-        told(page, lines),
-        points(page, lines),
-        same("settings", shown, given),
-    ):
-        wrong.extend(differences)
+def main(page, brief, document):
+    text = read(page)
+    looked = Page(text)
+    wrong = list(differences(looked, text, read(brief), read(document)))
     for line in wrong:
         print(line)
-    leading = sum(target is not None for _, target in cells(page))
-    print(f"{len(articles(page, 'first'))} first failures, {len(articles(page, 'cause'))} causes, {leading} links in the map, {len(wrong)} differences")
+    print(json.loads(looked.texts[("document", "script")])["about"]["command"])
+    print(f"{len(wrong)} differences")
 
 
 main(*sys.argv[1:])

@@ -101,7 +101,7 @@ plans with one scenario some fail and some pass.
 Rows of plans
 -------------
 
-Workers take plans one at a time; of more than 1,024 sixteen, and of more than 16,384 sixty-four. Whatever they take, each line is that of its
+Workers take plans one at a time, and of more than 1,024 sixteen. Whatever they take, each line is that of its
 plan: the numbers stand in their order, and the first lines, the last two and each 97th are what `try` says of their plans. A transaction of one
 participant has 7 sites, and of two 13, and n sites and their pairs make (n + 1) * (n + 1) plans: 29 * 29 and 183 storms are 1,024, and
 118 * 118 and 2,460 are 16,384.
@@ -125,6 +125,11 @@ participant has 7 sites, and of two 13, and n sites and their pairs make (n + 1)
   1024 fail lost pass
   $ rows 1 4 184
   1025 fail lost pass
+
+Of more than 16,384 plans sixty-four are taken.
+
+From here on the program itself is needed.
+
   $ rows 2 9 2460
   16384 fail lost fail split pass
   $ rows 2 9 2461

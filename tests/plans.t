@@ -80,12 +80,14 @@ They come last, in the shortest form. With a limit of one hit there is one site,
   plan 5 none
   plan 6 none
   plan 7 replace::sync=25.5%print(hi);other=2*off->yield
-  settings: scenario 2: no point is named other
+  settings: scenario 1: no point is named other
 
 The longest list
 ----------------
 
 There are up to 65536 plans. One replacement of 251 chunks has 255 sites: 1 + 255 * 3 plans, and 255 * 254 for its pairs.
+
+From here on the program itself is needed.
 
   $ replaced() { printf 'target = "replace"\n[replace]\nold = ""\nreplacements = [%s]\n' "$1"; }
   $ replaced "[$(chunks 251)]" > longest

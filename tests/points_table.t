@@ -11,4 +11,4 @@ only a fault leads to, and so isn't among its points.
   >     plans_of "$report" | grep -vxF -f "$OLDPWD/plans"
   >     [ "$(wc -l < "$OLDPWD/plans")" = "$(sed -n 's/^plans //p' "$report")" ] || echo "$report has other plans"
   > done
-  settings: scenario 12: no point is named libc::ftruncate
+  settings: scenario 11: no point is named sys::truncate

@@ -10,7 +10,7 @@ the line. What stands on the line is written over: a carriage return and the thr
   > replacements = [["ne", "w"]]
   > END
   $ lines() { tr '\r\033' '<>' | sed 's/<>\[K/</g'; }
-  $ for words in run 'run --brief' map 'reduce --scenario replace::sync=return;replace::write=off'; do
+  $ for words in run 'run --brief' page 'reduce --scenario replace::sync=return;replace::write=off'; do
   >     paklour $words given > plain 2> nothing
   >     status=$?
   >     for option in --progress --progress=line --progress=plain; do

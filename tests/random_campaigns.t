@@ -1,3 +1,5 @@
+From here on the program itself is needed.
+
 Campaigns over settings that are drawn at random are reported alike from one worker and from five, and end alike: 340 for each target.
 random_settings.py draws them.
 

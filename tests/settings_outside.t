@@ -162,7 +162,7 @@ Tables of other targets, and targets without their table.
   > old = ""
   > replacements = []
   > END
-  accepted
+  settings: scenario 0: a control character: what follows it in the text may look like a line of its own
 
 The scenarios
 -------------

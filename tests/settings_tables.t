@@ -48,8 +48,6 @@ The old contents have up to 65536 bytes. There are up to a thousand replacements
   settings: out of range replace.old
   $ replace "old = \"$(repeat 65537 x)\"\nreplacements = [[\"$(repeat 4097 x)\"]]"
   settings: out of range replace.old
-  $ replace "old = \"\"\nreplacements = [[$(repeat 999 '], [')]]"
-  accepted
   $ replace "old = \"\"\nreplacements = [[$(repeat 1000 '], [')]]"
   settings: out of range replace.replacements
   $ replace "old = \"\"\nreplacements = [[$(repeat 1000 '"x", ')]]"
@@ -102,7 +100,17 @@ Each transaction has a wish for each participant, and there are up to a hundred 
   settings: wrong type commit.transactions
   $ commit 'participants = 2\nvotes = 1'
   settings: unknown key commit.votes
-  $ commit "participants = 1\ntransactions = [$(repeat 100 '["yes"], ')]"
-  accepted
   $ commit "participants = 1\ntransactions = [$(repeat 101 '["yes"], ')]"
   settings: out of range commit.transactions
+
+The most that are taken
+-----------------------
+
+A thousand replacements, and a hundred transactions.
+
+From here on the program itself is needed.
+
+  $ replace "old = \"\"\nreplacements = [[$(repeat 999 '], [')]]"
+  accepted
+  $ commit "participants = 1\ntransactions = [$(repeat 100 '["yes"], ')]"
+  accepted

@@ -47,6 +47,8 @@ The small workloads. With two faults the whole of a replacement is tried, with f
 Two replacements of two chunks, two transactions, a message of two chunks and one of one; and two messages of two chunks. What is sound passes
 under each plan, to depth 3 and of the whole.
 
+From here on the program itself is needed.
+
   $ printf '[replace]\nold = "old"\nreplacements = [["ne", "w"], ["ag", "ain"]]\n' > replace.2,2
   $ printf '[maildir]\nmessages = [["He", "llo"], ["you"]]\n' > maildir.2,1
   $ printf '[maildir]\nmessages = [["He", "llo"], ["yo", "u"]]\n' > maildir.2,2

@@ -71,10 +71,33 @@ Nothing to do, storms of rate 0, and a name that no point has.
   [5]
   $ sed 's/::unlink=1/::unlinked=1/' all.toml > named.toml
   $ same named.toml 2>&1 | sort -u
-  settings: scenario 1: no point is named replace::unlinked
+  settings: scenario 0: no point is named replace::unlinked
   strict: no run reaches replace::clear
   $ paklour run named.toml > plain
-  settings: scenario 1: no point is named replace::unlinked
+  settings: scenario 0: no point is named replace::unlinked
+
+A control character of a listed scenario stands in the report as it is, so that what follows may look like a line of the report's own: that is noted, and counts.
+
+  $ sed 's/^scenarios = ./&"replace::sync=print(\\nfirst 0 torn)", /' all.toml > forged.toml
+  $ paklour run forged.toml 2>&1 > /dev/null
+  settings: scenario 0: a control character: what follows it in the text may look like a line of its own
+  $ paklour plans forged.toml 2> /dev/null | tail -n 3 | cut -d ' ' -f 3-
+  replace::sync=print(
+  torn)
+  replace::write=1*return;replace::unlink=1*return
+  $ paklour run --strict forged.toml 2>&1 > /dev/null
+  settings: scenario 0: a control character: what follows it in the text may look like a line of its own
+  [5]
+  $ paklour try --scenario "replace::sync=print($(printf '\033'))" small.toml 2>&1 > /dev/null
+  scenario: a control character: what follows it in the text may look like a line of its own
+
+So it is where a key has one, and settings are refused.
+
+  $ sed '1a "pears\\nfirst none" = 1' small.toml | paklour run
+  settings: unknown key pears
+  first none
+  settings: a control character: what follows it may look like a line of its own
+  [2]
 
 A failing plan's status is 1 all the same, what is refused 2, and a failed write 4.
 
@@ -88,7 +111,7 @@ A failing plan's status is 1 all the same, what is refused 2, and a failed write
   $ paklour run --strict small.toml > /dev/full
   write failed after 0 bytes
   [4]
-  $ paklour map --strict small.toml 2>&1 | head -n 1
+  $ paklour page --strict small.toml 2>&1 | head -n 1
   error: unexpected argument '--strict' found
 
 `run --recheck` runs each plan before the campaign, and each that fails once more. A bundled target says the same twice, so its report and its
@@ -107,7 +130,7 @@ status are those of `run`.
 
 `report --strict` tells of a component that somebody else runs what settings and answers say: unresolved answers, and points that aren't hit
 without faults; which points the other runs reach, no answer tells. Names that no point has are told by `asks` and `report` in any case, of
-the scenarios that settings list and of the lines of answers, each numbered from 1.
+the scenarios that settings list, numbered from 0 as where one is refused, and of the lines of answers, numbered from 1.
 
   $ cat > outside.toml <<'END'
   > target = "outside"
@@ -119,7 +142,7 @@ the scenarios that settings list and of the lines of answers, each numbered from
   > hits = [1, 0]
   > END
   $ paklour plans outside.toml 2>&1 > /dev/null
-  settings: scenario 2: no point is named c
+  settings: scenario 1: no point is named c
   $ paklour asks outside.toml < /dev/null
   none
   a=1*return
@@ -127,7 +150,7 @@ the scenarios that settings list and of the lines of answers, each numbered from
   a=1*panic
   b=1*panic
   c=return
-  settings: scenario 2: no point is named c
+  settings: scenario 1: no point is named c
   $ printf 'pass\tnone\npass\ta=1*return\npass\ta=return\nunresolved\ta=1*panic\npass\tb=1*panic\npass\tc=return\npass\td=panic;a=panic\n' > answers
   $ paklour report --brief outside.toml < answers
   target two points
@@ -139,12 +162,12 @@ the scenarios that settings list and of the lines of answers, each numbered from
   counts pass 5 unresolved 1
   verdict 3 unresolved a=1*panic
   first none
-  settings: scenario 2: no point is named c
+  settings: scenario 1: no point is named c
   answers: line 6: no point is named c
   answers: line 7: no point is named d
   $ paklour report outside.toml < answers > plain 2> nothing
   $ paklour report --strict outside.toml < answers > strict
-  settings: scenario 2: no point is named c
+  settings: scenario 1: no point is named c
   answers: line 6: no point is named c
   answers: line 7: no point is named d
   strict: 1 of 6 plans unresolved
@@ -177,7 +200,7 @@ nobody knows.
 
   $ { printf 'pass\tnone\ta\npass\ta=1*return\ta\npass\ta=return\ta\npass\ta=1*panic\ta\n'; printf 'pass\tb=1*panic\ta\npass\tc=return\ta\n'; } > told
   $ paklour report --strict outside.toml < told > nothing
-  settings: scenario 2: no point is named c
+  settings: scenario 1: no point is named c
   answers: line 6: no point is named c
   strict: 2 of 6 plans pass without meeting all of their faults
   strict: no hit without faults of b

@@ -1,5 +1,6 @@
-The forms of a report by answers: `report` takes `--json`, `--junit`, `--map` and `--page` beside `--brief`. The component is a bundled target, and one
-call of `try` gives each answer; so what each form has to say is what `run`, `map` and `page` write of that target.
+The forms of a report by answers: `report` takes `--json`, `--junit` and `--page` beside `--brief`. The component is a bundled target, and one call of `try`
+gives each answer; so what each form has to say is what `run` writes of that target. Of a JSON document that is all but its last member, `about`: answers
+are told without runs, and the settings and the command are others.
 
   $ cat > late.toml <<'END'
   > target = "replace"
@@ -13,11 +14,13 @@ call of `try` gives each answer; so what each form has to say is what `run`, `ma
   $ told() { form=$1; paklour report "--$form" outside.toml < answers > "told.$form" || echo "status $?"; }
   $ told brief && paklour run --brief late.toml | cmp - told.brief
   status 1
-  $ told json && paklour run --json late.toml | cmp - told.json
+  $ told json
   status 1
+  $ report_of() { sed '/^  "about": {$/,$d' "$1"; }
+  $ paklour run --json late.toml > late.json
+  [1]
+  $ report_of late.json > late.report; report_of told.json | cmp - late.report
   $ told junit && paklour run --junit late.toml | cmp - told.junit
-  status 1
-  $ told map && paklour map late.toml | cmp - told.map
   status 1
 
 Parsers of JSON and of XML read in them what the text says. Of six sites the fourth is the sync, one is hit twice, and each hit has three plans: 19.
@@ -26,19 +29,19 @@ Parsers of JSON and of XML read in them what the text says. Of six sites the fou
   $ python3 "$TESTDIR/machines.py" outside.report plans told.json told.junit
   19 plans
 
-A parser of XML reads the page. Answers are verdicts, and don't tell what a run hits: no run is told in it, and it tells its own settings and command.
-In all else it is the page of the target. In the map the cells of the three plans that fail lead to them.
+Answers are verdicts, and don't tell what a run hits: no run is told. The page has the brief report and the document of the same answers.
 
+  $ sed -n '/"clean_run"/,$p' told.json
+      "clean_run": null,
+      "finding_runs": [],
+      "cause_runs": []
+    }
+  }
   $ told page
   status 1
-  $ paklour page late.toml > page.html
-  [1]
-  $ python3 "$TESTDIR/told_page.py" told.page page.html outside.toml
-  3 links in the map, 0 differences
+  $ python3 "$TESTDIR/page.py" told.page told.brief told.json
   paklour report --page FILE < ANSWERS
-  $ grep -c '<details' told.page
-  0
-  [1]
+  0 differences
 
 With a depth answers tell what a run hits, so each is explained as the target explains it; but nobody knows the limit of a component that somebody else runs.
 
@@ -54,20 +57,19 @@ Pairs, plans that are drawn, listed scenarios with many faults, and two codes.
 
   $ sed '/^seed/a pairs = true\nstorms = 20\nrate = 300\nscenarios = ["replace::write=return(<&>);replace::sync=return"]' late.toml | sed 's/late/ignore/' > more.toml
   $ "$TESTDIR/as_outside.sh" more.toml '"torn", "stale"'
-  $ for form in brief json junit; do told $form; paklour run "--$form" more.toml | cmp - told.$form; done
+  $ for form in brief junit; do told $form; paklour run "--$form" more.toml | cmp - told.$form; done
   status 1
   status 1
-  status 1
-  $ told map; paklour map more.toml | cmp - told.map
-  status 1
-  $ told page; paklour page more.toml > page.html
+  $ told json; paklour run --json more.toml > more.json
   status 1
   [1]
-  $ python3 "$TESTDIR/told_page.py" told.page page.html outside.toml | sed 's/^[0-9]* links/some links/'
-  some links in the map, 0 differences
+  $ report_of more.json > more.report; report_of told.json | cmp - more.report
+  $ told page; python3 "$TESTDIR/page.py" told.page told.brief told.json
+  status 1
   paklour report --page FILE < ANSWERS
+  0 differences
 
-Nothing is written where something is still to be tried, in no form; and each of two points has a name that XML has to spell out.
+Nothing is written where something is still to be tried, in no form; and each of two points has a name that XML and HTML have to spell out.
 
   $ cat > odd.toml <<'END'
   > target = "outside"
@@ -79,9 +81,7 @@ Nothing is written where something is still to be tried, in no form; and each of
   > points = ["<&>", "'"]
   > hits = [1, 0]
   > END
-  $ for form in brief json junit map page; do paklour report --$form odd.toml < /dev/null; echo $?; done
-  not answered none
-  2
+  $ for form in brief json junit page; do paklour report --$form odd.toml < /dev/null; echo $?; done
   not answered none
   2
   not answered none
@@ -104,27 +104,21 @@ Nothing is written where something is still to be tried, in no form; and each of
   {'number': 2, 'verdict': 'unresolved', 'code': None, 'scenario': '<&>=return'}
   {'number': 4, 'verdict': 'unresolved', 'code': None, 'scenario': '<&>=return'}
   {'number': 1, 'code': 'l>st', 'scenario': '<&>=1*return', 'reduced': '<&>=1*return', 'tests': 1}
-  $ for form in junit map page; do paklour report --$form odd.toml < answers > odd.$form; done
+  $ for form in brief junit page; do paklour report --$form odd.toml < answers > odd.$form; done
   [1]
   $ python3 - <<'END'
   > import xml.etree.ElementTree as xml
   > suite = xml.parse("odd.junit").getroot()[0]
   > print(suite.attrib)
   > print(*(case.get("name") for case in suite if len(case)), sep="\n")
-  > page = xml.parse("odd.page").getroot()
-  > print(page.find("head/title").text, "|", *(cell.text for cell in page.find(".//*[@id='points']").iter("th") if cell.get("scope") == "row"))
-  > print(*("".join(row.itertext()).split() for row in page.iter("tr") if row.get("id", "").startswith("plan-")), sep="\n")
-  > print(xml.parse("odd.map").getroot().tag)
   > END
   {'name': '"odd" & <b>', 'tests': '5', 'failures': '1', 'errors': '0', 'skipped': '2'}
   plan 1 <&>=1*return
   plan 2 <&>=return
   plan 4 <&>=return
-  "odd" & <b> - Paklour | <&> '
-  ['1fail', 'l>st<&>=1*return']
-  ['2unresolved<&>=return']
-  ['4unresolved<&>=return']
-  {http://www.w3.org/2000/svg}svg
+  $ python3 "$TESTDIR/page.py" odd.page odd.brief odd.json
+  paklour report --page FILE < ANSWERS
+  0 differences
 
 What a report doesn't show is told beside each form, on standard error.
 
@@ -142,5 +136,5 @@ One form at most is written.
   
   For more information, try '--help'.
   [2]
-  $ paklour report --map --junit --brief odd.toml < answers 2>&1 | head -n 1
+  $ paklour report --page --junit --brief odd.toml < answers 2>&1 | head -n 1
   error: the argument '--brief' cannot be used with '--junit'

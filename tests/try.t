@@ -55,14 +55,14 @@ order; the verdict and the exit status stay.
   write failed after 0 bytes
   [4]
 
-So is it by `reduce`, and for each scenario that settings list by `run`, `plans` and `map`, with the number that a fault of that scenario
-would be told with, from 1.
+So is it by `reduce`, and for each scenario that settings list by `run`, `plans` and `page`, with the number that a fault of that scenario
+would be told with, from 0.
 
   $ sed '2a scenarios = ["replace::sync=off", "elsewhere=panic"]' small.toml > listed.toml
-  $ for command in run plans map; do paklour $command listed.toml 2>&1 > /dev/null; done
-  settings: scenario 2: no point is named elsewhere
-  settings: scenario 2: no point is named elsewhere
-  settings: scenario 2: no point is named elsewhere
+  $ for command in run plans page; do paklour $command listed.toml 2>&1 > /dev/null; done
+  settings: scenario 1: no point is named elsewhere
+  settings: scenario 1: no point is named elsewhere
+  settings: scenario 1: no point is named elsewhere
   $ for plan in '--scenario elsewhere=panic' '--plan 20'; do paklour reduce $plan listed.toml 2>&1 > /dev/null; done
   scenario: no point is named elsewhere
   scenario: no point is named elsewhere

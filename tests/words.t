@@ -66,11 +66,8 @@ What words ask for
   $ asks run --junit -
   <?xml version="1.0" encoding="UTF-8"?>
   <testsuites>
-  $ asks map f | cut -c 1-4
-  <svg
-  <sty
   $ asks page f | cut -c 1-15
-  <!DOCTYPE html>
+  <!doctype html>
   <html lang="en"
   $ asks explain --scenario a=off
   verdict pass
@@ -88,9 +85,9 @@ What words ask for
 The version stands on a line of its own, as the constant `VERSION` of command_words has it.
 
   $ paklour --version
-  paklour 0.3.0
+  paklour 0.4.0
   $ paklour -V
-  paklour 0.3.0
+  paklour 0.4.0
 
 Two commands take their settings from a file alone, since standard input has the answers of a component that somebody else runs.
 
@@ -168,12 +165,12 @@ What is wrong is told on standard error, and nothing is on standard output.
   error: the argument '--json' cannot be used with '--page'
   $ refused report --page --brief f
   error: the argument '--brief' cannot be used with '--page'
-  $ refused report --map --map f
-  error: the argument '--map' cannot be used multiple times
+  $ refused report --page --page f
+  error: the argument '--page' cannot be used multiple times
   $ refused report --recheck f
   error: unexpected argument '--recheck' found
-  $ refused run --map f
-  error: unexpected argument '--map' found
+  $ refused run --page f
+  error: unexpected argument '--page' found
   $ refused --junit
   error: unexpected argument '--junit' found
   $ refused plans --brief
@@ -200,9 +197,9 @@ What is wrong is told on standard error, and nothing is on standard output.
   error: unexpected value 'lines' for '--progress' found; no more were expected
   $ refused plans --progress=line
   error: unexpected argument '--progress' found
-  $ refused map --brief
+  $ refused page --brief
   error: unexpected argument '--brief' found
-  $ refused map --plan 1
+  $ refused page --plan 1
   error: unexpected argument '--plan' found
   $ refused page --json
   error: unexpected argument '--json' found
@@ -296,9 +293,9 @@ The file isn't there, or is a folder. No word stands for standard input, which m
   $ rm ./-
   $ mkdir folder
   $ for file in missing.toml folder ''; do
-  >     for command in run plans map page 'try --scenario a' 'reduce --scenario a' 'explain --scenario a'; do paklour $command "$file" < given; done
+  >     for command in run plans page 'try --scenario a' 'reduce --scenario a' 'explain --scenario a'; do paklour $command "$file" < given; done
   > done 2>&1 | uniq -c | tr -s ' '
-   21 settings: not readable
+   18 settings: not readable
   $ paklour run missing.toml
   settings: not readable
   [2]

@@ -1,0 +1,40 @@
+`tools/house_rules` holds README.md to the number of the toolchain's logic; its kit has any letter. The repository here has what the rule looks at, its
+toolchain is a stand-in, and so are the tools that hold pages.
+
+  $ mkdir -p bin repo/tools repo/examples/own_target
+  $ toolchain() { printf '#!/bin/sh\necho %s\n' "$1" > "$TMPDIR/bin/rt"; }
+  $ TMPDIR=$PWD PATH=$PWD/bin:$PATH && toolchain 'kit-1b logic 0a' && chmod +x bin/rt
+  $ cp "$TESTDIR/../tools/house_rules" "$TESTDIR/../tools/logic" repo/tools && cd repo
+  $ for tool in page_rules layers believe frame; do printf '#!/bin/sh\n' > tools/$tool && chmod +x tools/$tool; done
+  $ touch crates.txt examples/own_target/main.rt.txt examples/own_target/commands.rt.txt
+  $ echo 'It is proved with logic 0a.' > README.md && git init -q . && git add .
+  $ tools/house_rules
+  $ toolchain 'kit-1c logic 0a' && tools/house_rules
+  $ toolchain 'kit-1b logic 0b' && tools/house_rules
+  README.md is proved with another logic than that of
+  kit-1b logic 0b
+  [1]
+  $ toolchain 'kit-1b' && tools/house_rules
+  logic: rt version names none
+  README.md is proved with another logic than that of
+  kit-1b
+  [1]
+
+No file but the notes of a release and the texts of dist/ names a kit.
+
+  $ toolchain 'kit-1b logic 0a' && mkdir dist docs
+  $ echo "proved with rattle-""kit-1b" | tee CHANGELOG.md dist/text > docs/PAGE.md && git add . && tools/house_rules 2>&1 | sed 's/rattle-//'
+  names of a kit:
+  docs/PAGE.md:1:proved with kit-1b
+
+The frame of the page is what viewer/ makes. As it is made its lines may be long and many, those of no other file.
+
+  $ rm -r docs dist CHANGELOG.md && cp "$TESTDIR/../tools/frame" tools && cp -r "$TESTDIR/../viewer" . && mkdir -p crates/report_page/src
+  $ tools/frame --write && git add . && tools/house_rules
+  $ cp crates/report_page/src/frame.rt crates/report_page/src/page.rt && git add . && tools/house_rules 2>&1 | cut -d : -f 1 | sort -u
+  crates/report_page/src/page.rt
+  files over 800 lines
+  lines over 160 characters
+  $ rm crates/report_page/src/page.rt && git add . && echo 'p { color: red; }' >> viewer/style.css && tools/house_rules
+  tools/frame: crates/report_page/src/frame.rt isn't the frame of viewer/: tools/frame --write
+  [1]
