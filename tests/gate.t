@@ -15,7 +15,7 @@ that stands in for `rt`, and a program of two words, `say WORD` and `copy FILE`.
   > END
   $ cat > bin/rt << 'END'
   > #!/bin/bash
-  > [ "$1" != ci ] || { echo 'crates of the copy:' $(sed 's/:.*//' crates.txt; ls crates); cat "$CI"; exit ${CI_STATUS-0}; }
+  > [ "$1" != ci ] || { echo 'crates of the copy:' $(sed 's/:.*//' crates.txt; ls crates); [ "$UNBUILT" ] || install -D "$(command -v program)" crates/paklour/out/paklour; cat "$CI"; exit ${CI_STATUS-0}; }
   > { tail -n 1 ../../crates.txt && grep mod src/lib.rt; } > "$BUILT"
   > calls=$(sed -n 's/.*= "\(.*\)";/\1/p' src/served_calls/folder.rt)/calls
   > while read -r process words input answer; do
@@ -150,6 +150,12 @@ failed, or nothing that was counted.
   $ echo '2 passed, 0 failed' > $CI
   $ CI_STATUS=1 tools/prove | tail -n 1
   2 passed, 1 failed
+
+Where the program wasn't built, nothing is run that needs it.
+
+  $ UNBUILT=1 tools/prove > said; grep 'not built' said; tail -n 1 said
+  the program is not built, as a crate of it is not proved
+  7 passed, 1 failed
 
 `.ci/run` adds both counts, and goes on to the proof where tests fail.
 

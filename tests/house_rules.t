@@ -38,3 +38,12 @@ The frame of the page is what viewer/ makes. As it is made its lines may be long
   $ rm crates/report_page/src/page.rt && git add . && echo 'p { color: red; }' >> viewer/style.css && tools/house_rules
   tools/frame: crates/report_page/src/frame.rt isn't the frame of viewer/: tools/frame --write
   [1]
+
+Files of crates are in the toolchain's layout, which a stand-in for `rt fmt` tells of one file.
+
+  $ tools/frame --write && mkdir -p crates/small/src && touch crates/small/src/lib.rt && echo '[ "$1" != fmt ] || ! grep -q unlaid src/*.rt || echo rt: formatted src/lib.rt' >> ../bin/rt
+  $ sed -i 's/^echo/[ "$1" = fmt ] || &/' ../bin/rt && git add . && tools/house_rules
+  $ echo unlaid > crates/small/src/lib.rt && tools/house_rules
+  files that aren't in the layout of rt fmt:
+  crates/small/src/lib.rt
+  [1]
