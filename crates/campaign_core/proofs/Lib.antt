@@ -11,5 +11,5 @@ pub mod Grown
 pub mod Causes
 mod EachVerdict
 pub mod Begun
-pub mod Tried
+pub mod Promised
 pub mod Unlisted

@@ -1,5 +1,5 @@
 -- What a campaign comes to, by what its target asks and by its settings.
-use Rattle.std.specs.Prelude.{ℕ, List, [], Option, None, Some, IfSome, All, length, slice_get}
+use Rattle.std.specs.Prelude.{ℕ, List, [], Option, None, Some, IfSome, All, length, map, slice_get}
 use Rattle.scenario_values.specs.Scenario.{Entries}
 use Rattle.action_eval.specs.Answers.{Reply}
 use Rattle.action_eval.specs.declared.rig.Kind.{Kind}
@@ -10,13 +10,14 @@ use Rattle.target_trait.specs.Outcomes.{verdict_with}
 use Rattle.target_trait.specs.Play.{Move}
 use Rattle.plan_gen.specs.Census.{census_of, sites_of}
 use Rattle.plan_gen.specs.PlanList.{plan_list}
-use Rattle.grown_plans.specs.GrownPlans.{usual_kinds, grown, grown_list}
+use Rattle.grown_plans.specs.GrownPlans.{usual_kinds, run_of_plan, grown, grown_list}
 use Rattle.grown_plans.specs.GrownPlans.{Subject as Grower}
-use Rattle.grown_plans.specs.Promises.{SkipsNothing, RunsNothingTwice, TriesOnward, IsLeast, IsWhole, HasCauses}
 use Rattle.campaign_given.specs.Given.{Given, with_workers}
 use Rattle.result_book.specs.Verdicts.{verdicts_from, numbered}
 use Rattle.result_book.specs.FirstFailures.{first_failures as first_of_each}
 use Rattle.report.specs.Reports.{GrowthFacts, ReportFacts}
+use Rattle.report_promises.specs.Told.{Told}
+use Rattle.report_promises.specs.Promises.{Promises}
 use Rattle.campaign_core.specs.declared.subject.Subject.{Subject}
 use Rattle.campaign_core.specs.Findings.{report_of, growth_of, ReducesToMinimal, IsCauseAmong}
 
@@ -103,24 +104,24 @@ first_failure c = slice_get (first_failures c) 0
 abbrev pub EachIsMinimal : Campaign → Type 0
 EachIsMinimal c = All (ReducesToMinimal (say c)) (report c).findings
 
--- what plans that grow to a depth promise: no behaviour with so few faults is skipped, and with each code that one fails with the first plan
--- has least faults; none is run twice; faults from then on are tried; where the next level is empty, nothing is skipped at all; and each
--- plan that fails has a cause among them
-pub record KeepsPromises (t : Grower) (depth : ℕ) : Type 0 where
-  pub nothing_skipped : SkipsNothing t depth
-  pub nothing_twice : RunsNothingTwice t depth
-  pub onward : TriesOnward t depth
-  pub least : IsLeast t depth
-  pub whole : IsWhole t depth
-  pub causes : HasCauses t depth
+-- what the report tells, and the behaviours of the plans that grew
+abbrev pub told_in : Campaign → GrowthFacts → Told
+told_in c growth = record {
+  report = report c;
+  growth = growth;
+  behaviours = map (run_of_plan (grower c)) (grown (grower c) growth.depth);
+}
 
--- each cause that the report lists is one
+-- what the report of a campaign with a depth promises
+abbrev pub KeepsPromises : Campaign → Type 0
+KeepsPromises c = IfSome (report c).growth (λ growth. Promises (grower c) (told_in c growth))
+
+-- each cause that the report lists is one, also one from then on
 abbrev pub EachIsCause : Campaign → Type 0
 EachIsCause c = IfSome (report c).growth (λ growth. All (IsCauseAmong (grower c) c.given.plans.seed (grown (grower c) growth.depth)) growth.causes)
 
--- of a campaign with a depth, what its plans promise, and that the causes are causes
 pub record EachIsTried (c : Campaign) : Type 0 where
-  pub promises : IfSome c.given.depth (KeepsPromises (grower c))
+  pub promises : KeepsPromises c
   pub causes : EachIsCause c
 
 -- the plans that grow to a depth, where there is one

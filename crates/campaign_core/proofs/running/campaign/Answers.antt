@@ -1,7 +1,6 @@
 use Rattle.std.proofs.Common.{refl}
 use Rattle.campaign_core.specs.Headline.{Campaign, campaign_in, plans, say}
 use Rattle.campaign_core.proofs.Firsts.{first_is}
-use Rattle.campaign_core.proofs.Tried.{tried_by}
 use Rattle.campaign_core.proofs.running.campaign.Goals as goal
 
 pub returns-clause-first : goal.returns-clause-first
@@ -13,5 +12,8 @@ returns-clause-first g c =
 pub returns-clause-promises : goal.returns-clause-promises
 returns-clause-promises g c =
     let subject = c.args.subject.now in
-    tried_by (campaign_in g.T.Target subject) (c.each_behaviour_is_tried.ensures.promises subject.target.now subject.workload.now subject.settings.now)
-    (c.each_behaviour_is_tried.ensures.causes (campaign_in g.T.Target subject))
+    let k : Campaign = campaign_in g.T.Target subject in
+    record {
+      promises = c.each_behaviour_is_tried.ensures.promises subject.target.now subject.workload.now subject.settings.now c.in_ok-text.ensures.minimal;
+      causes = c.each_behaviour_is_tried.ensures.causes k;
+    }

@@ -1,0 +1,279 @@
+-- The report of a campaign keeps what it promises.
+use Rattle.std.proofs.Common.{◌≡◌, ◌≢◌, ℕ, zero, suc, ◌+◌, ◌<◌, ◌≤◌, ◌==◌, ◌&&◌, not, Bool, true, false, cond, Option, None, Some, IfSome, All, List, [], ◌∷◌, ◌++◌, map, length, get_or, refl, ap, sym, ◌∙◌, subst, arith, eq-eqb, append_assoc}
+use Rattle.std.specs.Prelude.{AllPairs, Contains, flat_map, remove, slice_get, slice_index_or}
+use Rattle.std.specs.List.{AllByRecursion, list_all, range_with_len}
+use Rattle.std.proofs.lemmas.List.{get_or-map, length-map}
+use Rattle.std.proofs.lemmas.List.FromFn.{length-range_with_len}
+use Rattle.std.proofs.lemmas.Bool.Decides.{nat_tests}
+use Rattle.std.proofs.lemmas.Option.{slice_get-get_or, slice_get_within, get_or_from_slice_get}
+use Rattle.scenario_values.specs.Scenario.{Entries, DistinctNames, all_faults}
+use Rattle.scenario_values.specs.Keep.{are_faults, kept}
+use Rattle.scenario_values.proofs.Sets.{all_are_faults, without_are_faults}
+use Rattle.action_eval.specs.Catalogue.{HasDistinct}
+use Rattle.action_eval.specs.declared.rig.Rig.{Rig}
+use Rattle.target_trait.specs.Outcomes.{verdict_with}
+use Rattle.target_trait.specs.declared.judgement.Verdict.{Verdict}
+use Rattle.target_trait.specs.declared.judgement.Verdict.TheVariants as verdict
+use Rattle.plan_gen.specs.PlanList.{further_list}
+use Rattle.grown_plans.specs.GrownPlans.{Subject, rigs_of, scenario_of, run_of_plan, onward, grown, beyond}
+use Rattle.grown_runs.specs.Grown.{level_sizes, reached_each}
+use Rattle.campaign_core.proofs.Grown.{list_is}
+use Rattle.grown_plans.specs.Promises.{IsLawful, IsCause, lesser, verdict_of_plan, verdict_of_rigs}
+use Rattle.std.proofs.lemmas.List.Elements.{All-from_recursion, Contains-append_left, Contains-append_right}
+use Rattle.grown_plans.proofs.Members.{contains_head, contains_map}
+use Rattle.grown_plans.proofs.Paths.{some_is}
+use Rattle.grown_runs.specs.GrownRuns.{over, verdict_by, fails_with, is_least, cause_by, cause_at}
+use Rattle.result_book.specs.Verdicts.{verdicts_from, numbered}
+use Rattle.result_book.specs.FirstFailures.{first_failures, AreFirstFailures}
+use Rattle.result_book.specs.FirstFailure.{FailsAt}
+use Rattle.result_book.proofs.EachCodeLemmas.{firsts_of}
+use Rattle.report.specs.Reports.{FindingFacts, CauseFacts, GrowthFacts}
+use Rattle.campaign_core.specs.Headline.{Campaign, census, grower, plans, plans_to, say, report, told_in, EachIsMinimal, KeepsPromises}
+use Rattle.campaign_core.specs.Findings.{cause_of, finding, growth_of, IsCauseAmong, IsMinimal, ReducesToMinimal}
+use Rattle.campaign_core.proofs.Causes.{causes_are_causes}
+use Rattle.report_promises.specs.Behaviours.{verdict_at_end}
+use Rattle.report_promises.specs.Told.{Told, Comes}
+use Rattle.report_promises.specs.Promises.{IsFinding, Promises, without}
+use Rattle.report_promises.specs.Promises.{IsCause as IsToldCause}
+use Rattle.report_promises.proofs.Failures.{of_level, has_cause, fewest}
+use Rattle.report_promises.proofs.Least.{no_lesser}
+use Rattle.report_promises.proofs.Numbers.{get_front, get_map}
+use Rattle.report_promises.proofs.Grew.{Grew, IsCauseOf, all_numbers, counted, twice, skipped_none, whole_told, onward_told, most_reached}
+
+-- ---- verdicts by numbers
+
+verdict_at : (say : ℕ → Entries → Verdict) (from : ℕ) (entries : List Entries) (n : ℕ) (s : Entries) → slice_get entries n ≡ Some s → slice_get (verdicts_from say from entries) n ≡ Some (say (from + n) s)
+verdict_at say from [] n s e = absurd cc
+verdict_at say from (x ∷ entries) zero s e = ap (λ (y : Entries). Some (say from y)) (let same : x ≡ s = cc in same) ∙ ap (λ k. Some (say k s)) (let goal : from ≡ from + 0 = omega arith in goal)
+verdict_at say from (x ∷ entries) (suc n) s e = verdict_at say (from + 1) entries n s e ∙ ap (λ k. Some (say k s)) (let goal : from + 1 + n ≡ from + suc n = omega arith in goal)
+
+-- ---- causes that are listed
+
+none_fails : (code : ℕ) (v : Verdict) → v ≢ verdict.Fail code → not (fails_with code v) ≡ true
+none_fails code verdict.Pass n = refl
+none_fails code verdict.Unresolved n = refl
+none_fails code (verdict.Fail other) n = by_test (other == code) refl
+  where
+    by_test : (b : Bool) → (other == code) ≡ b → not (other == code) ≡ true
+    by_test true e = let same : other ≡ code = grind (arith, nat_tests, e) in absurd (n (ap (λ (c : ℕ). verdict.Fail c) same))
+    by_test false e = ap not e
+
+both : (a b : Bool) → a ≡ true → b ≡ true → (a && b) ≡ true
+both a b e h = ap (λ c. c && b) e ∙ h
+
+all_pass : (t : Subject) (seed stream code : ℕ) (lists : List (List Rig)) → AllByRecursion (λ rigs. verdict_of_rigs t seed stream rigs ≢ verdict.Fail code) lists
+    → list_all (λ less. not (fails_with code (verdict_by t seed stream less))) lists ≡ true
+unfolding verdict_with
+all_pass t seed stream code [] a = refl
+all_pass t seed stream code (less ∷ lists) a =
+    both (not (fails_with code (verdict_by t seed stream less))) (list_all (λ less. not (fails_with code (verdict_by t seed stream less))) lists)
+    (none_fails code (verdict_by t seed stream less) a.0) (all_pass t seed stream code lists a.1)
+
+-- the plan of a number, as a cause
+cause_here : (t : Subject) (seed n code : ℕ) (plan : List Rig) → IsCause t seed n code plan → cause_at t seed n plan ≡ (n, code) ∷ []
+unfolding verdict_with
+cause_here t seed n code plan cause =
+    ap (cause_by t seed n (rigs_of plan)) cause.0 ∙ ap (λ b. cond b ((n, code) ∷ []) []) (all_pass t seed n code (lesser (rigs_of plan)) cause.1)
+
+in_flat : {A B : Type 0} (f : ℕ → A → List B) (d : A) (xs : List A) (from count k : ℕ) (x : A) (y : B) → k < count → slice_get xs (from + k) ≡ Some x → f (from + k) x ≡ y ∷ []
+    → Contains (flat_map (λ n. f n (slice_index_or xs n d)) (range_with_len from count)) y
+in_flat f d xs from zero k x y low at is = absurd (omega (arith, low))
+in_flat {A} {B} f d xs from (suc count) zero x y low at is =
+    let same : from + 0 ≡ from = omega arith in
+    let here : slice_get xs from ≡ Some x = ap (λ n. slice_get xs n) (sym same) ∙ at in
+    let one : f from (slice_index_or xs from d) ≡ y ∷ [] = ap (f from) (get_or_from_slice_get xs from x d here) ∙ ap (λ n. f n x) (sym same) ∙ is in
+    Contains-append_left (f from (slice_index_or xs from d)) (flat_map (λ n. f n (slice_index_or xs n d)) (range_with_len (from + 1) count)) y
+    (subst (λ (l : List B). Contains l y) (sym one) (contains_head y []))
+in_flat {A} {B} f d xs from (suc count) (suc k) x y low at is =
+    let same : from + suc k ≡ from + 1 + k = omega arith in
+    Contains-append_right (f from (slice_index_or xs from d)) (flat_map (λ n. f n (slice_index_or xs n d)) (range_with_len (from + 1) count)) y
+    (in_flat f d xs (from + 1) count k x y (omega (arith, low)) (ap (λ n. slice_get xs n) (sym same) ∙ at) (ap (λ n. f n x) (sym same) ∙ is))
+
+-- ---- the facts of a campaign
+
+all_each : {A : Type 0} (P : A → Type 0) (xs : List A) → All P xs → AllByRecursion P xs
+all_each P [] a = tt
+all_each P (x ∷ xs) a = (a 0 x (omega arith), all_each P xs (λ k d low. a (suc k) d (omega (arith, low))))
+
+module _ (k : Campaign) (d : ℕ) (is : Some d ≡ k.given.depth) where
+  -- the plans that grew stand first
+  plan_at : (n : ℕ) (plan : List Rig) → slice_get (grown (grower k) d) n ≡ Some plan → slice_get (plans k) n ≡ Some (scenario_of (grower k) plan)
+  plan_at n plan e =
+      ap (λ o. slice_get (plans_to k o) n) (sym is)
+      ∙ ap (λ (l : List Entries). slice_get l n) (sym (list_is (grower k) d k.given.plans (census k)))
+      ∙ get_front (map (scenario_of (grower k)) (grown (grower k) d)) (further_list k.points (census k) k.given.plans) n (scenario_of (grower k) plan)
+      (get_map (scenario_of (grower k)) (grown (grower k) d) n plan e)
+
+  comes_at : (n : ℕ) (plan : List Rig) → slice_get (grown (grower k) d) n ≡ Some plan → slice_get (report k).verdicts n ≡ Some (verdict_of_plan (grower k) k.given.plans.seed n plan)
+  comes_at n plan e =
+      verdict_at (say k) 0 (plans k) n (scenario_of (grower k) plan) (plan_at n plan e)
+      ∙ ap (λ i. Some (say k i (scenario_of (grower k) plan))) (let goal : 0 + n ≡ n = omega arith in goal)
+
+  -- how the plans grew, and what is told of them
+  abbrev grew : GrowthFacts
+  grew = record {
+    depth = d;
+    levels = level_sizes (grower k) (d + 1);
+    onward = length (onward (grower k) d);
+    beyond = beyond (grower k) d;
+    unseen = 0;
+    reached = reached_each (grower k) d;
+    causes = map (cause_of (plans k)) (over (cause_at (grower k) k.given.plans.seed) (grown (grower k) d) 0 (length (grown (grower k) d)));
+  }
+
+  is_cause_of : (c : CauseFacts) → IsCauseAmong (grower k) k.given.plans.seed (grown (grower k) d) c → IsCauseOf (grower k) d (told_in k grew) c
+  is_cause_of c h =
+      (slice_index_or (grown (grower k) d) c.number [], slice_get-get_or (grown (grower k) d) c.number [] h.among, h.least)
+
+  listed_cause : (n code : ℕ) (plan : List Rig) → slice_get (grown (grower k) d) n ≡ Some plan → IsCause (grower k) k.given.plans.seed n code plan
+      → (c : CauseFacts) × Contains grew.causes c × (c.number ≡ n) × (c.code ≡ code)
+  listed_cause n code plan at cause =
+      let plans_grown : List (List Rig) = grown (grower k) d in
+      let low : n < length plans_grown = slice_get_within plans_grown n plan at in
+      let zero_plus : 0 + n ≡ n = omega arith in
+      let one : cause_at (grower k) k.given.plans.seed (0 + n) plan ≡ (n, code) ∷ [] =
+      ap (λ i. cause_at (grower k) k.given.plans.seed i plan) zero_plus ∙ cause_here (grower k) k.given.plans.seed n code plan cause
+      in (
+        cause_of (plans k) (n, code),
+        contains_map (cause_of (plans k)) (over (cause_at (grower k) k.given.plans.seed) plans_grown 0 (length plans_grown)) (n, code)
+            (in_flat (cause_at (grower k) k.given.plans.seed) [] plans_grown 0 (length plans_grown) n plan (n, code) low (ap (λ i. slice_get plans_grown i) zero_plus ∙ at) one),
+        refl,
+        refl,
+      )
+
+  has_grown : Grew (grower k) d (told_in k grew)
+  has_grown = record {
+    depth = refl;
+    sizes = refl;
+    onward_are = refl;
+    beyond_is = refl;
+    behaves = refl;
+    comes = comes_at;
+    reaches = refl;
+    causes_are = all_each (IsCauseOf (grower k) d (told_in k grew)) grew.causes
+        (λ n c low. is_cause_of (slice_index_or grew.causes n c) (listed_causes n c low));
+    causes_listed = listed_cause;
+  }
+    where
+      listed_causes : All (IsCauseAmong (grower k) k.given.plans.seed (grown (grower k) d)) grew.causes
+      listed_causes = causes_are_causes k (Some d) is
+
+-- ---- findings
+
+own_code : (code : ℕ) (v : Verdict) → fails_with code v ≡ true → v ≡ verdict.Fail code
+own_code code verdict.Pass e = absurd cc
+own_code code verdict.Unresolved e = absurd cc
+own_code code (verdict.Fail other) e = ap (λ (c : ℕ). verdict.Fail c) (let goal : other ≡ code = grind (arith, nat_tests, e) in goal)
+
+not_own : (code : ℕ) (v : Verdict) → fails_with code v ≡ false → v ≢ verdict.Fail code
+not_own code v fine is = let own : fails_with code (verdict.Fail code) ≡ true = eq-eqb code code refl in let e : true ≡ false = sym own ∙ ap (fails_with code) (sym is) ∙ fine in absurd cc
+
+right_of : (a b : Bool) → (a && b) ≡ true → b ≡ true
+right_of true b e = e
+right_of false b e = absurd cc
+
+right_fails : (a b : Bool) → a ≡ true → (a && b) ≡ false → b ≡ false
+right_fails a b left e = ap (λ c. c && b) (sym left) ∙ e
+
+-- a scenario that is minimal: without any one of its faults it doesn't fail
+without_one : (asked : Entries → Verdict) (code : ℕ) (s : Entries) → IsMinimal asked code s → (fault : ℕ) → fault < all_faults s → asked (without fault s) ≢ verdict.Fail code
+without_one asked code s m fault low =
+    let all : List ℕ = range_with_len 0 (all_faults s) in
+    let size = length-range_with_len 0 (all_faults s) in
+    not_own code (asked (without fault s))
+    (right_fails (are_faults (all_faults s) (remove all fault)) (fails_with code (asked (without fault s)))
+    (without_are_faults (all_faults s) fault all (all_are_faults (all_faults s))) (m.1.each fault (omega (arith, low, size))))
+
+at_number : (vs : List Verdict) (n code : ℕ) → FailsAt vs n code → slice_get vs n ≡ Some (verdict.Fail code)
+at_number [] n code e = absurd cc
+at_number (v ∷ vs) zero code e = ap (λ (x : Verdict). Some x) e
+at_number (v ∷ vs) (suc n) code e = at_number vs n code e
+
+module _ (k : Campaign) (d : ℕ) (is : Some d ≡ k.given.depth) (l : IsLawful (grower k)) (minimal : All (ReducesToMinimal (say k)) (report k).findings) where
+  abbrev firsts : List (ℕ × ℕ)
+  firsts = first_failures (numbered (report k).verdicts)
+
+  are : AreFirstFailures (FailsAt (report k).verdicts) firsts
+  are = firsts_of (report k).verdicts
+
+  abbrev told : Told
+  told = told_in k (grew k d is)
+
+  -- what is told of the first failure at a place
+  finding_at : (n : ℕ) (none : FindingFacts) → n < length (report k).findings → IsFinding (grower k) told (slice_index_or (report k).findings n none)
+  finding_at n none low =
+      let size = length-map firsts (finding (say k) (plans k)) in
+      let inside : n < length firsts = omega (arith, low, size) in
+      let first : ℕ × ℕ = slice_index_or firsts n (0, 0) in
+      let f : FindingFacts = finding (say k) (plans k) first in
+      let here : slice_index_or (report k).findings n none ≡ f = get_or-map (finding (say k) (plans k)) firsts n (0, 0) none inside in
+      let least = are.least n (0, 0) inside in
+      let reduces : ReducesToMinimal (say k) f = subst (ReducesToMinimal (say k)) here (minimal n none low) in
+      let no_lower : (other : ℕ) → other < first.0 → Comes told other (verdict.Fail first.1) → ⊥ = λ other less comes.
+      least.1 other less (get_or_from_slice_get (report k).verdicts other (verdict.Fail first.1) verdict.Pass comes)
+      in
+      subst (IsFinding (grower k) told) (sym here) (record {
+        fails = at_number (report k).verdicts first.0 first.1 least.0;
+        least = no_lower;
+        reduced_fails = own_code first.1 (say k first.0 f.reduced) reduces.0;
+        minimal = without_one (say k first.0) first.1 f.reduced reduces;
+        fewest = fewest (grower k) l d told (has_grown k d is) first.0 first.1 no_lower;
+      })
+
+  found_of : (number code : ℕ) → Comes told number (verdict.Fail code) → (f : FindingFacts) × Contains (report k).findings f × (f.code ≡ code)
+  found_of number code comes =
+      let some = are.complete number code (get_or_from_slice_get (report k).verdicts number (verdict.Fail code) verdict.Pass comes) in
+      (finding (say k) (plans k) some.1, contains_map (finding (say k) (plans k)) firsts some.1 (some.0, some.2, some.3), some.4)
+
+  once_each : AllPairs (λ (f g : FindingFacts). f.code ≢ g.code) (report k).findings
+  once_each i j none less low =
+      let size = length-map firsts (finding (say k) (plans k)) in
+      let inside : j < length firsts = omega (arith, low, size) in
+      let a = get_or-map (finding (say k) (plans k)) firsts i (0, 0) none (omega (arith, less, inside)) in
+      let b = get_or-map (finding (say k) (plans k)) firsts j (0, 0) none inside in
+      λ same. are.distinct i j (0, 0) less inside (sym (ap (λ (f : FindingFacts). f.code) a) ∙ same ∙ ap (λ (f : FindingFacts). f.code) b)
+
+  cause_at_place : (n : ℕ) (none : CauseFacts) → n < length told.growth.causes → IsToldCause (grower k) told (slice_index_or told.growth.causes n none)
+  cause_at_place n none low =
+      let g = has_grown k d is in
+      let c : CauseFacts = slice_index_or told.growth.causes n none in
+      let h : IsCauseOf (grower k) d told c = recursive_at (IsCauseOf (grower k) d told) told.growth.causes n none g.causes_are low in
+      let numbers = all_numbers (grower k) l d told g in
+      let inside : c.number < length (grown (grower k) d) = slice_get_within (grown (grower k) d) c.number h.0 h.1 in
+      record {
+        told_of = omega (arith, inside, numbers);
+        fails = g.comes c.number h.0 h.1 ∙ ap (λ (v : Verdict). Some v) h.2.0;
+        least = λ levels_low found hits left b has behaves answered.
+            let own = of_level (grower k) l d told g c.number found levels_low b in
+            let same : own.plan ≡ h.0 = some_is own.plan h.0 (sym own.at_grown ∙ h.1) in
+            no_lesser (grower k) l d k.given.plans.seed c.number c.code own.plan found hits left own.is own.runs
+            (subst (IsCause (grower k) k.given.plans.seed c.number c.code) (sym same) h.2) has behaves answered;
+      }
+    where
+      recursive_at : (P : CauseFacts → Type 0) (xs : List CauseFacts) (n : ℕ) (none : CauseFacts) → AllByRecursion P xs → n < length xs → P (slice_index_or xs n none)
+      recursive_at P xs n none a low = All-from_recursion P xs a n none low
+
+  keeps : Promises (grower k) told
+  keeps =
+      let g = has_grown k d is in
+      record {
+        nothing_skipped = skipped_none (grower k) l d told g;
+        all_told = counted (grower k) l d told g;
+        nothing_twice = twice (grower k) l d told g;
+        from_then_on = onward_told (grower k) l d told g;
+        whole = whole_told (grower k) l d told g;
+        findings = finding_at;
+        found = found_of;
+        once = once_each;
+        causes = cause_at_place;
+        caused = has_cause (grower k) l d told g;
+        reached = most_reached (grower k) l d told g;
+      }
+
+-- of a campaign with a depth or without
+pub keeps_promises : (k : Campaign) → IsLawful (grower k) → EachIsMinimal k → KeepsPromises k
+keeps_promises k l minimal = by_depth k.given.depth refl
+  where
+    by_depth : (depth : Option ℕ) → depth ≡ k.given.depth → IfSome (growth_of (grower k) k.given.plans.seed (plans k) depth) (λ g. Promises (grower k) (told_in k g))
+    by_depth None is = tt
+    by_depth (Some d) is = keeps k d is l minimal

@@ -1,0 +1,3 @@
+pub mod Behaviours
+pub mod Told
+pub mod Promises

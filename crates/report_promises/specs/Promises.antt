@@ -1,0 +1,77 @@
+-- What a report of a campaign with a depth promises of its component, over the facts that it prints and the behaviours of its plans. In what it calls
+-- whole, that is of every behaviour; in what it finds, that is least.
+use Rattle.std.specs.Prelude.{◌≡◌, ◌≢◌, ℕ, ◌≤◌, ◌<◌, Option, Some, List, ◌∷◌, ◌++◌, All, AllPairs, Contains, length, map, remove, slice_get}
+use Rattle.std.specs.List.{AllByRecursion, range_with_len}
+use Rattle.scenario_values.specs.Scenario.{Entries, all_faults}
+use Rattle.scenario_values.specs.Keep.{kept}
+use Rattle.action_eval.specs.Answers.{Return}
+use Rattle.target_trait.specs.Outcomes.{verdict_with}
+use Rattle.target_trait.specs.declared.judgement.Verdict.{Verdict}
+use Rattle.target_trait.specs.declared.judgement.Verdict.TheVariants.{Fail}
+use Rattle.grown_plans.specs.Runs.{Met, acting}
+use Rattle.grown_plans.specs.GrownPlans.{Subject, most}
+use Rattle.grown_plans.specs.Promises.{EachTwo, ReturnsOnward}
+use Rattle.report.specs.Reports.{FindingFacts, CauseFacts}
+use Rattle.report_promises.specs.Behaviours.{IsBehaviour, IsOfComponent, verdict_at_end, faults, times_hit, AnsweredWithout}
+use Rattle.report_promises.specs.Told.{Told, of_levels, of_all, Behaves, Comes, IsToldOnce}
+
+-- a scenario's verdict under a number
+abbrev pub verdict_of : Subject → Told → ℕ → Entries → Verdict
+verdict_of t told number scenario = verdict_with t.asks t.names told.report.seed t.limit number scenario
+
+-- a scenario without one of its faults
+abbrev pub without : ℕ → Entries → Entries
+without fault scenario = kept (remove (range_with_len 0 (all_faults scenario)) fault) scenario
+
+-- ---- a finding
+
+-- its number is the least that fails with its code. Its reduced scenario fails with that code, and without any one of its faults it doesn't. Where
+-- it is of a level, no behaviour in which fewer faults act fails so
+pub record IsFinding (t : Subject) (told : Told) (f : FindingFacts) : Type 0 where
+  pub fails : Comes told f.number (Fail f.code)
+  pub least : (other : ℕ) → other < f.number → Comes told other (Fail f.code) → ⊥
+  pub reduced_fails : verdict_of t told f.number f.reduced ≡ Fail f.code
+  pub minimal : (fault : ℕ) → fault < all_faults f.reduced → verdict_of t told f.number (without fault f.reduced) ≢ Fail f.code
+  pub fewest : f.number < of_levels told → (found hits : List Met) → Behaves told f.number found → IsOfComponent t hits → acting hits < acting found
+      → verdict_at_end t hits ≢ Fail f.code
+
+-- ---- a cause
+
+-- it fails with its code. Where it is of a level, without any one of its faults it doesn't: no behaviour whose hits are answered by the others does
+pub record IsCause (t : Subject) (told : Told) (c : CauseFacts) : Type 0 where
+  pub told_of : c.number < of_all told
+  pub fails : Comes told c.number (Fail c.code)
+  pub least : c.number < of_levels told → (found hits : List Met) (left : Met) → Behaves told c.number found → Contains (faults found) left
+      → IsBehaviour t hits → AnsweredWithout left (faults found) hits → verdict_at_end t hits ≢ Fail c.code
+
+-- a listed cause of a behaviour that fails with a code: with that code, by faults that are among its own
+pub record HasCause (told : Told) (code : ℕ) (failing : List Met) : Type 0 where
+  pub cause : CauseFacts
+  pub listed : Contains told.growth.causes cause
+  pub code_is : cause.code ≡ code
+  pub among : (found : List Met) → Behaves told cause.number found → AllByRecursion (Contains (faults failing)) (faults found)
+
+-- ---- the promises
+
+-- to a depth of d
+pub record Promises (t : Subject) (told : Told) : Type 0 where
+  -- each behaviour in which at most d faults act is that of exactly one number of the levels, with its verdict
+  pub nothing_skipped : (hits : List Met) → IsOfComponent t hits → acting hits ≤ told.growth.depth → IsToldOnce told (of_levels told) hits (verdict_at_end t hits)
+  -- no two numbers have the same behaviour
+  pub all_told : length told.behaviours ≡ of_all told
+  pub nothing_twice : EachTwo (λ hits others. hits ≢ others) told.behaviours
+  -- each behaviour in which fewer than d faults act, and then, from one hit on, each hit of its point returns, is that of exactly one number
+  pub from_then_on : (before after : List Met) (hit : Met) (text : Option (List ℕ)) → hit.reply ≡ Return text → IsOfComponent t (before ++ hit ∷ after)
+      → acting before < told.growth.depth → ReturnsOnward text hit.site.point after
+      → IsToldOnce told (of_all told) (before ++ hit ∷ after) (verdict_at_end t (before ++ hit ∷ after))
+  -- where the report says that no plan lies beyond, nothing is skipped of any behaviour
+  pub whole : told.growth.beyond ≡ 0 → (hits : List Met) → IsOfComponent t hits → IsToldOnce told (of_levels told) hits (verdict_at_end t hits)
+  -- each code with which a number fails has exactly one finding
+  pub findings : All (IsFinding t told) told.report.findings
+  pub found : (number code : ℕ) → Comes told number (Fail code) → (f : FindingFacts) × Contains told.report.findings f × (f.code ≡ code)
+  pub once : AllPairs (λ f g. f.code ≢ g.code) told.report.findings
+  -- each number of a level that fails has a cause, and each cause is one
+  pub causes : All (IsCause t told) told.growth.causes
+  pub caused : (number code : ℕ) (hits : List Met) → number < of_levels told → Behaves told number hits → Comes told number (Fail code) → HasCause told code hits
+  -- what is reached of a point is the most hits of it that a told behaviour has
+  pub reached : (point : ℕ) → point < length t.names → slice_get told.growth.reached point ≡ Some (most (map (times_hit point) told.behaviours))
