@@ -4,8 +4,8 @@
     tests/outside_page.py PAGE
 
 `paklour` has to be on the PATH, and outside/ built. In a folder of its own a block of C becomes the file that its first line names, one of `#!/bin/sh` the
-one of its second line, and each other block of `sh` is run; blocks that build or install, and those that run an example of outside/, aren't: tools/page_rules
-holds the latter to their reports. Behind a command, a comment is a line that the block writes, up to `, and so on`. A block without a language shows how what
+one of its second line, and each other block of `sh` is run; those that run an example of outside/ aren't: tools/page_rules
+holds them to their reports. Behind a command, a comment is a line that the block writes, up to `, and so on`. A block without a language shows how what
 was written last ends, and a report's line that the text names, as `beyond 2`, is one that was written last; a report that comes next is the next one to end.
 Prints each difference, and at last how many things were compared. Fails where something differs.
 """
@@ -17,7 +17,7 @@ import tempfile
 
 TOP = os.path.normpath(os.path.join(os.path.dirname(os.path.abspath(__file__)), ".."))
 NAMED = re.compile(r"`((?:clean|counts|first) [^`\n]+|(?:census|depth|level|onward|beyond|reached|plans|causes) [^`\n]*\d)`")
-LEFT_OUT = re.compile(r'make -C|outside/examples/')
+LEFT_OUT = "outside/examples/"
 
 
 class Reader:
@@ -43,7 +43,7 @@ class Reader:
             self.file(re.match(r"/\* (\S+) \*/", text)[1], text)
         elif text.startswith("#!/bin/sh\n"):
             self.file(re.match(r".*\n# (\S+)", text)[1], text)
-        elif language == "sh" and LEFT_OUT.search(text):
+        elif language == "sh" and LEFT_OUT in text:
             self.wrote = None
         elif language == "sh":
             self.run(text)
@@ -52,7 +52,8 @@ class Reader:
 
     def run(self, text):
         """Runs commands. What they find is no error, so 1 is none."""
-        variables = {"PAKLOUR": TOP, "TMPDIR": self.folder, "TRACE": ""}
+        commands = os.path.join(TOP, "outside", "out", "bin")
+        variables = {"PATH": f"{commands}:{os.environ['PATH']}", "TMPDIR": self.folder, "TRACE": ""}
         done = subprocess.run(["sh", "-eu", "-c", text], cwd=self.folder, env={**os.environ, **variables}, stdin=subprocess.DEVNULL,
                               stdout=subprocess.PIPE, stderr=subprocess.STDOUT, timeout=120, check=False)
         self.wrote = done.stdout.decode()

@@ -1,13 +1,6 @@
-/* powercut begin RUN [ROOT]       makes the folder of a run: state, trace and, where ROOT is given, notes of what is there
-   powercut expect RUN NAME..      the script itself changes what has these names under ROOT; a folder's stands for all in it
-   powercut pending RUN            which changes don't last by now: number, kind, names, bytes
-   powercut cut RUN ROOT [STATE]   lays the files under ROOT as a power cut leaves them
-   powercut recover RUN ROOT [STATE]   the same, and the run goes on
-
-   STATE is `lasting` (where it is left out), `live`, `names` or `contents`: names as they last (in synced folders) or as they
-   are, times contents as they last (of synced files) or as they are; or `keep SCENARIO`: what lasts and the pending changes
-   for which power::keep of the scenario answers return. The first cut notes what is there, so that each state can be laid in
-   turn, whatever a look at one of them did to the files.
+/* powercut COMMAND RUN ..: help.c has the commands and the states that a cut may leave. `begin` makes the folder of a run: state, trace
+   and, where ROOT is given, notes of what is there. The first cut notes what is there, so that each state can be laid in turn, whatever
+   a look at one of them did to the files.
 
    A change is of names (create, mkdir, symlink, link, unlink, rmdir, rename, exchange) or of contents (a write, a store of a page
    through a mapping, a new length, cleared bytes). A rename or exchange moves both names or neither; over two folders it lasts in
@@ -24,6 +17,7 @@
    the script named, as by stores into a mapping of a process that was killed; and a ROOT that isn't the folder of `begin`, or below
    which something is mounted. Where the supervisor was killed between a change and its note, the change is told and not refused. */
 #define _GNU_SOURCE
+#include "../run/help.h"
 #include "lay.h"
 #include "unseen.h"
 
@@ -124,7 +118,7 @@ static void open_root(struct tree *tree, const struct state *state, const char *
 /* A verdict over a run that nothing watched would be about nothing. A program that only starts others isn't what is tested. */
 static void check_loaded(const struct state *state) {
     if (!state->loaded)
-        refuse("nothing ran under the supervisor", "outside/out/faults wasn't started with this FAULTS_RUN, or ended before its command began");
+        refuse("nothing ran under the supervisor", "paklour-faults wasn't started with this FAULTS_RUN, or ended before its command began");
     if (state->others && state->number == state->started) refuse("no call was seen", state->unseen_text[0]);
 }
 
@@ -298,18 +292,15 @@ int main(int count, char **words) {
     bool cuts = !strcmp(what, "cut") || !strcmp(what, "recover");
     umask(0);
     raise_limit_of_descriptors();
+    if (asks_help(what)) return write_help(1) ? 0 : 2;
     if (!strcmp(what, "begin") && (count == 3 || count == 4)) begin(words[2], count == 4 ? words[3] : NULL);
     else if (!strcmp(what, "expect") && count > 3) expect(words[2], words + 3, count - 3);
     else if (!strcmp(what, "pending") && count == 3) tell_pending(words[2]);
     else if (cuts && count == 6 && !strcmp(words[4], "keep")) cut(words[2], words[3], "lasting", words[5], what[0] == 'r');
     else if (cuts && (count == 4 || count == 5)) cut(words[2], words[3], count == 5 ? words[4] : "lasting", NULL, what[0] == 'r');
-    else refuse("usage", "powercut begin RUN [ROOT] | expect RUN NAME.. | pending RUN |\n"
-        "                cut|recover RUN ROOT [lasting|live|names|contents|keep SCENARIO]\n"
-        "  begin     makes RUN, the folder of a run; what is under ROOT now lasts\n"
-        "  expect    the script itself changes what has these names under ROOT; a folder's stands for all that is in it\n"
-        "  pending   which changes don't last by now: number, kind, names, bytes\n"
-        "  cut       empties ROOT and lays there what a power cut leaves: names and contents as they last, or as they are, or what lasts\n"
-        "            and the pending changes for which power::keep of the scenario answers return\n"
-        "  recover   the same; what was laid lasts, and the run goes on");
+    else {
+        write_help(2);
+        return 2;
+    }
     return 0;
 }

@@ -16,12 +16,12 @@ from .settings import Settings
 from .shown import show
 from .watching import watched
 from .whole import FORMS, Asked, Whole, decider_of
-from .words import Usage, bytes_of, shows_progress, split, usage_of, whole_number
+from .words import ASK_HELP, Usage, as_called, bytes_of, shows_progress, split, usage_of, whole_number, write_help
 from .work import Note, Work
 
 WITH_VALUE = {"-j", "--seconds", "--engine", "--script", "--depth", "--try", "--into", "--room", "--bytes", "--failures", "--settings"}
-FLAGS = {"--brief", "--strict", "--progress", "--recheck", "--no-recheck", "--hits", "-x", "--every-run", "--kinds", "--no-kinds", "--whole",
-    "--junit", "--json"}
+FLAGS = {*ASK_HELP, "--brief", "--strict", "--progress", "--no-recheck", "--hits", "-x", "--every-run", "--kinds", "--no-kinds", "--whole", "--junit",
+    "--json"}
 
 
 def on_signal(number: int, frame: object) -> None:
@@ -78,7 +78,7 @@ def script_report(options: dict[str, str], campaign: Campaign, tries: script.Tri
 
 def asked_of(loop: str, options: dict[str, str], path: str) -> Asked:
     failures = 1 if "-x" in options else whole_number(options["--failures"]) if "--failures" in options else None
-    words = [loop, path, *(["--into", options["--into"]] if "--into" in options else [])]
+    words = [as_called(loop), path, *(["--into", options["--into"]] if "--into" in options else [])]
     return Asked(shlex.join(words), whole_number(options.get("-j", os.environ.get("PROCESSES") or "4")), shows_progress(options),
         "--whole" not in options, "--strict" in options, [form for form in FORMS if form in options], failures)
 
@@ -121,6 +121,8 @@ def main(loop: str, words: list[str]) -> int:
         signal.signal(number, on_signal)
     try:
         options, rest = split(words, WITH_VALUE, FLAGS)
+        if options.keys() & set(ASK_HELP):
+            return write_help(loop)
         if len(rest) == 1 and "--script" not in options:
             return run_harness(loop, options, rest[0], processes)
         return run_script(options, rest, processes)

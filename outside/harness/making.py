@@ -9,7 +9,7 @@ import tempfile
 from pathlib import Path
 
 from . import tree
-from .words import Usage, usage_of
+from .words import ASK_HELP, Usage, as_called, usage_of, write_help
 
 PREPARE = """#!/bin/sh
 # Fills the data's folder, in which it is started: what is there when it ends lasts. From an empty folder a folder that is never synced is
@@ -106,7 +106,7 @@ def expect(folder: Path) -> None:
         tree.copy(str(data), str(folder / "expected"))
 
 
-def words_of(loop: str, words: list[str]) -> tuple[str, str, Path, str]:
+def words_of(words: list[str]) -> tuple[str, str, Path, str]:
     """Which form, the line of a server, the folder, the command."""
     form, line = "command", ""
     if words[:1] == ["--server"]:
@@ -121,11 +121,18 @@ def words_of(loop: str, words: list[str]) -> tuple[str, str, Path, str]:
     return form, line, Path(words[0]).resolve(), shlex.join(command)
 
 
-def main(loop: str, words: list[str]) -> int:
+def loop_beside(new: str) -> str:
+    """`paklour-loop` beside `paklour-new`, `loop` beside `new`."""
+    return as_called(os.path.join(os.path.dirname(new), os.path.basename(new).removesuffix("new") + "loop"))
+
+
+def main(new: str, words: list[str]) -> int:
+    if words[:1] and words[0] in ASK_HELP:
+        return write_help(new)
     try:
-        form, line, folder, command = words_of(loop, words)
+        form, line, folder, command = words_of(words)
     except (Usage, ValueError):
-        sys.stderr.write(usage_of(loop) + "\n")
+        sys.stderr.write(usage_of(new) + "\n")
         return 2
     try:
         folder.mkdir()
@@ -139,5 +146,5 @@ def main(loop: str, words: list[str]) -> int:
         (folder / "message").write_text(MESSAGE)
     if form == "command":
         expect(folder)
-    print(f"{os.path.join(os.path.dirname(loop), 'loop')} {shlex.quote(str(folder))}")
+    print(shlex.join([loop_beside(new), str(folder)]))
     return 0

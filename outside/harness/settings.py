@@ -9,7 +9,7 @@ from .answers import Answers, Stopped
 from .definition import Harness
 from .shown import show
 
-MADE = "# Made by outside/loop. Without this line they are yours, and stay as they are."
+MADE = "# Made by paklour-loop. Without this line they are yours, and stay as they are."
 FILES = ["open", "read", "write", "fsync", "truncate", "rename", "link", "unlink", "mkdir", "rmdir", "symlink"]
 POINTS = [f"sys::{name}" for name in FILES] + ["power::keep", "power::tear"]
 OWN_POINTS = re.compile(r"(sys|libc|power|order)::")

@@ -1,18 +1,37 @@
 """The words of a command line."""
 
+import os
+import shutil
+import signal
 import sys
 from pathlib import Path
+
+ASK_HELP = ("-h", "--help")
 
 
 class Usage(Exception):
     """Words that mean nothing."""
 
 
-def usage_of(loop: str) -> str:
-    """The head of the file `loop`."""
-    lines = Path(loop).read_text("utf-8").split("\n")[1:]
+def usage_of(command: str) -> str:
+    """The head of that file."""
+    lines = Path(command).read_text("utf-8").split("\n")[1:]
     head = lines[:next(at for at, line in enumerate(lines) if not line.startswith("#"))]
     return "\n".join(line.removeprefix("#").removeprefix(" ") for line in head)
+
+
+def write_help(command: str) -> int:
+    """For who asks for it. A reader that has seen enough is no error."""
+    signal.signal(signal.SIGPIPE, signal.SIG_DFL)
+    print(usage_of(command), flush=True)
+    return 0
+
+
+def as_called(command: str) -> str:
+    """How a reader calls that file: by its name alone where the PATH leads to it, as to an installed one."""
+    name = os.path.basename(command)
+    found = shutil.which(name)
+    return name if found and os.path.realpath(found) == os.path.realpath(command) else command
 
 
 def whole_number(text: str) -> int:

@@ -2,6 +2,7 @@
    system asks it about each call of table.c, by seccomp's user notification, and it does those that are under FAULTS_ROOT itself,
    or lets them fail. What it shares with a power cut is the run's folder, FAULTS_RUN. README.md says what is seen. */
 #define _GNU_SOURCE
+#include "../run/help.h"
 #include "../run/whole.h"
 #include "keeper.h"
 #include "order.h"
@@ -301,7 +302,7 @@ static _Noreturn void watch(const char *name) {
     }
 }
 
-static const char usage[] = "faults [--order settled|next] [--pin] [--] COMMAND..";
+static const char usage[] = "faults [--order settled|next] [--pin] [--] COMMAND.., or faults --help";
 
 /* Answers the number of the command's first word. */
 static int read_options(int count, char **words) {
@@ -309,6 +310,7 @@ static int read_options(int count, char **words) {
     for (; at < count && words[at][0] == '-'; at++) {
         const char *order = !strcmp(words[at], "--order") && at + 1 < count ? words[at + 1] : "";
         if (!strcmp(words[at], "--")) return at + 1;
+        if (asks_help(words[at])) _exit(write_help(1) ? 0 : REFUSED);
         if (!strcmp(words[at], "--pin")) is_pinned = true;
         else if (!strcmp(order, "settled") || !strcmp(order, "next")) set_order(*order == 's' ? SETTLED : ASKED), at++;
         else refuse("usage", usage);

@@ -77,7 +77,7 @@ is 'or where asks refuses, which is told' '2 settings: unknown key what' "$? $(c
 unset REFUSES
 options=--what
 loop answers > "$here/said" 2>&1
-is 'unknown options are refused' '2 loop [OPTION..] SETTINGS ANSWERS TRY [-- WORD..]: asks what is still to be tried' "$? $(sed 's/, tries.*//;q' "$here/said")"
+is 'unknown options are refused' '2 Usage: paklour-loop [OPTIONS] <HARNESS>' "$? $(grep ^Usage "$here/said")"
 unset options
 
 # A run that takes too long, with what it started.

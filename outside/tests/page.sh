@@ -15,24 +15,25 @@ block '# try.sh SCENARIO' > "$here/page/try.sh"
 chmod +x "$here/page/try.sh"
 gcc -o "$here/page/save" "$here/page/save.c"
 
-# tried PAKLOUR SCENARIO: what the page's try.sh writes there, what it tells, and its status
-tried() { (cd "$here/page" && PAKLOUR=$1 ./try.sh "$2" 2>&1; echo "$?") | tr '\t' ' ' | paste -s -d , ; }
+# tried COMMANDS SCENARIO: what the page's try.sh writes with that folder of commands, what it tells, and its status
+tried() { (cd "$here/page" && PATH="$1:$PATH" ./try.sh "$2" 2>&1; echo "$?") | tr '\t' ' ' | paste -s -d , ; }
 
 clean='2*sys::open;sys::write;sys::fsync;sys::rename;sys::fsync'
-is 'the page' "pass none $clean,0" "$(tried "$outside/.." none)"
-is 'its flaw, whose cut asks for the contents' "fail lost sys::fsync=1*return $clean;power::keep,0" "$(tried "$outside/.." 'sys::fsync=1*return')"
-is 'a run that it ends tells its hits up to there' 'unresolved sys::write=pause 2*sys::open;sys::write;power::keep,0' "$(tried "$outside/.." 'sys::write=pause')"
+is 'the page' "pass none $clean,0" "$(tried "$outside/out/bin" none)"
+is 'its flaw, whose cut asks for the contents' "fail lost sys::fsync=1*return $clean;power::keep,0" "$(tried "$outside/out/bin" 'sys::fsync=1*return')"
+is 'a run that it ends tells its hits up to there' 'unresolved sys::write=pause 2*sys::open;sys::write;power::keep,0' "$(tried "$outside/out/bin" 'sys::write=pause')"
 mkdir "$here/hasty" && printf '#!/bin/sh\nshift 3\nexec %s -s KILL 1 "$@"\n' "$(command -v timeout)" > "$here/hasty/timeout" && chmod +x "$here/hasty/timeout"
 is 'one that is killed too' 'unresolved sys::write=sleep(20000) 2*sys::open;sys::write;power::keep,0' \
-    "$(PATH="$here/hasty:$PATH" tried "$outside/.." 'sys::write=sleep(20000)' | sed 's/^Killed,//')"
-is 'without PAKLOUR it ends with 2' 2 "$(tried '' 'sys::fsync=1*return' | sed 's/.*,//')"
-is 'with a wrong path too' 2 "$(tried "$here/none" 'sys::fsync=1*return' | sed 's/.*,//')"
-mkdir -p "$here/half/outside/out" && cp out/powercut "$here/half/outside/out"
-is 'and where the supervisor is not built' "powercut: nothing ran under the supervisor: outside/out/faults wasn't started with this FAULTS_RUN, or ended before its command began,2" \
-    "$(tried "$here/half" 'sys::fsync=1*return' | sed 's/^timeout: [^,]*,//')"
+    "$(PATH="$here/hasty:$PATH" tried "$outside/out/bin" 'sys::write=sleep(20000)' | sed 's/^Killed,//')"
+# As the shell does where a command isn't there.
+mkdir "$here/none" "$here/half" && cp out/powercut "$here/half/paklour-powercut"
+for lacks in none/paklour-powercut half/paklour-faults; do printf '#!/bin/sh\nexit 127\n' > "$here/$lacks" && chmod +x "$here/$lacks"; done
+is 'without the commands it ends with 2' 2 "$(tried "$here/none" 'sys::fsync=1*return')"
+is 'and without the supervisor' "powercut: nothing ran under the supervisor: paklour-faults wasn't started with this FAULTS_RUN, or ended before its command began,2" \
+    "$(tried "$here/half" 'sys::fsync=1*return')"
 printf '%s\n' '#!/bin/sh' 'exec env -i "${0%/*}/saves" "$@"' > "$here/page/clears" && mv "$here/page/save" "$here/page/saves"
 mv "$here/page/clears" "$here/page/save" && chmod +x "$here/page/save"
-is 'and a program that clears its environment' "fail lost sys::fsync=1*return $clean;power::keep,0" "$(tried "$outside/.." 'sys::fsync=1*return')"
+is 'and a program that clears its environment' "fail lost sys::fsync=1*return $clean;power::keep,0" "$(tried "$outside/out/bin" 'sys::fsync=1*return')"
 is 'the trace of a run without faults, as the page has it' '5 sys::rename 1 go note' \
-    "$(mv "$here/page/saves" "$here/page/save"; TRACE=$here/trace tried "$outside/.." none > "$here/said"; cut -f 1-5 "$here/trace" | sed -n 5p | tr '\t' ' ')"
-is 'and its hits in order' '2*sys::open;sys::write;sys::fsync;sys::rename;sys::fsync' "$(./census --hits "$here/trace")"
+    "$(mv "$here/page/saves" "$here/page/save"; TRACE=$here/trace tried "$outside/out/bin" none > "$here/said"; cut -f 1-5 "$here/trace" | sed -n 5p | tr '\t' ' ')"
+is 'and its hits in order' '2*sys::open;sys::write;sys::fsync;sys::rename;sys::fsync' "$(out/bin/paklour-census --hits "$here/trace")"

@@ -289,7 +289,7 @@ for wrong in '--order' '--order any' '--pinned' '--'; do
     new
     # shellcheck disable=SC2086
     run none $wrong
-    is "a word it has no meaning for: $wrong" '98 faults: usage: faults [--order settled|next] [--pin] [--] COMMAND..' "$status $faults"
+    is "a word it has no meaning for: $wrong" '98 faults: usage: faults [--order settled|next] [--pin] [--] COMMAND.., or faults --help' "$status $faults"
 done
 
 # Random files: what was noted is what there is.

@@ -4,7 +4,7 @@
 no_cut() { is "$1" "2 $2" "$(out/powercut cut "$here/run" "$here/data" > "$here/said" 2>&1; printf '%s %s' "$?" "$(cat "$here/said")")"; }
 
 # A run that nothing watched.
-nothing="powercut: nothing ran under the supervisor: outside/out/faults wasn't started with this FAULTS_RUN, or ended before its command began"
+nothing="powercut: nothing ran under the supervisor: paklour-faults wasn't started with this FAULTS_RUN, or ended before its command began"
 try none create a
 is 'what ran under it' "$component" "$(cut -f 2 "$here/run/loaded" | tail -n 1)"
 new
