@@ -7,6 +7,7 @@ fault and one of faults come to was worked out by hand from its own head.
   > # A title, with a mark!
   > [itself](#a-title-with-a-mark) [elsewhere](https://example.org/x)
   > `paklour run --brief` and `make build`, and `make -C outside test`, see `tools/prove`
+  > `paklour-loop -j 2 --brief save.toml -- --workdir .`, `paklour-faults --pin cat --number`, `paklour-powercut`
   > ```toml
   > target = "replace"
   > [replace]
@@ -19,6 +20,7 @@ fault and one of faults come to was worked out by hand from its own head.
   > # A title
   > [one](nowhere.md) [two](#another)
   > `paklour walk`, `paklour run --loud`, `make haste`, `tools/none`
+  > `paklour-leap`, `paklour-loop --loud save.toml -y`, `paklour-faults --pinned cat`
   > ```toml
   > tarjet = "replace"
   > [replace]
@@ -34,6 +36,10 @@ fault and one of faults come to was worked out by hand from its own head.
   page.md: paklour has no option --loud: paklour run --loud
   page.md: make has no target haste: make haste
   page.md: no file tools/none: tools/none
+  page.md: no command paklour-leap: paklour-leap
+  page.md: paklour-loop has no option --loud: paklour-loop --loud save.toml -y
+  page.md: paklour-loop has no option -y: paklour-loop --loud save.toml -y
+  page.md: paklour-faults has no option --pinned: paklour-faults --pinned cat
   page.md: settings have no key tarjet
   page.md: settings have no key replace.new
   page.md: settings have no table shelf
@@ -53,7 +59,7 @@ What a page shows of a report that stands in this repository, and what a table t
 Of a loop over an example of outside/: the lines that are shown, of which `..` stands for some, and those that the text names. Three faults deep SQLite
 has 1,119 plans, and 217 causes are the last that is told.
 
-  $ printf '%s\n' '```sh' 'outside/loop "$PAKLOUR/outside/examples/sqlite/extra.toml" answers try.sh' '```' '' > begin.md
+  $ printf '%s\n' '```sh' 'paklour-loop ../paklour/outside/examples/sqlite/extra.toml answers try.sh' '```' '' > begin.md
   $ shown() { { cat begin.md; printf '%s\n' "$1" '```' "$2" '..' "$3" '..' '```' "$4"; } > page.md; rules; }
   $ shown 'Of `plans 1119`' 'tests 3' 'causes 217' '| `sqlite` | three deep (`extra.toml`) | 1,119 | 1 lost, 222 corrupt |'
   $ shown 'Of `plans 1118`' 'tests 3' 'causes 217' '`level 3 537`, `census TRACE`, and `level 3 536`'
