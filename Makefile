@@ -3,12 +3,11 @@
 # The settings of the campaign that `make run` runs.
 FILE = examples/replace_depth.toml
 
-# Where `make install` puts the program, its manual page and the completions for shells, and which program that is: the one that
-# `make build` makes, where none is named.
+# Where `make install` puts the program and the commands beside it, and which program that is: the one that `make build` makes, where none is
+# named.
 PREFIX = /usr/local
 BUILT = crates/paklour/out/paklour
 PROGRAM = $(BUILT)
-PAGES = $(wildcard share/*/*/*)
 
 # A first look: builds the program without proving it, and runs a campaign; it ends with the name of the page that it wrote, to look at. A
 # campaign that finds a failure is no error here.
@@ -58,16 +57,16 @@ fmt:
 ifeq ($(PROGRAM),$(BUILT))
 install: build
 endif
-# Puts the program into PREFIX/bin, with its manual page and completions.
+# Puts the program and the commands of outside/ into PREFIX/bin, with manual pages and completions.
 install:
-	@install -D -m 755 "$(PROGRAM)" "$(DESTDIR)$(PREFIX)/bin/paklour"
-	@for page in $(PAGES); do install -D -m 644 "$$page" "$(DESTDIR)$(PREFIX)/$$page" || exit 1; done
+	@$(MAKE) -s -C outside commands
+	@tools/install put "$(PROGRAM)" "$(DESTDIR)$(PREFIX)"
 
 # Removes what `make install` has put there.
 uninstall:
-	@for file in bin/paklour $(PAGES); do rm -f "$(DESTDIR)$(PREFIX)/$$file" || exit 1; done
+	@tools/install take "$(DESTDIR)$(PREFIX)"
 
-# Writes the manual page and the completions anew, from the program's help.
+# Writes the manual pages and the completions anew, from the help of the program and of the commands.
 pages: build
 	@tools/pages $(BUILT)
 

@@ -1,5 +1,6 @@
 What `make install` puts beside the program is made from its help (tools/pages, which the gate asks for words that are missing), and helps
-as it should. Which words are completed follows from the usage that `paklour help` and `paklour help COMMAND` write.
+as it should. Which words are completed follows from the usage that `paklour help` and `paklour help COMMAND` write. The commands of outside/, which are
+put there too, are tried there.
 
   $ cat > complete <<'end'
   > . "$TESTDIR/../share/bash-completion/completions/paklour"
@@ -46,21 +47,40 @@ Where the other shells are installed, they read their own.
   $ ! command -v zsh > where || zsh -n "$TESTDIR/../share/zsh/site-functions/_paklour"
   $ ! command -v fish > where || fish --no-execute "$TESTDIR/../share/fish/vendor_completions.d/paklour.fish"
 
-`make install` puts each into its folder, and `make uninstall` takes just these away.
+`make install` puts each into its folder, with links for the commands beside the program, of which each has a page and completions too, and
+`make uninstall` takes just these away.
 
   $ unset MAKEFLAGS MFLAGS MAKELEVEL
   $ mkdir -p here/usr/bin here/usr/share/man/man1 && touch here/usr/bin/other here/usr/share/man/man1/other.1
   $ make -s -C "$TESTDIR/.." --no-print-directory install PROGRAM="$(command -v paklour)" DESTDIR="$PWD/here" PREFIX=/usr
-  $ (cd here && find . -type f -printf '%m %p\n' | grep -v other | sort)
-  644 ./usr/share/bash-completion/completions/paklour
-  644 ./usr/share/fish/vendor_completions.d/paklour.fish
-  644 ./usr/share/man/man1/paklour.1
-  644 ./usr/share/zsh/site-functions/_paklour
-  755 ./usr/bin/paklour
+  $ (cd here/usr && find . -type f -not -path '*/paklour/*' -not -name 'other*' -printf '%m %h\n' | sort | uniq -c | sed 's/^ *//')
+  6 644 ./share/bash-completion/completions
+  6 644 ./share/fish/vendor_completions.d
+  6 644 ./share/man/man1
+  6 644 ./share/zsh/site-functions
+  1 755 ./bin
+  $ (cd here/usr/bin && find . -type l -printf '%p %l\n' | sort && find . -xtype l)
+  ./paklour-census ../lib/paklour/census
+  ./paklour-faults ../lib/paklour/out/faults
+  ./paklour-loop ../lib/paklour/loop
+  ./paklour-new ../lib/paklour/new
+  ./paklour-powercut ../lib/paklour/out/powercut
+  $ ls here/usr/lib/paklour here/usr/share/doc/paklour
+  here/usr/lib/paklour:
+  census
+  harness
+  loop
+  new
+  out
+  
+  here/usr/share/doc/paklour:
+  CHANGELOG.md
+  README.md
+  docs
   $ here/usr/bin/paklour --version | sed 's/[0-9.]*$/N/'
   paklour N
   $ cmp here/usr/bin/paklour "$(command -v paklour)"
   $ make -s -C "$TESTDIR/.." --no-print-directory uninstall DESTDIR="$PWD/here" PREFIX=/usr
-  $ (cd here && find . -type f | sort)
+  $ (cd here && find . -not -type d | sort)
   ./usr/bin/other
   ./usr/share/man/man1/other.1
