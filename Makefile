@@ -66,6 +66,14 @@ install:
 uninstall:
 	@tools/install take "$(DESTDIR)$(PREFIX)"
 
+ifeq ($(PROGRAM),$(BUILT))
+deb: build
+endif
+# Builds a package of Debian with the same, out/paklour_VERSION_amd64.deb.
+deb:
+	@$(MAKE) -s -C outside commands
+	@tools/deb "$(PROGRAM)" out
+
 # Writes the manual pages and the completions anew, from the help of the program and of the commands.
 pages: build
 	@tools/pages $(BUILT)
@@ -96,4 +104,4 @@ help:
 	    { text = "" }' Makefile
 	@echo 'Each is told in README.md or in docs/WORKING.md.'
 
-.PHONY: help quick run build install uninstall pages dist dist-check examples sessions test prove check fmt refuse edits bench
+.PHONY: help quick run build install uninstall deb pages dist dist-check examples sessions test prove check fmt refuse edits bench
