@@ -8,7 +8,7 @@
    FAILPOINTS     the scenario, or `none`
    POINTS_TRACE   a file that takes the trace, made new for each run. Processes that name the same file share the counts, also
                   between languages; without one each counts for itself. As a line of the supervisor's: number of the hit, point, which hit
-                  of that point, what was answered, and any word, with tabs between. outside/census reads it. In try.sh:
+                  of that point, what was answered, and any word, with tabs between. paklour-census reads it. In try.sh:
 
        FAILPOINTS=$1 POINTS_TRACE=$run/points timeout -s KILL 10 ./store > "$run/said"
        status=$?

@@ -67,13 +67,29 @@ class Installed(unittest.TestCase):
             for name in ["paklour", *COMMANDS]:
                 self.assertTrue((share / place.format(name)).exists(), place.format(name))
 
+    def files(self, folder: Path) -> set[str]:
+        return {str(path.relative_to(folder)) for path in folder.rglob("*") if path.is_symlink() or not path.is_dir()}
+
+    def test_a_package_has_the_same(self):
+        version = subprocess.run([PROGRAM, "--version"], capture_output=True, text=True, check=True).stdout.split()[1]
+        sources = (TOP / "crates" / "command_words" / "src" / "words.rt").read_text("utf-8")
+        if not shutil.which("dpkg-deb") or f'VERSION: &str = "{version}"' not in sources:
+            self.skipTest("no dpkg-deb, or a program of another version than that of the sources")
+        package = subprocess.run([TOP / "tools" / "deb", PROGRAM, self.here], capture_output=True, text=True, check=True).stdout.strip()
+        subprocess.run(["dpkg-deb", "--extract", package, self.here / "extracted"], check=True)
+        fields = subprocess.run(["dpkg-deb", "--field", package, "Version", "Depends"], capture_output=True, text=True, check=True).stdout
+        self.assertRegex(fields, rf"\AVersion: {re.escape(version)}\nDepends: libc6 \(>= 2\.\d+\), python3 \(>= 3\.11\)\n\Z")
+        there = {re.sub(r"(man1/.*)", r"\1.gz", name.replace("zsh/site-functions", "zsh/vendor-completions"))
+            for name in self.files(self.prefix) if "__pycache__" not in name}
+        self.assertEqual(self.files(self.here / "extracted" / "usr"), there | {"share/doc/paklour/copyright", "share/doc/paklour/changelog.gz"})
+
     def test_all_is_taken_away(self):
         self.run_in(self.here, "paklour-new --help")
         self.assertTrue((self.prefix / "lib" / "paklour" / "harness" / "__pycache__").exists(), "Python keeps what it has compiled")
         self.make("uninstall")
-        left = [path for path in self.there.rglob("*") if path.is_symlink() or not path.is_dir()]
+        left = self.files(self.there)
         self.make("install", f"PROGRAM={PROGRAM}")
-        self.assertEqual(left, [])
+        self.assertEqual(left, set())
 
 
 class Pages(unittest.TestCase):
