@@ -8,7 +8,7 @@ import os
 import re
 import subprocess
 
-from page_text import fish_text, quoted, roff, roff_head, roff_item, zsh_text
+from page_text import fish_text, roff, roff_head, roff_item, roff_others, zsh_text
 
 TOP = os.path.normpath(os.path.join(os.path.dirname(os.path.abspath(__file__)), ".."))
 OUTSIDE = os.path.join(TOP, "outside")
@@ -138,7 +138,7 @@ def manual(command, version):
             lines += [".nf", roff(part), ".fi"]
         else:
             lines += [line for item in items(part) for line in roff_item(*item)]
-    return "\n".join([*lines, ".SH SEE ALSO", roff(", ".join(f"{name}(1)" for name in ["paklour", *names()] if name != command.name))]) + "\n"
+    return "\n".join([*lines, *roff_others(command.name, names())]) + "\n"
 
 
 # ---- what is written

@@ -28,3 +28,8 @@ def roff_head(made, name, version, about):
     """The head of a page, up to what stands behind its name."""
     return [f'.\\" {made}', f'.TH {name.upper()} 1 "" "paklour {version}" "User Commands"', ".nh", ".ad l", ".SH NAME",
             roff(f"{name} - {about[0].lower()}{about[1:]}"), ".SH SYNOPSIS", ".nf"]
+
+
+def roff_others(name, commands):
+    """The pages of the other commands."""
+    return [".SH SEE ALSO", roff(", ".join(f"{other}(1)" for other in ["paklour", *commands] if other != name))]
