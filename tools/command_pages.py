@@ -160,7 +160,8 @@ def asked(name):
 
 def pages_of_commands():
     """For each path its text, and the help whose words it has to have."""
-    subprocess.run(["make", "-s", "-C", OUTSIDE, "commands"], check=True)
+    of_its_own = {name: value for name, value in os.environ.items() if name not in ("MAKEFLAGS", "MFLAGS", "MAKELEVEL")}
+    subprocess.run(["make", "-s", "-C", OUTSIDE, "commands"], env=of_its_own, check=True)
     version, pages = version_of_sources(), {}
     for command in map(asked, names()):
         texts = {

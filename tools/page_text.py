@@ -31,5 +31,6 @@ def roff_head(made, name, version, about):
 
 
 def roff_others(name, commands):
-    """The pages of the other commands."""
-    return [".SH SEE ALSO", roff(", ".join(f"{other}(1)" for other in ["paklour", *commands] if other != name))]
+    """The pages of the other commands, and where docs/ is, which helps name."""
+    others = ", ".join(f"{other}(1)" for other in ["paklour", *commands] if other != name)
+    return [".SH SEE ALSO", roff(others), ".PP", roff("docs/ is in the folder share/doc/paklour of where this is installed.")]
