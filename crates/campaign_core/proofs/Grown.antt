@@ -5,10 +5,8 @@ use Rattle.std.proofs.lemmas.List.{get_or_append_left, get_or-map, length-map, l
 use Rattle.std.proofs.lemmas.List.Elements.{All-from_recursion}
 use Rattle.std.proofs.lemmas.List.FromFn.{length-map-range_with_len}
 use Rattle.scenario_values.specs.Scenario.{Entries}
-use Rattle.action_eval.specs.Answers.{Reply}
 use Rattle.action_eval.specs.RiggedScenario.{rigged_scenario}
 use Rattle.action_eval.specs.declared.rig.Rig.{Rig}
-use Rattle.target_trait.specs.Play.{Move}
 use Rattle.target_trait.specs.Outcomes.{verdict_with}
 use Rattle.target_trait.specs.declared.judgement.Verdict.{Verdict}
 use Rattle.target_trait.specs.declared.judgement.Verdict.TheVariants as verdict
@@ -16,7 +14,7 @@ use Rattle.plan_gen.specs.Census.{sites_of}
 use Rattle.action_eval.specs.RiggedScenario.{CanBeRigged}
 use Rattle.plan_gen.specs.PlanList.{Asked, storm_part, further_list}
 use Rattle.plan_gen.proofs.Counting.{further_judged}
-use Rattle.grown_plans.specs.GrownPlans.{Subject, usual_subject, rigs_of, scenario_of, level, levels, onward, grown, grown_list, reached}
+use Rattle.grown_plans.specs.GrownPlans.{Subject, rigs_of, scenario_of, level, levels, onward, grown, grown_list, reached}
 use Rattle.grown_plans.proofs.Members.{all_append}
 use Rattle.grown_runs.specs.GrownRuns.{over, verdict_at, cause_at, cause_by, is_least}
 use Rattle.campaign_plans.specs.GrownScenarios.{grown_among, grown_scenario, grown_scenarios}

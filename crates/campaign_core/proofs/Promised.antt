@@ -1,28 +1,27 @@
 -- The report of a campaign keeps what it promises.
-use Rattle.std.proofs.Common.{◌≡◌, ◌≢◌, ℕ, zero, suc, ◌+◌, ◌<◌, ◌≤◌, ◌==◌, ◌&&◌, not, Bool, true, false, cond, Option, None, Some, IfSome, All, List, [], ◌∷◌, ◌++◌, map, length, get_or, refl, ap, sym, ◌∙◌, subst, arith, eq-eqb, append_assoc}
+use Rattle.std.proofs.Common.{◌≡◌, ◌≢◌, ℕ, zero, suc, ◌+◌, ◌<◌, ◌==◌, ◌&&◌, not, Bool, true, false, cond, Option, None, Some, IfSome, All, List, [], ◌∷◌, map, length, refl, ap, sym, ◌∙◌, subst, arith, eq-eqb}
 use Rattle.std.specs.Prelude.{AllPairs, Contains, flat_map, remove, slice_get, slice_index_or}
 use Rattle.std.specs.List.{AllByRecursion, list_all, range_with_len}
 use Rattle.std.proofs.lemmas.List.{get_or-map, length-map}
 use Rattle.std.proofs.lemmas.List.FromFn.{length-range_with_len}
 use Rattle.std.proofs.lemmas.Bool.Decides.{nat_tests}
 use Rattle.std.proofs.lemmas.Option.{slice_get-get_or, slice_get_within, get_or_from_slice_get}
-use Rattle.scenario_values.specs.Scenario.{Entries, DistinctNames, all_faults}
-use Rattle.scenario_values.specs.Keep.{are_faults, kept}
+use Rattle.scenario_values.specs.Scenario.{Entries, all_faults}
+use Rattle.scenario_values.specs.Keep.{are_faults}
 use Rattle.scenario_values.proofs.Sets.{all_are_faults, without_are_faults}
-use Rattle.action_eval.specs.Catalogue.{HasDistinct}
 use Rattle.action_eval.specs.declared.rig.Rig.{Rig}
 use Rattle.target_trait.specs.Outcomes.{verdict_with}
 use Rattle.target_trait.specs.declared.judgement.Verdict.{Verdict}
 use Rattle.target_trait.specs.declared.judgement.Verdict.TheVariants as verdict
 use Rattle.plan_gen.specs.PlanList.{further_list}
-use Rattle.grown_plans.specs.GrownPlans.{Subject, rigs_of, scenario_of, run_of_plan, onward, grown, beyond}
+use Rattle.grown_plans.specs.GrownPlans.{Subject, rigs_of, scenario_of, onward, grown, beyond}
 use Rattle.grown_runs.specs.Grown.{level_sizes, reached_each}
 use Rattle.campaign_core.proofs.Grown.{list_is}
 use Rattle.grown_plans.specs.Promises.{IsLawful, IsCause, lesser, verdict_of_plan, verdict_of_rigs}
 use Rattle.std.proofs.lemmas.List.Elements.{All-from_recursion, Contains-append_left, Contains-append_right}
 use Rattle.grown_plans.proofs.Members.{contains_head, contains_map}
 use Rattle.grown_plans.proofs.Paths.{some_is}
-use Rattle.grown_runs.specs.GrownRuns.{over, verdict_by, fails_with, is_least, cause_by, cause_at}
+use Rattle.grown_runs.specs.GrownRuns.{over, verdict_by, fails_with, cause_by, cause_at}
 use Rattle.result_book.specs.Verdicts.{verdicts_from, numbered}
 use Rattle.result_book.specs.FirstFailures.{first_failures, AreFirstFailures}
 use Rattle.result_book.specs.FirstFailure.{FailsAt}
@@ -31,8 +30,7 @@ use Rattle.report.specs.Reports.{FindingFacts, CauseFacts, GrowthFacts}
 use Rattle.campaign_core.specs.Headline.{Campaign, census, grower, plans, plans_to, say, report, told_in, EachIsMinimal, KeepsPromises}
 use Rattle.campaign_core.specs.Findings.{cause_of, finding, growth_of, IsCauseAmong, IsMinimal, ReducesToMinimal}
 use Rattle.campaign_core.proofs.Causes.{causes_are_causes}
-use Rattle.report_promises.specs.Behaviours.{verdict_at_end}
-use Rattle.report_promises.specs.Told.{Told, Comes}
+use Rattle.report_promises.specs.Told.{Told, HasVerdict}
 use Rattle.report_promises.specs.Promises.{IsFinding, Promises, without}
 use Rattle.report_promises.specs.Promises.{IsCause as IsToldCause}
 use Rattle.report_promises.proofs.Failures.{of_level, has_cause, fewest}
@@ -209,7 +207,7 @@ module _ (k : Campaign) (d : ℕ) (is : Some d ≡ k.given.depth) (l : IsLawful 
       let here : slice_index_or (report k).findings n none ≡ f = get_or-map (finding (say k) (plans k)) firsts n (0, 0) none inside in
       let least = are.least n (0, 0) inside in
       let reduces : ReducesToMinimal (say k) f = subst (ReducesToMinimal (say k)) here (minimal n none low) in
-      let no_lower : (other : ℕ) → other < first.0 → Comes told other (verdict.Fail first.1) → ⊥ = λ other less comes.
+      let no_lower : (other : ℕ) → other < first.0 → HasVerdict told other (verdict.Fail first.1) → ⊥ = λ other less comes.
       least.1 other less (get_or_from_slice_get (report k).verdicts other (verdict.Fail first.1) verdict.Pass comes)
       in
       subst (IsFinding (grower k) told) (sym here) (record {
@@ -220,7 +218,7 @@ module _ (k : Campaign) (d : ℕ) (is : Some d ≡ k.given.depth) (l : IsLawful 
         fewest = fewest (grower k) l d told (has_grown k d is) first.0 first.1 no_lower;
       })
 
-  found_of : (number code : ℕ) → Comes told number (verdict.Fail code) → (f : FindingFacts) × Contains (report k).findings f × (f.code ≡ code)
+  found_of : (number code : ℕ) → HasVerdict told number (verdict.Fail code) → (f : FindingFacts) × Contains (report k).findings f × (f.code ≡ code)
   found_of number code comes =
       let some = are.complete number code (get_or_from_slice_get (report k).verdicts number (verdict.Fail code) verdict.Pass comes) in
       (finding (say k) (plans k) some.1, contains_map (finding (say k) (plans k)) firsts some.1 (some.0, some.2, some.3), some.4)

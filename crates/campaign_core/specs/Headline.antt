@@ -1,5 +1,5 @@
 -- What a campaign comes to, by what its target asks and by its settings.
-use Rattle.std.specs.Prelude.{ℕ, List, [], Option, None, Some, IfSome, All, length, map, slice_get}
+use Rattle.std.specs.Prelude.{ℕ, List, [], Option, None, Some, IfSome, All, map, slice_get}
 use Rattle.scenario_values.specs.Scenario.{Entries}
 use Rattle.action_eval.specs.Answers.{Reply}
 use Rattle.action_eval.specs.declared.rig.Kind.{Kind}

@@ -30,7 +30,8 @@ pub fn workers_change_nothing()
 /// one: the plan of its number has its scenario, fails with its code, and without any one of its faults doesn't fail with it.
 pub fn each_behaviour_is_tried<T: Target>()
     ensures causes { (c : Campaign) → EachIsCause c }
-    ensures promises { (setup : T) (workload : T.Workload) (given : Given) → (let c = campaign_on T.Target setup workload given in EachIsMinimal c → KeepsPromises c) }
+    ensures promises { (setup : T) (workload : T.Workload) (given : Given)
+        → (let c = campaign_on T.Target setup workload given in EachIsMinimal c → KeepsPromises c) }
 {
     each_target_is_a_lawful_subject::<T>();
 }

@@ -8,17 +8,17 @@ use Rattle.grown_plans.proofs.PlanRuns.{rigs_unpaused}
 use Rattle.grown_plans.proofs.PlayedRuns.{run_judged}
 use Rattle.grown_plans.proofs.Faults.{faults as faults_of}
 use Rattle.grown_plans.proofs.Cases.{whole_run}
-use Rattle.report_promises.specs.Behaviours.{IsOfComponent, verdict_at_end}
+use Rattle.report_promises.specs.Behaviours.{IsBehaviourOfKinds, verdict_at_end}
 use Rattle.report_promises.proofs.AsPaths.{path_of}
 
 -- the plan whose run a behaviour is
 abbrev pub plan_for : List Met → List Rig
 plan_for hits = faults_of [] hits
 
-pub plan_runs : (t : Subject) → IsLawful t → (hits : List Met) → IsOfComponent t hits → run_of_plan t (plan_for hits) ≡ hits
+pub plan_runs : (t : Subject) → IsLawful t → (hits : List Met) → IsBehaviourOfKinds t hits → run_of_plan t (plan_for hits) ≡ hits
 plan_runs t l hits b = whole_run t l hits (path_of t hits b.behaves)
 
-pub case_for : (t : Subject) → IsLawful t → (hits : List Met) → IsOfComponent t hits → FaultCase t
+pub case_for : (t : Subject) → IsLawful t → (hits : List Met) → IsBehaviourOfKinds t hits → FaultCase t
 unfolding run_of_plan
 case_for t l hits b = record {
   scenario = scenario_of t (plan_for hits);
@@ -28,11 +28,11 @@ case_for t l hits b = record {
   of_kinds = subst (IsOfKinds t.kinds) (sym (plan_runs t l hits b)) b.of_kinds;
 }
 
-pub case_runs : (t : Subject) (l : IsLawful t) (hits : List Met) (b : IsOfComponent t hits) → run_in t (case_for t l hits b) ≡ hits
+pub case_runs : (t : Subject) (l : IsLawful t) (hits : List Met) (b : IsBehaviourOfKinds t hits) → run_in t (case_for t l hits b) ≡ hits
 unfolding run_of_plan case_for
 case_runs t l hits b = plan_runs t l hits b
 
-pub case_ends : (t : Subject) (l : IsLawful t) (hits : List Met) (b : IsOfComponent t hits) → verdict_in t (case_for t l hits b) ≡ verdict_at_end t hits
+pub case_ends : (t : Subject) (l : IsLawful t) (hits : List Met) (b : IsBehaviourOfKinds t hits) → verdict_in t (case_for t l hits b) ≡ verdict_at_end t hits
 unfolding case_for
 case_ends t l hits b =
     run_judged t.asks (scenario_of t (plan_for hits)) t.names 0 0 t.limit (rigs_unpaused t (rigs_of (plan_for hits)) 0 0)

@@ -16,8 +16,8 @@ use Rattle.grown_plans.proofs.Faults.{faults as faults_of, faults_length}
 use Rattle.grown_plans.proofs.Apart.{IsGrownTo, levels_grown}
 use Rattle.grown_plans.proofs.Cases.{skips_nothing}
 use Rattle.grown_plans.proofs.Causes.{has_causes}
-use Rattle.report_promises.specs.Behaviours.{IsOfComponent, verdict_at_end}
-use Rattle.report_promises.specs.Told.{Told, of_levels, Behaves, Comes}
+use Rattle.report_promises.specs.Behaviours.{IsBehaviourOfKinds, verdict_at_end}
+use Rattle.report_promises.specs.Told.{Told, count_of_levels, HasBehaviour, HasVerdict}
 use Rattle.report_promises.specs.Promises.{HasCause}
 use Rattle.report_promises.proofs.Numbers.{get_unmapped, get_split, get_front, get_in_front, contains_at, at_contained}
 use Rattle.report_promises.proofs.Cases.{case_for, case_runs, case_ends}
@@ -56,7 +56,7 @@ not_before t l n number plan rest many at = elim (cases_lt number (length (level
 ]
 
 module _ (t : Subject) (l : IsLawful t) (d : ℕ) (told : Told) (g : Grew t d told) where
-  pub of_level : (number : ℕ) (hits : List Met) → number < of_levels told → Behaves told number hits → OfLevel t d number hits
+  pub of_level : (number : ℕ) (hits : List Met) → number < count_of_levels told → HasBehaviour told number hits → OfLevel t d number hits
   of_level number hits low b =
       let at = get_unmapped (run_of_plan t) (grown t d) number hits (ap (λ (l : List (List Met)). slice_get l number) (sym g.behaves) ∙ b) in
       let size = levels_told t l d told g in
@@ -70,10 +70,10 @@ module _ (t : Subject) (l : IsLawful t) (d : ℕ) (told : Told) (g : Grew t d to
       }
 
   -- its verdict
-  pub verdict_of : (number : ℕ) (plan : List Rig) (v : Verdict) → slice_get (grown t d) number ≡ Some plan → Comes told number v → verdict_of_plan t told.report.seed number plan ≡ v
+  pub verdict_of : (number : ℕ) (plan : List Rig) (v : Verdict) → slice_get (grown t d) number ≡ Some plan → HasVerdict told number v → verdict_of_plan t told.report.seed number plan ≡ v
   verdict_of number plan v at c = some_is (verdict_of_plan t told.report.seed number plan) v (sym (g.comes number plan at) ∙ c)
 
-  pub has_cause : (number code : ℕ) (hits : List Met) → number < of_levels told → Behaves told number hits → Comes told number (Fail code) → HasCause told code hits
+  pub has_cause : (number code : ℕ) (hits : List Met) → number < count_of_levels told → HasBehaviour told number hits → HasVerdict told number (Fail code) → HasCause told code hits
   has_cause number code hits low b c =
       let own = of_level number hits low b in
       let why = has_causes t l d told.report.seed number code own.plan (contains_at (levels t d) number own.plan own.at_level) (verdict_of number own.plan (Fail code) own.at_grown c) in
@@ -98,8 +98,8 @@ module _ (t : Subject) (l : IsLawful t) (d : ℕ) (told : Told) (g : Grew t d to
       }
 
   -- a number that is the least to fail with a code has fewest faults
-  pub fewest : (number code : ℕ) → ((other : ℕ) → other < number → Comes told other (Fail code) → ⊥) → number < of_levels told → (found hits : List Met) → Behaves told number found
-      → IsOfComponent t hits → acting hits < acting found → verdict_at_end t hits ≢ Fail code
+  pub fewest : (number code : ℕ) → ((other : ℕ) → other < number → HasVerdict told other (Fail code) → ⊥) → number < count_of_levels told → (found hits : List Met) → HasBehaviour told number found
+      → IsBehaviourOfKinds t hits → acting hits < acting found → verdict_at_end t hits ≢ Fail code
   fewest number code least low found hits b h few fails =
       let own = of_level number found low b in
       let c : FaultCase t = case_for t l hits h in

@@ -14,8 +14,8 @@ use Rattle.grown_plans.proofs.Members.{two_map}
 use Rattle.grown_plans.proofs.Cases.{skips_nothing, is_whole}
 use Rattle.grown_plans.proofs.Onward.{runs_nothing_twice}
 use Rattle.grown_plans.proofs.FromThenOn.{tries_onward}
-use Rattle.report_promises.specs.Behaviours.{IsOfComponent, verdict_at_end, times_hit}
-use Rattle.report_promises.specs.Told.{Told, of_levels, of_all, IsToldOnce}
+use Rattle.report_promises.specs.Behaviours.{IsBehaviourOfKinds, verdict_at_end, times_hit}
+use Rattle.report_promises.specs.Told.{Told, count_of_levels, count_of_all, IsToldOnce}
 use Rattle.report_promises.proofs.Numbers.{get_map, get_split, get_front, one_number, sizes_sum}
 use Rattle.report_promises.proofs.Cases.{case_for, case_runs, case_ends}
 
@@ -37,10 +37,10 @@ pub record Grew (t : Subject) (d : ℕ) (told : Told) : Type 0 where
       → (c : CauseFacts) × Contains told.growth.causes c × (c.number ≡ n) × (c.code ≡ code)
 
 module _ (t : Subject) (l : IsLawful t) (d : ℕ) (told : Told) (g : Grew t d told) where
-  pub levels_told : of_levels told ≡ length (levels t d)
+  pub levels_told : count_of_levels told ≡ length (levels t d)
   levels_told = ap (λ (ns : List ℕ). sum ns) g.sizes ∙ sizes_sum t d
 
-  pub all_numbers : of_all told ≡ length (grown t d)
+  pub all_numbers : count_of_all told ≡ length (grown t d)
   all_numbers =
       let a = levels_told in
       let b = g.onward_are in
@@ -50,7 +50,7 @@ module _ (t : Subject) (l : IsLawful t) (d : ℕ) (told : Told) (g : Grew t d to
   pub twice : EachTwo (λ a b. a ≢ b) told.behaviours
   twice = subst (λ (l : List (List Met)). EachTwo (λ a b. a ≢ b) l) (sym g.behaves) (two_map (λ a b. a ≢ b) (run_of_plan t) (grown t d) (runs_nothing_twice t l d))
 
-  pub counted : length told.behaviours ≡ of_all told
+  pub counted : length told.behaviours ≡ count_of_all told
   counted = ap (λ (l : List (List Met)). length l) g.behaves ∙ length-map (grown t d) (run_of_plan t) ∙ sym all_numbers
 
   pub behaves_at : (n : ℕ) (plan : List Rig) → slice_get (grown t d) n ≡ Some plan → slice_get told.behaviours n ≡ Some (run_of_plan t plan)
@@ -74,37 +74,37 @@ module _ (t : Subject) (l : IsLawful t) (d : ℕ) (told : Told) (g : Grew t d to
       }
 
   -- of a behaviour, by its case
-  of_behaviour : (bound : ℕ) (hits : List Met) (b : IsOfComponent t hits) → IsToldOnce told bound (run_in t (case_for t l hits b)) (verdict_in t (case_for t l hits b))
+  of_behaviour : (bound : ℕ) (hits : List Met) (b : IsBehaviourOfKinds t hits) → IsToldOnce told bound (run_in t (case_for t l hits b)) (verdict_in t (case_for t l hits b))
       → IsToldOnce told bound hits (verdict_at_end t hits)
   of_behaviour bound hits b o =
       subst (λ (v : Verdict). IsToldOnce told bound hits v) (case_ends t l hits b)
       (subst (λ (ms : List Met). IsToldOnce told bound ms (verdict_in t (case_for t l hits b))) (case_runs t l hits b) o)
 
-  pub skipped_none : (hits : List Met) → IsOfComponent t hits → acting hits ≤ told.growth.depth → IsToldOnce told (of_levels told) hits (verdict_at_end t hits)
+  pub skipped_none : (hits : List Met) → IsBehaviourOfKinds t hits → acting hits ≤ told.growth.depth → IsToldOnce told (count_of_levels told) hits (verdict_at_end t hits)
   skipped_none hits b few =
       let c = case_for t l hits b in
       let same : acting (run_in t c) ≡ acting hits = ap (λ (ms : List Met). acting ms) (case_runs t l hits b) in
       let e = g.depth in
-      of_behaviour (of_levels told) hits b (once (levels t d) (onward t d) (of_levels told) c refl levels_told (skips_nothing t l d c (omega (arith, few, same, e))))
+      of_behaviour (count_of_levels told) hits b (once (levels t d) (onward t d) (count_of_levels told) c refl levels_told (skips_nothing t l d c (omega (arith, few, same, e))))
 
-  pub whole_told : told.growth.beyond ≡ 0 → (hits : List Met) → IsOfComponent t hits → IsToldOnce told (of_levels told) hits (verdict_at_end t hits)
+  pub whole_told : told.growth.beyond ≡ 0 → (hits : List Met) → IsBehaviourOfKinds t hits → IsToldOnce told (count_of_levels told) hits (verdict_at_end t hits)
   whole_told none hits b =
-      of_behaviour (of_levels told) hits b
-      (once (levels t d) (onward t d) (of_levels told) (case_for t l hits b) refl levels_told (is_whole t l d (empty (level t (suc d)) (sym g.beyond_is ∙ none)) (case_for t l hits b)))
+      of_behaviour (count_of_levels told) hits b
+      (once (levels t d) (onward t d) (count_of_levels told) (case_for t l hits b) refl levels_told (is_whole t l d (empty (level t (suc d)) (sym g.beyond_is ∙ none)) (case_for t l hits b)))
     where
       empty : (xs : List (List Rig)) → length xs ≡ 0 → xs ≡ []
       empty [] e = refl
       empty (x ∷ xs) e = absurd (omega (arith, e))
 
-  pub onward_told : (before after : List Met) (hit : Met) (text : Option (List ℕ)) → hit.reply ≡ Return text → IsOfComponent t (before ++ hit ∷ after)
+  pub onward_told : (before after : List Met) (hit : Met) (text : Option (List ℕ)) → hit.reply ≡ Return text → IsBehaviourOfKinds t (before ++ hit ∷ after)
       → acting before < told.growth.depth → ReturnsOnward text hit.site.point after
-      → IsToldOnce told (of_all told) (before ++ hit ∷ after) (verdict_at_end t (before ++ hit ∷ after))
+      → IsToldOnce told (count_of_all told) (before ++ hit ∷ after) (verdict_at_end t (before ++ hit ∷ after))
   onward_told before after hit text ret b few on =
       let hits : List Met = before ++ hit ∷ after in
       let c = case_for t l hits b in
       let e = g.depth in
-      of_behaviour (of_all told) hits b
-      (once (grown t d) [] (of_all told) c (sym (append-nil (grown t d))) all_numbers (tries_onward t l d c before after hit text (case_runs t l hits b) ret (omega (arith, few, e)) on))
+      of_behaviour (count_of_all told) hits b
+      (once (grown t d) [] (count_of_all told) c (sym (append-nil (grown t d))) all_numbers (tries_onward t l d c before after hit text (case_runs t l hits b) ret (omega (arith, few, e)) on))
 
   -- the most hits of a point
   mapped : (point : ℕ) (plans : List (List Rig)) → map (times_hit point) (map (run_of_plan t) plans) ≡ map (λ plan. times_hit point (run_of_plan t plan)) plans

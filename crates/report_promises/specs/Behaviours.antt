@@ -37,7 +37,7 @@ abbrev pub verdict_at_end : Subject → List Met → Verdict
 verdict_at_end t hits = judged (t.asks (answers hits))
 
 -- a behaviour in which each fault that acts is of a kind that is tried at its point
-pub record IsOfComponent (t : Subject) (hits : List Met) : Type 0 where
+pub record IsBehaviourOfKinds (t : Subject) (hits : List Met) : Type 0 where
   pub behaves : IsBehaviour t hits
   pub of_kinds : IsOfKinds t.kinds hits
 

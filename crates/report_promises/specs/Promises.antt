@@ -1,5 +1,4 @@
--- What a report of a campaign with a depth promises of its component, over the facts that it prints and the behaviours of its plans. In what it calls
--- whole, that is of every behaviour; in what it finds, that is least.
+-- What a report of a campaign with a depth promises of its component, over the facts that it prints and the behaviours of its plans.
 use Rattle.std.specs.Prelude.{◌≡◌, ◌≢◌, ℕ, ◌≤◌, ◌<◌, Option, Some, List, ◌∷◌, ◌++◌, All, AllPairs, Contains, length, map, remove, slice_get}
 use Rattle.std.specs.List.{AllByRecursion, range_with_len}
 use Rattle.scenario_values.specs.Scenario.{Entries, all_faults}
@@ -12,8 +11,8 @@ use Rattle.grown_plans.specs.Runs.{Met, acting}
 use Rattle.grown_plans.specs.GrownPlans.{Subject, most}
 use Rattle.grown_plans.specs.Promises.{EachTwo, ReturnsOnward}
 use Rattle.report.specs.Reports.{FindingFacts, CauseFacts}
-use Rattle.report_promises.specs.Behaviours.{IsBehaviour, IsOfComponent, verdict_at_end, faults, times_hit, AnsweredWithout}
-use Rattle.report_promises.specs.Told.{Told, of_levels, of_all, Behaves, Comes, IsToldOnce}
+use Rattle.report_promises.specs.Behaviours.{IsBehaviour, IsBehaviourOfKinds, verdict_at_end, faults, times_hit, AnsweredWithout}
+use Rattle.report_promises.specs.Told.{Told, count_of_levels, count_of_all, HasBehaviour, HasVerdict, IsToldOnce}
 
 -- a scenario's verdict under a number
 abbrev pub verdict_of : Subject → Told → ℕ → Entries → Verdict
@@ -28,20 +27,20 @@ without fault scenario = kept (remove (range_with_len 0 (all_faults scenario)) f
 -- its number is the least that fails with its code. Its reduced scenario fails with that code, and without any one of its faults it doesn't. Where
 -- it is of a level, no behaviour in which fewer faults act fails so
 pub record IsFinding (t : Subject) (told : Told) (f : FindingFacts) : Type 0 where
-  pub fails : Comes told f.number (Fail f.code)
-  pub least : (other : ℕ) → other < f.number → Comes told other (Fail f.code) → ⊥
+  pub fails : HasVerdict told f.number (Fail f.code)
+  pub least : (other : ℕ) → other < f.number → HasVerdict told other (Fail f.code) → ⊥
   pub reduced_fails : verdict_of t told f.number f.reduced ≡ Fail f.code
   pub minimal : (fault : ℕ) → fault < all_faults f.reduced → verdict_of t told f.number (without fault f.reduced) ≢ Fail f.code
-  pub fewest : f.number < of_levels told → (found hits : List Met) → Behaves told f.number found → IsOfComponent t hits → acting hits < acting found
+  pub fewest : f.number < count_of_levels told → (found hits : List Met) → HasBehaviour told f.number found → IsBehaviourOfKinds t hits → acting hits < acting found
       → verdict_at_end t hits ≢ Fail f.code
 
 -- ---- a cause
 
 -- it fails with its code. Where it is of a level, without any one of its faults it doesn't: no behaviour whose hits are answered by the others does
 pub record IsCause (t : Subject) (told : Told) (c : CauseFacts) : Type 0 where
-  pub told_of : c.number < of_all told
-  pub fails : Comes told c.number (Fail c.code)
-  pub least : c.number < of_levels told → (found hits : List Met) (left : Met) → Behaves told c.number found → Contains (faults found) left
+  pub told_of : c.number < count_of_all told
+  pub fails : HasVerdict told c.number (Fail c.code)
+  pub least : c.number < count_of_levels told → (found hits : List Met) (left : Met) → HasBehaviour told c.number found → Contains (faults found) left
       → IsBehaviour t hits → AnsweredWithout left (faults found) hits → verdict_at_end t hits ≢ Fail c.code
 
 -- a listed cause of a behaviour that fails with a code: with that code, by faults that are among its own
@@ -49,29 +48,31 @@ pub record HasCause (told : Told) (code : ℕ) (failing : List Met) : Type 0 whe
   pub cause : CauseFacts
   pub listed : Contains told.growth.causes cause
   pub code_is : cause.code ≡ code
-  pub among : (found : List Met) → Behaves told cause.number found → AllByRecursion (Contains (faults failing)) (faults found)
+  pub among : (found : List Met) → HasBehaviour told cause.number found → AllByRecursion (Contains (faults failing)) (faults found)
 
 -- ---- the promises
 
 -- to a depth of d
 pub record Promises (t : Subject) (told : Told) : Type 0 where
   -- each behaviour in which at most d faults act is that of exactly one number of the levels, with its verdict
-  pub nothing_skipped : (hits : List Met) → IsOfComponent t hits → acting hits ≤ told.growth.depth → IsToldOnce told (of_levels told) hits (verdict_at_end t hits)
+  pub nothing_skipped : (hits : List Met) → IsBehaviourOfKinds t hits → acting hits ≤ told.growth.depth
+      → IsToldOnce told (count_of_levels told) hits (verdict_at_end t hits)
   -- no two numbers have the same behaviour
-  pub all_told : length told.behaviours ≡ of_all told
+  pub all_told : length told.behaviours ≡ count_of_all told
   pub nothing_twice : EachTwo (λ hits others. hits ≢ others) told.behaviours
   -- each behaviour in which fewer than d faults act, and then, from one hit on, each hit of its point returns, is that of exactly one number
-  pub from_then_on : (before after : List Met) (hit : Met) (text : Option (List ℕ)) → hit.reply ≡ Return text → IsOfComponent t (before ++ hit ∷ after)
+  pub from_then_on : (before after : List Met) (hit : Met) (text : Option (List ℕ)) → hit.reply ≡ Return text → IsBehaviourOfKinds t (before ++ hit ∷ after)
       → acting before < told.growth.depth → ReturnsOnward text hit.site.point after
-      → IsToldOnce told (of_all told) (before ++ hit ∷ after) (verdict_at_end t (before ++ hit ∷ after))
+      → IsToldOnce told (count_of_all told) (before ++ hit ∷ after) (verdict_at_end t (before ++ hit ∷ after))
   -- where the report says that no plan lies beyond, nothing is skipped of any behaviour
-  pub whole : told.growth.beyond ≡ 0 → (hits : List Met) → IsOfComponent t hits → IsToldOnce told (of_levels told) hits (verdict_at_end t hits)
+  pub whole : told.growth.beyond ≡ 0 → (hits : List Met) → IsBehaviourOfKinds t hits → IsToldOnce told (count_of_levels told) hits (verdict_at_end t hits)
   -- each code with which a number fails has exactly one finding
   pub findings : All (IsFinding t told) told.report.findings
-  pub found : (number code : ℕ) → Comes told number (Fail code) → (f : FindingFacts) × Contains told.report.findings f × (f.code ≡ code)
+  pub found : (number code : ℕ) → HasVerdict told number (Fail code) → (f : FindingFacts) × Contains told.report.findings f × (f.code ≡ code)
   pub once : AllPairs (λ f g. f.code ≢ g.code) told.report.findings
   -- each number of a level that fails has a cause, and each cause is one
   pub causes : All (IsCause t told) told.growth.causes
-  pub caused : (number code : ℕ) (hits : List Met) → number < of_levels told → Behaves told number hits → Comes told number (Fail code) → HasCause told code hits
+  pub caused : (number code : ℕ) (hits : List Met) → number < count_of_levels told → HasBehaviour told number hits → HasVerdict told number (Fail code)
+      → HasCause told code hits
   -- what is reached of a point is the most hits of it that a told behaviour has
   pub reached : (point : ℕ) → point < length t.names → slice_get told.growth.reached point ≡ Some (most (map (times_hit point) told.behaviours))
