@@ -31,8 +31,8 @@ pub record IsFinding (t : Subject) (told : Told) (f : FindingFacts) : Type 0 whe
   pub least : (other : ℕ) → other < f.number → HasVerdict told other (Fail f.code) → ⊥
   pub reduced_fails : verdict_of t told f.number f.reduced ≡ Fail f.code
   pub minimal : (fault : ℕ) → fault < all_faults f.reduced → verdict_of t told f.number (without fault f.reduced) ≢ Fail f.code
-  pub fewest : f.number < count_of_levels told → (found hits : List Met) → HasBehaviour told f.number found → IsBehaviourOfKinds t hits → acting hits < acting found
-      → verdict_at_end t hits ≢ Fail f.code
+  pub fewest : f.number < count_of_levels told → (found hits : List Met) → HasBehaviour told f.number found → IsBehaviourOfKinds t hits
+      → acting hits < acting found → verdict_at_end t hits ≢ Fail f.code
 
 -- ---- a cause
 
