@@ -117,3 +117,16 @@ and tells so to both participants after seven questions, the first of whom doesn
   words 0
   millis 0
   notes 0
+
+What a return says beside that a call fails changes nothing in a bundled target: each of the first nine plans with a return comes to the same.
+
+  $ alike() {
+  >     paklour plans "$1" | grep -m 9 return | while read -r plan number scenario; do
+  >         paklour try --scenario "$scenario" "$1" > plain && grep -q "^verdict " plain
+  >         paklour try --scenario "$(echo "$scenario" | sed 's/return/return(disk full)/g')" "$1" | cmp - plain && echo alike
+  >     done | sort | uniq -c
+  > }
+  $ for target in replace_depth maildir_depth commit_depth; do alike "$TESTDIR/../examples/$target.toml"; done
+        9 alike
+        9 alike
+        9 alike

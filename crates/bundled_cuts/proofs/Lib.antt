@@ -2,3 +2,4 @@ mod Lost
 mod Replacing
 mod Delivering
 mod Committing
+mod Texts

@@ -15,6 +15,8 @@ ghost use Rattle.commit_target.specs.Work.{Work as Transactions};
 ghost use Rattle.commit_target.specs.Words.{point_names as commit_points};
 ghost use Rattle.commit_target.specs.Steps.{asks_of as commit_asks};
 ghost use Rattle.commit_target.specs.Crash.{cut_of as commit_cut};
+ghost use Rattle.target_trait.specs.Cuts.{asks_with};
+ghost use Rattle.bundled_cuts.specs.Texts.{PassesOverTexts};
 ghost use Rattle.bundled_cuts.specs.Verdicts.{IsNoWeaker};
 
 use commit_target::Commit;
@@ -54,3 +56,17 @@ pub fn nothing_is_weaker_for_bundled_targets()
     nothing_is_weaker::<Maildir>();
     nothing_is_weaker::<Commit>();
 }
+
+/// What a return says beside that the call fails changes nothing: each bundled target, in each variant and over each workload, asks and judges the same,
+/// also where its power cut is asked, at whatever point. So what is promised of plans with returns without a text holds of all scenarios.
+pub fn text_of_a_return_changes_nothing()
+    ensures replacement { (variant : Replacement) (workload : Replacements) → PassesOverTexts (replacement_asks variant workload) }
+    ensures delivery { (variant : Delivery) (messages : List (List (List ℕ))) → PassesOverTexts (delivery_asks variant messages) }
+    ensures commit { (variant : Protocol) (workload : Transactions) → PassesOverTexts (commit_asks variant workload) }
+    ensures replacement_cut { (variant : Replacement) (workload : Replacements) (keep : ℕ)
+        → PassesOverTexts (asks_with (replacement_asks variant workload) (replacement_cut variant workload) keep) }
+    ensures delivery_cut { (variant : Delivery) (messages : List (List (List ℕ))) (keep : ℕ)
+        → PassesOverTexts (asks_with (delivery_asks variant messages) (delivery_cut variant messages) keep) }
+    ensures commit_cut { (variant : Protocol) (workload : Transactions) (keep : ℕ)
+        → PassesOverTexts (asks_with (commit_asks variant workload) (commit_cut variant workload) keep) }
+{}
