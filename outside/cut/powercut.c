@@ -9,8 +9,14 @@
    may or may not. What is laid is what was there at the beginning, and over it the changes that last or are kept, in their order;
    bytes before a kept write that nothing wrote are zeros. Modes are as they are.
 
-   The hits of power::keep stand in the trace behind the others, hit k for change k of `pending`; a pause there ends the command
-   with 97, and nothing is laid. After `recover` what was laid is what is there, all of it lasts, and hits are numbered on.
+   A torn write: of `abcdefg`, kept and torn, `abc` is there, and a file that it makes longer ends behind the `c`. `tear` asks
+   power::tear for each write or store that is kept and has two bytes or more, at once after power::keep; a return leaves the first
+   half, rounded down. Of a long write that is one of its blocks. Names, new lengths and cleared bytes have no half; nor is one asked
+   for that isn't kept. So settings whose campaign cuts by `keep` need no power::tear, and their answers tell no hit of it.
+
+   The hits of power::keep stand in the trace behind the others, hit k for change k of `pending`, each with that of power::tear
+   behind it; a pause at either ends the command with 97, and nothing is laid, and any other task does nothing. After `recover` what
+   was laid is what is there, all of it lasts, and hits are numbered on.
 
    A run in which nothing ran under the supervisor, or nothing under ROOT was called, is refused,
    with 2 as all that is refused, and before anything is changed. So is one in which files changed that neither the notes explain nor
@@ -18,6 +24,7 @@
    which something is mounted. Where the supervisor was killed between a change and its note, the change is told and not refused. */
 #define _GNU_SOURCE
 #include "../run/help.h"
+#include "asking.h"
 #include "lay.h"
 #include "unseen.h"
 
@@ -150,58 +157,6 @@ static void look_at_what_is_there(struct state *state, struct replay *replay, co
     state->cut.done = 1;
 }
 
-/* ---- the cut asks */
-
-static void trace_keep(FILE *trace, uint64_t number, uint64_t which, const struct term *term, const struct change *change) {
-    static char answer[4 * MOST_BYTES + 64];
-    *written_answer(answer, term) = 0;
-    fprintf(trace, "%llu\t%s\t%llu\t%s\t%s\t-\t-\t%-20s\n", (unsigned long long)number, point_names[KEEP],
-            (unsigned long long)which, answer, change->shown, "-");
-}
-
-/* Asks for each pending change; a return keeps it. Answers how many it asked. A pause stops the run, and nothing is laid. */
-static uint64_t ask(const struct state *state, struct replay *replay, const struct scenario *scenario,
-                    struct counter *counter, FILE *trace) {
-    const struct chain *chain = chain_named(scenario, point_names[KEEP]);
-    uint64_t asked = 0;
-    for (size_t i = 0; i < replay->pending_count; i++) {
-        struct change *change = replay->changes[replay->pending[i]];
-        const struct term *term = acting_term(chain, counter->used);
-        asked++;
-        trace_keep(trace, state->cut.number + asked, ++counter->hits, term, change);
-        change->kept = term && term->task == RETURN;
-        if (term && term->task == PAUSE) {
-            fclose(trace);
-            exit(PAUSED);
-        }
-    }
-    return asked;
-}
-
-static void read_keep(struct scenario *scenario, const char *text) {
-    char *copy = strdup(strcmp(text, "none") ? text : ""), what[64];
-    scenario->by_file = strchr(text, '@');
-    must(copy, "memory");
-    if (read_scenario(scenario, copy)) return;
-    snprintf(what, sizeof what, "%s entry %u term %u", scenario->bad.kind, scenario->bad.entry, scenario->bad.term);
-    refuse("scenario", what);
-}
-
-/* The hits of an earlier cut of this run are taken out of the trace again. */
-static uint64_t ask_all(const struct state *state, struct replay *replay, const char *run, const char *text,
-    struct counter *counter) {
-    static struct scenario scenario;
-    char path[LONG_PATH];
-    read_keep(&scenario, text);
-    joined(path, run, "trace");
-    must(!truncate(path, (off_t)state->cut.trace), path);
-    FILE *trace = fopen(path, "ae");
-    must(trace, path);
-    uint64_t asked = ask(state, replay, &scenario, counter, trace);
-    must(!fclose(trace), path);
-    return asked;
-}
-
 /* ---- what a cut leaves */
 
 static void lay_state(struct replay *replay, const char *name, const struct tree *tree) {
@@ -213,6 +168,9 @@ static void lay_state(struct replay *replay, const char *name, const struct tree
     lay(replay, live_contents ? AS_THEY_ARE : LASTING, tree);
 }
 
+/* The states that come with a scenario. */
+static bool asks(const char *name) { return !strcmp(name, "keep") || !strcmp(name, "tear"); }
+
 static void check_state(const char *name, const char *scenario) {
     static const char *const states[] = {"lasting", "live", "names", "contents"};
     if (scenario) return;
@@ -222,17 +180,16 @@ static void check_state(const char *name, const char *scenario) {
 }
 
 /* What was laid is what is there now, and all of it lasts. */
-static void go_on(struct state *state, const struct replay *replay, const struct tree *tree, uint64_t asked,
-    const struct counter *counter) {
+static void go_on(struct state *state, const struct replay *replay, const struct tree *tree, const struct asking *asking) {
     char changes[LONG_PATH];
     take_book_away(replay->live);
     make_book(replay->base, tree);
     joined(changes, replay->run, "changes"); /* a new file, since a process may have the old one in memory */
     must(!unlink(changes), changes);
     make_empty(replay->run, "changes");
-    *counter_named(state, point_names[KEEP]) = *counter;
+    keep_counts(asking, state);
     state->noted = 0;
-    state->number = state->started = state->cut.number + asked;
+    state->started = state->number;
     state->ended = state->loaded = state->others = state->torn = state->unseen = state->unseen_told = 0;
     memset(&state->cut, 0, sizeof state->cut);
     memset(state->later, 0, sizeof state->later);
@@ -240,7 +197,7 @@ static void go_on(struct state *state, const struct replay *replay, const struct
 
 static void cut(const char *run, const char *root, const char *name, const char *scenario, bool goes_on) {
     static struct replay replay;
-    static struct counter counter;
+    static struct asking asking;
     struct tree tree;
     check_state(name, scenario);
     struct state *state = state_with_root(run);
@@ -249,10 +206,10 @@ static void cut(const char *run, const char *root, const char *name, const char 
     find_cut(state, run);
     read_run(&replay, run, state, state->cut.noted);
     if (!state->cut.done) look_at_what_is_there(state, &replay, &tree);
-    counter = *counter_named(state, point_names[KEEP]);
-    uint64_t asked = scenario ? ask_all(state, &replay, run, scenario, &counter) : 0;
-    lay_state(&replay, scenario ? "lasting" : name, &tree);
-    if (goes_on) go_on(state, &replay, &tree, asked, &counter);
+    begin_asking(&asking, state, !strcmp(name, "tear"));
+    if (scenario) ask_all(&asking, state, &replay, scenario);
+    lay_state(&replay, name, &tree);
+    if (goes_on) go_on(state, &replay, &tree, &asking);
 }
 
 /* ---- expect and pending */
@@ -296,7 +253,7 @@ int main(int count, char **words) {
     if (!strcmp(what, "begin") && (count == 3 || count == 4)) begin(words[2], count == 4 ? words[3] : NULL);
     else if (!strcmp(what, "expect") && count > 3) expect(words[2], words + 3, count - 3);
     else if (!strcmp(what, "pending") && count == 3) tell_pending(words[2]);
-    else if (cuts && count == 6 && !strcmp(words[4], "keep")) cut(words[2], words[3], "lasting", words[5], what[0] == 'r');
+    else if (cuts && count == 6 && asks(words[4])) cut(words[2], words[3], words[4], words[5], what[0] == 'r');
     else if (cuts && (count == 4 || count == 5)) cut(words[2], words[3], count == 5 ? words[4] : "lasting", NULL, what[0] == 'r');
     else {
         write_help(2);

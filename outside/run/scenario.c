@@ -10,7 +10,8 @@
 
 const char *const point_names[POINTS] = {
     OWN "open",  OWN "read",  OWN "write",   OWN "fsync",   OWN "truncate", OWN "rename", OWN "link", OWN "unlink",
-    OWN "mkdir", OWN "rmdir", OWN "symlink", OWN "connect", OWN "accept",   OWN "send",   OWN "recv", "power::keep", "order::next",
+    OWN "mkdir", OWN "rmdir", OWN "symlink", OWN "connect", OWN "accept",   OWN "send",   OWN "recv", "power::keep", "power::tear",
+    "order::next",
 };
 const char *const task_names[TASKS] = {"off", "return", "sleep", "panic", "print", "pause", "yield", "delay"};
 
@@ -135,8 +136,8 @@ static bool read_term(struct scenario *scenario, struct chain *chain, char *text
 /* The point of a name: the call, and where points are named by file, an at sign and the file. */
 static enum point point_of(const struct scenario *scenario, const char *name) {
     size_t length = strcspn(name, "@");
-    if (!strcmp(name, point_names[KEEP])) return KEEP;
-    if (!strcmp(name, point_names[NEXT])) return NEXT;
+    for (int point = KEEP; point < POINTS; point++)
+        if (!strcmp(name, point_names[point])) return point;
     if (strncmp(name, prefix, sizeof prefix - 1)) return POINTS;
     if (scenario->by_file != (name[length] == '@')) return POINTS;
     for (int point = 0; point < KEEP; point++)

@@ -5,12 +5,12 @@
 #include <stdbool.h>
 #include <stdint.h>
 
-/* The calls that are points, in the order of the catalogue, what a power cut asks, and which task goes next; `census` has the same
-   order. */
+/* The calls that are points, in the order of the catalogue, the two that a power cut asks, and which task goes next; `census` has the
+   same order. */
 enum point {
     OPEN, READ, WRITE, FSYNC, TRUNCATE, RENAME, LINK, UNLINK, MKDIR, RMDIR, SYMLINK, /* of files */
     CONNECT, ACCEPT, SEND, RECV,                                                      /* of sockets */
-    KEEP,
+    KEEP, TEAR,
     NEXT,
     POINTS
 };
