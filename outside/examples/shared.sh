@@ -1,8 +1,8 @@
 # What the try.sh of the examples beside this file share: sourced, with $outside and $scenario set. By the environment, beside what
 # each try.sh says of its own:
 #   STATES        the states after a power cut that are judged: lasting names contents live. keep is what the scenario says of
-#                 power::keep; keep:N what lasts, and change N of those that are pending; each is what lasts with none of them, with each
-#                 alone, and with all
+#                 power::keep, and tear of power::tear too; keep:N what lasts, and change N of those that are pending; each is what lasts with none
+#                 of them, with each alone, and with all
 #   FAULTS_SYNC   names: a sync of a file makes its name last too; and the supervisor's other variables
 #   TRACE         a file that takes the run's trace
 #   HITS          where it is set, as outside/loop does with a depth, the line ends with a tab and the run's hits in order, as `census --hits` tells them
@@ -73,12 +73,12 @@ states() {
 cut_to() {
     state=$1
     case $state in
-    keep) set -- keep "$scenario" ;;
+    keep | tear) set -- "$state" "$scenario" ;;
     keep:none) set -- keep none ;;
     keep:all) set -- keep power::keep=return ;;
     keep:*) set -- keep "power::keep=$((${state#keep:} - 1))*off->1*return" ;;
     esac
     "$outside/out/powercut" cut "$here/run" "$here/data" "$@"
     case $? in 0) ;; 97) verdict unresolved ;; *) exit 2 ;; esac
-    [ "$state" != keep ] || { traced; met; }
+    case $state in keep | tear) traced; met ;; esac
 }

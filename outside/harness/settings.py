@@ -20,8 +20,7 @@ WRITES = ["return", "return(ENOSPC)", "return(HALF)", "panic"]
 def made_text(label: str, codes: list[str], depth: int, has_kinds: bool) -> str:
     lines = [MADE, 'target = "outside"', f"depth = {depth}", "", "[outside]", f"label = {json.dumps(label)}", f"codes = {json.dumps(codes)}",
         f"points = {json.dumps(POINTS)}"]
-    if has_kinds:
-        lines += ["", "[outside.kinds]", f'"sys::write" = {json.dumps(WRITES)}']
+    lines += ["", "[outside.kinds]", *[f'"sys::write" = {json.dumps(WRITES)}'] * has_kinds, '"power::tear" = ["return"]']
     return "\n".join(lines) + "\n"
 
 
@@ -50,7 +49,7 @@ class Settings:
 
     def show(self) -> None:
         kinds = ", full disks and half writes" if self.has_kinds else ""
-        show(f"loop: settings made, {self.path}: depth {self.depth}, all points of files, what a power cut keeps{kinds}; codes as they are found")
+        show(f"loop: settings made, {self.path}: depth {self.depth}, all points of files, what a power cut keeps and tears{kinds}; codes as they are found")
 
     def write(self) -> None:
         new = self.path.with_suffix(".new")
@@ -66,12 +65,16 @@ class Settings:
         self.codes = sorted([*self.codes, code])
         self.write()
 
-    def keeps(self) -> bool:
-        return "power::keep" in self.points
+    def asks(self) -> str | None:
+        """The state of a power cut whose hits these settings can name."""
+        if "power::keep" not in self.points:
+            return None
+        return "tear" if "power::tear" in self.points else "keep"
 
     def unknown_points(self) -> list[str]:
-        """Those that have a prefix of these tools, and that no program ever hits."""
-        return [point for point in self.points if OWN_POINTS.match(point) and not KNOWN_POINTS.fullmatch(point)]
+        """Those that have a prefix of these tools, and that no program ever hits. Only what is kept may be torn."""
+        unknown = [point for point in self.points if OWN_POINTS.match(point) and not KNOWN_POINTS.fullmatch(point)]
+        return unknown + ["power::tear"] * ("power::tear" in self.points and not self.asks())
 
 
 def code_of(answer: str) -> str:

@@ -4,7 +4,8 @@ from .outcome import Outcome
 from .scenario import Scenario, Unreadable
 from .shown import escaped
 
-KEEPS = {"power::keep": "is kept", "power::tear": "is kept in its first half"}
+TEAR = "power::tear"
+KEEPS = {"power::keep": "is kept", TEAR: "is kept by half"}
 
 
 def ordinal(number: int) -> str:
@@ -22,13 +23,20 @@ def call_of(hit: list[str]) -> str:
     return f"{ordinal(int(hit[2]))} {hit[1]} ({hit[4]})"
 
 
-def change_of(hit: list[str], outcome: Outcome) -> str:
-    """A change that a cut asked for: by its number among those that were pending then."""
-    number = int(hit[2])
-    if hit[1] != "power::keep" or number > len(outcome.pending):
-        return f"({hit[4]})"
+def acts(hit: list[str]) -> bool:
+    """Whether its answer comes to anything: a power cut goes by a return alone."""
+    return hit[3] != "go" and (hit[1] not in KEEPS or hit[3].startswith("return"))
+
+
+def change_of(outcome: Outcome, place: int) -> str:
+    """A change that a cut asked for: by its number among those that were pending then, and where half of it is kept, with its bytes. A hit of
+    power::tear stands behind that of power::keep, which has the number."""
+    is_torn = outcome.trace[place][1] == TEAR
+    number = int(outcome.trace[place - is_torn][2])
+    if number > len(outcome.pending):
+        return f"({outcome.trace[place][4]})"
     change = outcome.pending[number - 1]
-    return f"{change[0]} ({change[1]} {change[2]})"
+    return f"{change[0]} ({' '.join(change[1:4 if is_torn else 3])})"
 
 
 def endless(scenario: str) -> dict[str, int]:
@@ -43,20 +51,27 @@ def endless(scenario: str) -> dict[str, int]:
     return found
 
 
+def kept_of_torn(outcome: Outcome, places: list[int]) -> set[int]:
+    """Where the hits of power::keep stand that those of power::tear among these say more of."""
+    return {place - 1 for place in places if outcome.trace[place][1] == TEAR}
+
+
+def fault_in_words(outcome: Outcome, place: int, is_for_ever: bool) -> str:
+    hit = outcome.trace[place]
+    if hit[1] in KEEPS:
+        later = " and each later one" if is_for_ever else ""
+        return f"of what is pending {change_of(outcome, place)}{later} {KEEPS[hit[1]]}"
+    later = f" and each later {hit[1]}" if is_for_ever else ""
+    return f"the {call_of(hit)}{later} {what(hit[3])}"
+
+
 def faults_in_words(outcome: Outcome) -> str:
-    parts, for_ever = [], endless(outcome.scenario)
-    for hit in outcome.trace:
-        point, number, answer = hit[1], int(hit[2]), hit[3]
-        first = for_ever.get(point, number)
-        if answer == "go" or number > first:
-            continue
-        if point in KEEPS:
-            more = " and each later one" if point in for_ever and number == first else ""
-            parts.append(f"of what is pending {change_of(hit, outcome)}{more} {KEEPS[point]}")
-        elif point in for_ever and number == first:
-            parts.append(f"the {call_of(hit)} and each later {point} {what(answer)}")
-        else:
-            parts.append(f"the {call_of(hit)} {what(answer)}")
+    for_ever = endless(outcome.scenario)
+    numbers = {place: (hit[1], int(hit[2])) for place, hit in enumerate(outcome.trace) if acts(hit)}
+    told = [place for place, (point, number) in numbers.items() if number <= for_ever.get(point, number)]
+    first_of_ever = {place for place, (point, number) in numbers.items() if for_ever.get(point) == number}
+    said_by_tear = kept_of_torn(outcome, told) - first_of_ever
+    parts = [fault_in_words(outcome, place, place in first_of_ever) for place in told if place not in said_by_tear]
     return ", ".join(parts) or "without any fault"
 
 
@@ -66,5 +81,8 @@ def failure(outcome: Outcome) -> str:
 
 def group_of(outcome: Outcome) -> str:
     """The calls that a cause consists of, without their numbers."""
-    parts = [f"{KEEPS[hit[1]]}: {hit[4]}" if hit[1] in KEEPS else f"{hit[1]} ({hit[4]}) {what(hit[3])}" for hit in outcome.trace if hit[3] != "go"]
+    places = [place for place, hit in enumerate(outcome.trace) if acts(hit)]
+    said_by_tear = kept_of_torn(outcome, places)
+    hits = [outcome.trace[place] for place in places if place not in said_by_tear]
+    parts = [f"{KEEPS[hit[1]]}: {hit[4]}" if hit[1] in KEEPS else f"{hit[1]} ({hit[4]}) {what(hit[3])}" for hit in hits]
     return escaped(f"{outcome.verdict.removeprefix('fail ')}: {', '.join(dict.fromkeys(parts)) or 'without any fault'}")

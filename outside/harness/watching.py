@@ -9,7 +9,7 @@ from .judging import LooksUp
 from .outcome import Outcome
 from .run import tell_errors
 from .shown import escaped
-from .telling import KEEPS, faults_in_words, what
+from .telling import KEEPS, acts, faults_in_words, what
 
 
 def promises_before(folder: Path) -> dict[int, list[str]]:
@@ -29,10 +29,8 @@ def lines_of(said: bytes) -> list[str]:
 
 
 def hit_line(hit: list[str]) -> str:
-    if hit[3] == "go":
-        came = hit[7].strip()
-    else:
-        came = KEEPS.get(hit[1], what(hit[3])) + f" [{hit[3]}]"
+    came = KEEPS.get(hit[1], what(hit[3])) if acts(hit) else hit[7].strip()
+    came += f" [{hit[3]}]" * (hit[3] != "go")
     return f"{hit[0]:>5} {hit[1]} {hit[2]} ({hit[4]}) {came}"
 
 

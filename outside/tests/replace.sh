@@ -69,6 +69,9 @@ is 'replace, with its hits' 'pass	none	2*sys::open;2*sys::write;sys::fsync;sys::
 keep='sys::fsync=1*return;power::keep=3*off->1*return'
 is 'and those of the cut' "fail torn	$keep	2*sys::open;2*sys::write;sys::rename;sys::fsync;4*power::keep" \
     "$(HITS=yes STATES=keep FLAW=rename_first examples/replace/try.sh "$keep")"
+tear='sys::fsync=1*return;power::keep=return;power::tear=1*return'
+is 'of which it tears the first write' "fail torn	$tear	2*sys::open;2*sys::write;sys::rename;sys::fsync;2*power::keep;power::tear;2*power::keep" \
+    "$(HITS=yes STATES=tear FLAW=rename_first examples/replace/try.sh "$tear")"
 is 'replace, the scenario in FAILPOINTS' 'fail torn	sys::fsync=1*return' \
     "$(FAILPOINTS='sys::fsync=1*return' FLAW=ignore_sync examples/replace/try.sh)"
 is 'replace under a pause is unresolved' 'unresolved	sys::write=pause' "$(examples/replace/try.sh 'sys::write=pause')"

@@ -4,7 +4,7 @@
 #   FLAW           sound (where it isn't set), late_sync, ignore_sync, retry_write, rename_first or in_place
 #   OLD            what the file holds before: old
 #   REPLACEMENTS   lists of chunks without blanks, a comma between two lists: ne w
-#   STATES         the states after a power cut that are judged: lasting; keep is what the scenario says of power::keep
+#   STATES         the states after a power cut that are judged: lasting; keep is what the scenario says of power::keep, tear of power::tear too
 #   TRACE          a file that takes the run's trace
 #   HITS           where it is set, as outside/loop does with a depth, the line ends with a tab and the run's hits in order, as `census --hits` tells them
 # With STATES=keep a campaign grows over what a cut may keep (../../tests/grown.py): two faults deep FLAW=rename_first has 4 causes, the first
@@ -68,7 +68,7 @@ promised=$(sed -n 's/^done //p' "$here/said" | tail -n 1)
 begun=${begun:-0}
 for state in ${STATES-lasting}; do
     set -- "$state"
-    [ "$state" = keep ] && set -- keep "$scenario"
+    case $state in keep | tear) set -- "$state" "$scenario" ;; esac
     "$outside/out/powercut" cut "$here/run" "$here/data" "$@"
     case $? in 0) ;; 97) verdict unresolved ;; *) exit 2 ;; esac
     holds_from "${promised:-0}" && continue

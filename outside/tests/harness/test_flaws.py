@@ -37,9 +37,10 @@ class Flaws(Campaigns):
         self.both("fail lost: without any fault", NOTE, "no_folder_sync")
 
     def test_a_torn_record(self):
+        """The second record has 23 bytes with its sum, a blank and its end; the third, of 22, is never synced."""
         for flaw in ("torn_taken", "torn_appended"):
             self.assertEqual(self.found(LOG, flaw), "")
-            self.assertRegex(self.found(LOG, flaw, "--depth", 2, "--kinds"), "^fail (lost|torn): .*write log")
+            self.assertEqual(self.found(LOG, flaw, "--depth", 2), "fail lost: of what is pending 1 (write log 22 at 23) is kept by half")
 
     def test_a_sync_that_is_tried_again(self):
         self.both(r"fail lost: the 1st sys::fsync \(new\) fails", NOTE, "retry_sync")

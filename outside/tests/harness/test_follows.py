@@ -1,6 +1,7 @@
 """What follows from another run is what a run says."""
 
 import random
+import re
 import shutil
 import time
 import unittest
@@ -14,6 +15,18 @@ depth = {depth}
 label = "sqlite3 EXTRA"
 codes = ["corrupt", "half", "lost"]
 points = ["sys::open", "sys::read", "sys::write", "sys::fsync", "sys::truncate", "sys::unlink"]
+"""
+TEARS = """target = "outside"
+depth = 2
+[outside]
+label = "two writes"
+codes = ["torn"]
+points = ["sys::open", "sys::write", "sys::fsync", {}]
+"""
+WHOLE = """#!/bin/sh
+case "$(tr -d '\\0' < a | sed 's/lm$//')" in '' | abcdefg | hijk | abcdefghijk) exit 0 ;; esac
+echo torn
+exit 1
 """
 
 
@@ -71,6 +84,56 @@ class Follows(Campaigns):
         small = self.campaign("small", NOTE, "--depth", 2, "--room", 1, FLAW="rename_first")
         self.assertEqual(known[:2], small[:2])
         self.assertLess(known[2], small[2])
+
+
+class Torn(Campaigns):
+    """What is kept by half is another cut of a run that is known. Of two writes to a file, the second is never synced."""
+
+    steps = {"prepare": "#!/bin/sh\n: > a\n", "run": f"#!/bin/sh\nexec {OUTSIDE}/out/component open a write abcdefg fsync write hijk\n"}
+
+    def campaign(self, folder, points, *options):
+        """With what it told: its answers, and how many runs it took, plans followed, and of these were tried."""
+        settings = self.here / "settings.toml"
+        settings.write_text(TEARS.format(points))
+        done = self.loop("-j", 1, "--settings", settings, "--into", self.here / "into", *options, folder)
+        answers = sorted(self.answers(self.here / "into"))
+        shutil.rmtree(self.here / "into")
+        counts = re.search(r"(\d+) runs and \d+ judgements; (\d+) plans by what follows, (\d+) of them tried", done.told)
+        return done, answers, [int(count) for count in counts.groups()]
+
+    def test_it_is_found(self):
+        done, answers, _ = self.campaign(self.harness(**self.steps, judge=WHOLE), '"power::keep", "power::tear"')
+        self.assertEqual(done.status, 1, done.told)
+        self.assertEqual([line for line in done.told.splitlines() if line.startswith("fail ")],
+            ["fail torn: of what is pending 1 (write a 4 at 7) is kept by half"])
+        self.assertIn("1 of: torn: is kept by half: a\n", done.told)
+        self.assertIn("fail torn\tpower::keep=1*return;power::tear=1*return\tsys::open;sys::write;sys::fsync;sys::write;power::keep;power::tear", answers)
+
+    def test_it_takes_no_run(self):
+        folder = self.harness(**self.steps, judge="#!/bin/sh\ntrue\n")
+        _, kept, (runs, follows, tried) = self.campaign(folder, '"power::keep"')
+        done, torn, (more_runs, more_follows, more_tried) = self.campaign(folder, '"power::keep", "power::tear"')
+        plans = [answer for answer in torn if "power::tear=" in answer]
+        self.assertEqual(done.status, 0, done.told)
+        self.assertGreater(len(plans), 0)
+        self.assertEqual(len(torn), len(kept) + len(plans))
+        self.assertEqual(more_follows, follows + len(plans))
+        self.assertEqual(more_runs - more_tried, runs - tried)
+
+    def test_it_goes_as_a_run_does(self):
+        again = f"#!/bin/sh\nexec {OUTSIDE}/out/component stream a a print lm close_stream\n"
+        folder = self.harness(**self.steps, again=again, judge=WHOLE)
+        points = '"power::keep", "power::tear"'
+        done, known, _ = self.campaign(folder, points)
+        self.assertEqual(known, self.campaign(folder, points, "--every-run")[1])
+        self.assertEqual(sorted(line for line in done.told.splitlines() if line.startswith("fail ")),
+            [f"fail torn: of what is pending 1 (write a {length} at 7) is kept by half" for length in (2, 4)])
+
+    def test_settings_that_do_not_name_it(self):
+        done, answers, _ = self.campaign(self.harness(**self.steps, judge=WHOLE), '"power::keep"')
+        self.assertEqual(done.status, 0, done.told)
+        self.assertIn("pass\tpower::keep=1*return\tsys::open;sys::write;sys::fsync;sys::write;power::keep", answers)
+        self.assertNotIn("power::tear", "".join(answers))
 
 
 class Killed(Campaigns):

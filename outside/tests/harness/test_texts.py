@@ -9,9 +9,12 @@ from .base import OUTSIDE, Campaigns
 sys.path.insert(0, str(OUTSIDE))
 
 from harness import tree  # noqa: E402
+from harness.judging import Judgement  # noqa: E402
+from harness.outcome import Outcome  # noqa: E402
 from harness.records import place_in  # noqa: E402
 from harness.scenario import Fault, Scenario, Unreadable, hits_text, keeping, scenario_of  # noqa: E402
-from harness.telling import ordinal, what  # noqa: E402
+from harness.telling import faults_in_words, group_of, ordinal, what  # noqa: E402
+from harness.watching import hit_line  # noqa: E402
 
 
 class Scenarios(unittest.TestCase):
@@ -73,6 +76,48 @@ class Words(unittest.TestCase):
     def test_tasks(self):
         self.assertEqual([what(answer) for answer in ("return", "return(ENOSPC)", "return(HALF)", "panic")],
             ["fails", "fails with ENOSPC", "does half", "ends the run"])
+
+
+class TornInWords(unittest.TestCase):
+    """A run of one write, at whose end three changes are pending: a new name, and two writes to it."""
+
+    pending = [["1", "create", "a", "-"], ["2", "write", "a", "7 at 0"], ["3", "write", "a", "4 at 7"]]
+
+    def outcome(self, *hits, scenario="none", pending=pending):
+        """Hits as point and answer; each counts those of its point."""
+        trace, counts = [], {}
+        for number, (point, answer) in enumerate([("sys::write", "go"), *hits], 1):
+            counts[point] = counts.get(point, 0) + 1
+            trace.append([str(number), point, str(counts[point]), answer, "a", "-", "-", "-"])
+        return Outcome(scenario, Judgement("fail torn"), trace, pending)
+
+    def test_one_by_half(self):
+        told = self.outcome(("power::keep", "go"), ("power::keep", "return"), ("power::tear", "return"), ("power::keep", "go"))
+        self.assertEqual(faults_in_words(told), "of what is pending 2 (write a 7 at 0) is kept by half")
+        self.assertEqual(group_of(told), "torn: is kept by half: a")
+
+    def test_one_whole_and_one_by_half(self):
+        told = self.outcome(("power::keep", "go"), ("power::keep", "return"), ("power::tear", "go"), ("power::keep", "return"), ("power::tear", "return"))
+        self.assertEqual(faults_in_words(told), "of what is pending 2 (write a) is kept, of what is pending 3 (write a 4 at 7) is kept by half")
+        self.assertEqual(group_of(told), "torn: is kept: a, is kept by half: a")
+
+    def test_all_from_then_on(self):
+        hits = ("power::keep", "go"), ("power::keep", "return"), ("power::tear", "return"), ("power::keep", "return"), ("power::tear", "return")
+        told = self.outcome(*hits, scenario="power::keep=1*off->return;power::tear=2*return")
+        self.assertEqual(faults_in_words(told), "of what is pending 2 (write a) and each later one is kept, "
+            "of what is pending 2 (write a 7 at 0) is kept by half, of what is pending 3 (write a 4 at 7) is kept by half")
+        told = self.outcome(*hits, scenario="power::keep=1*off->2*return;power::tear=return")
+        self.assertEqual(faults_in_words(told),
+            "of what is pending 2 (write a 7 at 0) and each later one is kept by half, of what is pending 3 (write a) is kept")
+
+    def test_where_nobody_knows_what_was_pending(self):
+        self.assertEqual(faults_in_words(self.outcome(("power::keep", "return"), ("power::tear", "return"), pending=[])),
+            "of what is pending (a) is kept by half")
+
+    def test_what_a_cut_takes_for_nothing(self):
+        told = self.outcome(("power::keep", "panic"), ("power::keep", "return"), ("power::tear", "panic"))
+        self.assertEqual(faults_in_words(told), "of what is pending 2 (write a) is kept")
+        self.assertEqual(hit_line(told.trace[3]), "    4 power::tear 1 (a) - [panic]")
 
 
 class Trees(Campaigns):

@@ -5,7 +5,7 @@ import signal
 import time
 import unittest
 
-from .base import JUDGES, NOTE, SAVES, Campaigns
+from .base import JUDGES, LOG, NOTE, SAVES, Campaigns
 
 SETTINGS = """target = "outside"
 depth = 1
@@ -66,6 +66,11 @@ class Refused(Campaigns):
         folder = self.harness(run=SAVES, judge=JUDGES)
         (folder / "settings.toml").write_text(SETTINGS.format('"sys::open", "libc::write"'))
         self.refused("no program hits libc::write", folder)
+
+    def test_a_torn_write_where_none_is_kept(self):
+        folder = self.harness(run=SAVES, judge=JUDGES)
+        (folder / "settings.toml").write_text(SETTINGS.format('"sys::open", "power::tear"'))
+        self.refused("no program hits power::tear", folder)
 
     def test_a_code_that_settings_lack(self):
         folder = self.harness(run=SAVES, judge="#!/bin/sh\necho torn\nexit 1\n")
@@ -169,6 +174,13 @@ class Shown(Campaigns):
             "sys::open 1 (.) 3", "sys::open 2 (new) 4", "sys::write 1 (new) 5", "sys::fsync 1 (new) fails [return]", "sys::rename 1 (note) 0",
             "sys::fsync 2 (.) 0", "said: saved young", "power::keep 1 (new) -", "pending: 1 write new 5 at 0", "fail lost: the 1st sys::fsync (new) fails"])
         self.assertFalse((self.here / "report").exists())
+
+    def test_a_torn_write_hit_by_hit(self):
+        done = self.loop("--into", self.here, LOG, "--try", "power::keep=1*return;power::tear=1*return", FLAW="torn_taken")
+        self.assertEqual(done.status, 1)
+        lines = [" ".join(line.split()[1:]) for line in done.out.splitlines() if " power::" in line]
+        self.assertEqual(lines, ["power::keep 1 (log) is kept [return]", "power::tear 1 (log) is kept by half [return]"])
+        self.assertEqual(done.out.splitlines()[-1], "fail lost: of what is pending 1 (write log 22 at 23) is kept by half")
 
     def test_it_stops_at_the_first(self):
         done = self.loop("-j", 1, "-x", "--into", self.here, NOTE, FLAW="unchecked_sync")
