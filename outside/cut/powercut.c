@@ -10,13 +10,13 @@
    bytes before a kept write that nothing wrote are zeros. Modes are as they are.
 
    A torn write: of `abcdefg`, kept and torn, `abc` is there, and a file that it makes longer ends behind the `c`. `tear` asks
-   power::tear for each write or store that is kept and has two bytes or more, at once after power::keep; a return leaves the first
-   half, rounded down. Of a long write that is one of its blocks. Names, new lengths and cleared bytes have no half; nor is one asked
-   for that isn't kept. So settings whose campaign cuts by `keep` need no power::tear, and their answers tell no hit of it.
+   power::tear behind power::keep for each write or store of two bytes or more that is kept, of a long write for each block; a
+   return leaves its first half alone, rounded down. Names, new lengths and cleared bytes have no half. `keep` never asks it, so
+   that what settings without power::tear are told has no hit of it.
 
    The hits of power::keep stand in the trace behind the others, hit k for change k of `pending`, each with that of power::tear
-   behind it; a pause at either ends the command with 97, and nothing is laid, and any other task does nothing. After `recover` what
-   was laid is what is there, all of it lasts, and hits are numbered on.
+   behind it. A pause at either ends the command with 97, and nothing is laid; another task than a return does nothing. After
+   `recover` what was laid is what is there, all of it lasts, and hits are numbered on.
 
    A run in which nothing ran under the supervisor, or nothing under ROOT was called, is refused,
    with 2 as all that is refused, and before anything is changed. So is one in which files changed that neither the notes explain nor
@@ -168,8 +168,7 @@ static void lay_state(struct replay *replay, const char *name, const struct tree
     lay(replay, live_contents ? AS_THEY_ARE : LASTING, tree);
 }
 
-/* The states that come with a scenario. */
-static bool asks(const char *name) { return !strcmp(name, "keep") || !strcmp(name, "tear"); }
+static bool takes_scenario(const char *name) { return !strcmp(name, "keep") || !strcmp(name, "tear"); }
 
 static void check_state(const char *name, const char *scenario) {
     static const char *const states[] = {"lasting", "live", "names", "contents"};
@@ -253,7 +252,7 @@ int main(int count, char **words) {
     if (!strcmp(what, "begin") && (count == 3 || count == 4)) begin(words[2], count == 4 ? words[3] : NULL);
     else if (!strcmp(what, "expect") && count > 3) expect(words[2], words + 3, count - 3);
     else if (!strcmp(what, "pending") && count == 3) tell_pending(words[2]);
-    else if (cuts && count == 6 && asks(words[4])) cut(words[2], words[3], words[4], words[5], what[0] == 'r');
+    else if (cuts && count == 6 && takes_scenario(words[4])) cut(words[2], words[3], words[4], words[5], what[0] == 'r');
     else if (cuts && (count == 4 || count == 5)) cut(words[2], words[3], count == 5 ? words[4] : "lasting", NULL, what[0] == 'r');
     else {
         write_help(2);

@@ -1,7 +1,8 @@
 """What becomes of each scenario that is asked: by a run, or by what follows from one that was made.
 
-A run that ends by a panic is another's up to there. What the power cut keeps or tears is another cut of the same run. So the run with the other faults
-is made once, and the rest is laid out from its notes. One in twenty of what follows is run and judged all the same, and has to come out alike."""
+A run that ends by a panic is another's up to there. What the power cut keeps or tears is another cut of the same run. So the run with the other
+faults is made once, and the rest is laid out from its notes. One in twenty of what follows is run and judged all the same, and has to come out
+alike."""
 
 import hashlib
 import shutil
@@ -36,12 +37,12 @@ def is_tried(scenario: str) -> bool:
 
 
 class Decider:
-    def __init__(self, runner: Runner, records: Records, asks: str | None, depth: int, every_run: bool):
+    def __init__(self, runner: Runner, records: Records, asking: str | None, depth: int, every_run: bool):
         self.runner = runner
         self.harness: Harness = runner.harness
         self.judge = Judge(runner)
         self.records = records
-        self.asks = asks  # the state of a power cut that asks the scenario; None where it isn't asked
+        self.asking = asking  # the state of a power cut that asks the scenario; None where it isn't asked
         self.depth = depth  # a run with so many faults has no others that follow
         self.every_run = every_run
         self.tried = 0
@@ -151,7 +152,7 @@ class Decider:
         """Recovery under the same scenario, from what the power cut left."""
         more = record.folder / "said_again"
         more.unlink(missing_ok=True)
-        state = [self.asks, text] if self.asks else ["lasting"]
+        state = [self.asking, text] if self.asking else ["lasting"]
         pending = programs.pending(run) if "power::" in text else []
         if not programs.cut(run, record.data, *state, goes_on=True):
             return Outcome(text, Judgement(UNRESOLVED, "the scenario pauses"), programs.trace(run))
@@ -169,7 +170,7 @@ class Decider:
         for state in self.states(run, text, lays_states):
             if not programs.cut(run, folder / "data", *state):
                 return Outcome(text, Judgement(UNRESOLVED, "the scenario pauses"), programs.trace(run))
-            if self.asks:
+            if self.asking:
                 trace = programs.trace(run)
             judgements.append(self.judge.judge(folder, said, looks_up))
             if judgements[-1].verdict != PASS:
@@ -184,8 +185,8 @@ class Decider:
     def states(self, run: Path, text: str, lays_states: bool) -> list[list[str]]:
         """Words for the cut, of states that differ by what they keep of what is pending. Of a run that goes on elsewhere what is there isn't
         known as it is, but all changes are."""
-        if self.asks:
-            return [[self.asks, text]]
+        if self.asking:
+            return [[self.asking, text]]
         changes = programs.pending(run)
         names = [int(change[0]) for change in changes if change[1] in NAMES]
         contents = [int(change[0]) for change in changes if change[1] not in NAMES]

@@ -65,7 +65,7 @@ class Settings:
         self.codes = sorted([*self.codes, code])
         self.write()
 
-    def asks(self) -> str | None:
+    def asking(self) -> str | None:
         """The state of a power cut whose hits these settings can name."""
         if "power::keep" not in self.points:
             return None
@@ -74,7 +74,7 @@ class Settings:
     def unknown_points(self) -> list[str]:
         """Those that have a prefix of these tools, and that no program ever hits. Only what is kept may be torn."""
         unknown = [point for point in self.points if OWN_POINTS.match(point) and not KNOWN_POINTS.fullmatch(point)]
-        return unknown + ["power::tear"] * ("power::tear" in self.points and not self.asks())
+        return unknown + ["power::tear"] * ("power::tear" in self.points and not self.asking())
 
 
 def code_of(answer: str) -> str:

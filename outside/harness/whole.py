@@ -196,4 +196,4 @@ def findings(report: bytes, codes: list[str]) -> list[str]:
 
 
 def decider_of(runner: Runner, settings: Settings, room: int, every_run: bool) -> Decider:
-    return Decider(runner, Records(room), settings.asks(), settings.depth or 64, every_run)
+    return Decider(runner, Records(room), settings.asking(), settings.depth or 64, every_run)
