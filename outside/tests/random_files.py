@@ -2,10 +2,10 @@
 """random_files.py FOLDER OUT SUPERVISOR PROGRAM FROM TO [killed]: random files under the supervisor, with each seed; then what a power
 cut leaves.
 
-Where all was synced, what lasts is the tree as the program left it; whatever was synced, all kept is that tree, and so is `live`. Of a
-tree the names, kinds, modes, contents, links and targets are compared. With `killed` the supervisor is killed at some moment: then all of
-the run ends, each line of the trace is whole, `live` is the tree, and where all kept isn't, that is told. Prints a line for each
-difference, or how many trees were equal, or kills were.
+Where all was synced, what lasts is the tree as the program left it; whatever was synced, all kept is that tree, also where each write might
+have been torn, and so is `live`. Of a tree the names, kinds, modes, contents, links and targets are compared. With `killed` the supervisor is
+killed at some moment: then all of the run ends, each line of the trace is whole, `live` is the tree, and where all kept isn't, that is told.
+Prints a line for each difference, or how many trees were equal, or kills were.
 """
 import hashlib
 import os
@@ -86,7 +86,7 @@ def tried(folder, out, supervisor, program, seed):
     if ended.returncode:
         return [f"seed {seed}: ended with {ended.returncode}: {ended.stderr}"], 0
     as_left, found, equal = tree(data), [], 0
-    states = [["keep", "power::keep=return"], ["live"]] + ([["lasting"]] if ending != "none" else [])
+    states = [["keep", "power::keep=return"], ["tear", "power::keep=return"], ["live"]] + ([["lasting"]] if ending != "none" else [])
     for state in states:
         cut = subprocess.run([powercut, "cut", run, data, *state], stderr=subprocess.PIPE, text=True, check=True)
         for difference in differences(as_left, tree(data)):

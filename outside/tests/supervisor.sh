@@ -294,6 +294,6 @@ done
 
 # Random files: what was noted is what there is.
 mkdir -p "$here/random"
-is 'random files' '80 trees equal' "$(tests/random_files.py "$here/random" "$outside/out" "$supervisor" "$here/random_files" 0 30)"
+is 'random files' '110 trees equal' "$(tests/random_files.py "$here/random" "$outside/out" "$supervisor" "$here/random_files" 0 30)"
 is 'killed at some moment' '20 kills, nothing torn or silent' \
     "$(tests/random_files.py "$here/random" "$outside/out" "$supervisor" "$here/random_files" 0 20 killed)"
