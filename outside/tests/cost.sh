@@ -1,5 +1,5 @@
 # What the notes cost. Sourced by `test`. 100 MB are written by dd, 256 KiB at a time, as often as it takes until it was quick enough
-# beside the same without the supervisor, five times at most: other work on the machine makes single runs slow. Instructions and
+# beside the same without the supervisor, twelve times at most: other work on the machine makes single runs slow. Instructions and
 # copied bytes aren't moved by that, so the notes have a bound in bytes.
 zeros() { dd if=/dev/zero of="$here/data/$1" bs=262144 count=382 conv="$2" status=none; }
 
@@ -13,7 +13,7 @@ micros() {
 supervised() { under "$supervisor" dd if=/dev/zero of="$1" bs=262144 count=382 conv="$2" status=none; }
 
 best_without= best_with= tries=0
-while [ "$tries" -lt 5 ]; do
+while [ "$tries" -lt 12 ]; do
     tries=$((tries + 1))
     new
     without=$(micros zeros without notrunc)
