@@ -3,11 +3,14 @@
 //! campaigns, settings and runs, the sessions of tests/ and examples/ have.
 //!
 //! Each expected text was worked out by hand from the documents of the formats and of the targets. That workers overlap no proof shows: they
-//! meet at the gate, and in the runs of a target that waits for another run.
+//! meet at the gate, and in the runs of a target that waits for another run. That the definitions of what a report to a depth promises say what is
+//! meant no proof shows either: a slow program checks the promises over components that are enumerated.
 #![tactic(auto)]
 
 #[cfg(test)]
 mod always_broken;
+#[cfg(test)]
+mod behaviours;
 #[cfg(test)]
 mod campaigns;
 #[cfg(test)]
@@ -16,6 +19,8 @@ mod contents;
 mod gates;
 #[cfg(test)]
 mod given;
+#[cfg(test)]
+mod keeping;
 #[cfg(test)]
 mod late_sync;
 #[cfg(test)]
@@ -29,14 +34,22 @@ mod outside_runs;
 #[cfg(test)]
 mod own_words;
 #[cfg(test)]
+mod promises;
+#[cfg(test)]
 mod reading;
 #[cfg(test)]
 mod refusals;
+#[cfg(test)]
+mod report_lines;
 #[cfg(test)]
 mod running;
 #[cfg(test)]
 mod streams;
 #[cfg(test)]
 mod three_codes;
+#[cfg(test)]
+mod told;
+#[cfg(test)]
+mod trees;
 #[cfg(test)]
 mod writing;
