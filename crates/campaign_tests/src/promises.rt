@@ -438,3 +438,38 @@ fn each_wrong_fact_is_found(rt: HostRuntime) -> Result<(), Fail> {
     }
     Ok(())
 }
+
+/// A component that asks b and then a, whose third return breaks its promise, whatever b did. Numbers 1 to 4 have a return of b, a panic of b, a return
+/// of a and a panic of a. 5 to 8 have one fault more, and no return of a more than two. 9 is 5, a return of b and of a, with a from then on, and
+/// 10 is 7, two returns of a, with a from then on. Both fail, and 9 without its return of b too: that is left out, and it is no cause.
+#[test]
+fn a_fault_that_is_not_needed_is_left_out(rt: HostRuntime) -> Result<(), Fail> {
+    let alloc = rt.alloc();
+    let nodes = [
+        Node::End(Judgement::Kept),
+        Node::End(Judgement::Broken(1)),
+        ask(0, 0, 1),
+        ask(0, 0, 2),
+        ask(0, 0, 3),
+        ask(1, 4, 4),
+    ];
+    let component = Component {
+        nodes: &nodes,
+        root: 5,
+        limit: 6,
+        has_cut: false,
+    };
+    keeps_promises(&rt, alloc, &component, 2, Source::Report)?;
+    let told = told_of(&rt, alloc, &component, 2, Source::Report)?;
+    let Some(findings) = &told.findings else {
+        return Err(Fail::from("no findings"));
+    };
+    assert_eq!(&rt; told.causes.as_slice(), [(10, 1)].as_slice());
+    assert_eq!(&rt; findings.len(), 1);
+    assert_eq!(&rt; findings[0].number, 9);
+    assert_eq!(&rt;
+        findings[0].reduced.as_slice(),
+        [return_of(0, None)].as_slice()
+    );
+    Ok(())
+}
