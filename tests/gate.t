@@ -28,6 +28,7 @@ that stands in for `rt`, and a program of two words, `say WORD` and `copy FILE`.
   $ chmod +x bin/* && PATH=$PWD/bin:$PATH BUILT=$PWD/built CI=$PWD/ci && export PATH BUILT CI && cd repo
   $ printf '#!/bin/sh\n' > tools/house_rules && for tool in unlawful_targets own_targets pages dist hostile_use refuse.py; do cp tools/house_rules tools/$tool; done
   $ printf '#!/bin/sh\necho "5 passed, 0 failed"\n' > tools/wrong_bodies && chmod +x tools/* && printf 'all test:\n' > outside/Makefile
+  $ mkdir viewer && printf 'test:\n\t@echo tests of the page\n' > viewer/Makefile && printf '#!/bin/sh\nexit $OLD_NODE\n' > ../bin/node && chmod +x ../bin/node
   $ printf 'paklour:\nsmall_tests: paklour\n' > crates.txt && mkdir crates/paklour/must-fail && touch crates/paklour/a crates/paklour/must-fail/a crates/small_tests/src/lib.rt && git init -q . && git add .
 
 What a call by descriptors would come to otherwise than as a process of its own is noted, with the number of its command.
@@ -113,12 +114,17 @@ A command that differs fails, and so do an example and a session without any com
   $ tools/test | tail -n 1
   4 passed, 3 failed
   $ rm tests/b.t tests/c.t && cp examples/a.toml examples/a.toml.stdout
-  $ tools/test > said; grep -A 3 '^processor seconds' said | sed 's/^ *[0-9.]*  /N /' | sort
+  $ tools/test > said; grep -A 4 '^processor seconds' said | sed 's/^ *[0-9.]*  /N /' | sort
   N house rules
   N tests of crates, sessions and examples
   N tests of outside/
+  N tests of viewer/
   processor seconds:
   $ tail -n 1 said
+  5 passed, 0 failed
+  $ grep -c '^tests of the page' said; OLD_NODE=1 tools/test > said; grep -e skipped -e '^tests of the page' said; tail -n 1 said
+  1
+  skipped the tests of viewer/: no node 20
   5 passed, 0 failed
   $ echo exit 1 >> tools/house_rules
   $ tools/test > said; grep failed: said; tail -n 1 said
