@@ -47,3 +47,11 @@ Files of crates are in the toolchain's layout, which a stand-in for `rt fmt` tel
   files that aren't in the layout of rt fmt:
   crates/small/src/lib.rt
   [1]
+
+One that can't be read is told too.
+
+  $ echo laid > crates/small/src/lib.rt && echo '[ "$1" != fmt ] || { echo src/lib.rt:1: error; exit 1; }' >> ../bin/rt && tools/house_rules
+  files that aren't in the layout of rt fmt:
+  crates/report_page/: rt fmt fails: src/lib.rt:1: error
+  crates/small/: rt fmt fails: src/lib.rt:1: error
+  [1]
