@@ -91,7 +91,26 @@ fn is_the_plain_report(
     Ok(())
 }
 
-/// The campaign on this component ends with the report of the plain recursion, and before that the first line asked is missing.
+/// Before all is answered there is no report: the first line that is asked is missing.
+fn misses_the_first_line(
+    rt: &impl Abort,
+    alloc: Global,
+    salt: u32,
+    campaign: &OutsideCampaign<'_>,
+    answers: &str,
+    first: &str,
+) -> Result<(), Fail> {
+    let report = told(alloc, campaign, answers)?;
+    assert_eq!(rt;
+        report.as_str().strip_prefix("not answered "),
+        Some(first),
+        "at {salt}"
+    );
+    Ok(())
+}
+
+/// The campaign on this component ends with the report of the plain recursion. Before that the first line asked is missing, which is looked at in
+/// every third round: for its time, and in each round of some components.
 fn comes_to_the_plain_report(rt: &impl Abort, alloc: Global, salt: u32) -> Result<(), Fail> {
     let hits = (salt % 3, salt / 3 % 3);
     let settings = settings(alloc, hits.0, hits.1)?;
@@ -103,18 +122,16 @@ fn comes_to_the_plain_report(rt: &impl Abort, alloc: Global, salt: u32) -> Resul
         settings: &settings.campaign,
     };
     let mut answers = String::new(alloc);
-    for _ in 0..200 {
+    for round in 0..200 {
         let asked = asks(alloc, &campaign, answers.as_str())?;
-        let report = told(alloc, &campaign, answers.as_str())?;
-        let Some(line) = asked.as_str().lines().next() else {
+        let Some(first) = asked.as_str().lines().next() else {
+            let report = told(alloc, &campaign, answers.as_str())?;
             let plans = plans(alloc, &campaign)?;
             return is_the_plain_report(rt, alloc, salt, hits, &plans, report.as_str());
         };
-        assert_eq!(rt;
-            report.strip_prefix("not answered "),
-            Some(line),
-            "at {salt}"
-        );
+        if (salt / 9 + round) % 3 == 0 {
+            misses_the_first_line(rt, alloc, salt, &campaign, answers.as_str(), first)?;
+        }
         answer_some(alloc, salt, asked.as_str(), &mut answers)?;
     }
     Err(Fail::from("a campaign without end"))

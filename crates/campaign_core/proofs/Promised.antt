@@ -1,5 +1,5 @@
 -- The report of a campaign keeps what it promises.
-use Rattle.std.proofs.Common.{◌≡◌, ◌≢◌, ℕ, zero, suc, ◌+◌, ◌<◌, ◌==◌, ◌&&◌, not, Bool, true, false, cond, Option, None, Some, IfSome, All, List, [], ◌∷◌, map, length, refl, ap, sym, ◌∙◌, subst, arith, eq-eqb}
+use Rattle.std.proofs.Common.{◌≡◌, ◌≢◌, ℕ, zero, suc, ◌+◌, ◌<◌, ◌≤◌, ◌^◌, ◌==◌, ◌&&◌, not, Bool, true, false, cond, Option, None, Some, IfSome, All, List, [], ◌∷◌, map, length, refl, ap, sym, ◌∙◌, subst, arith, eq-eqb}
 use Rattle.std.specs.Prelude.{AllPairs, Contains, flat_map, remove, slice_get, slice_index_or}
 use Rattle.std.specs.List.{AllByRecursion, list_all, range_with_len}
 use Rattle.std.proofs.lemmas.List.{get_or-map, length-map}
@@ -27,8 +27,9 @@ use Rattle.result_book.specs.FirstFailures.{first_failures, AreFirstFailures}
 use Rattle.result_book.specs.FirstFailure.{FailsAt}
 use Rattle.result_book.proofs.EachCodeLemmas.{firsts_of}
 use Rattle.report.specs.Reports.{FindingFacts, CauseFacts, GrowthFacts}
+use Rattle.campaign_given.specs.Given.{IsGiven}
 use Rattle.campaign_core.specs.Headline.{Campaign, census, grower, plans, plans_to, say, report, told_in, EachIsMinimal, KeepsPromises}
-use Rattle.campaign_core.specs.Findings.{cause_of, finding, growth_of, IsCauseAmong, IsMinimal, ReducesToMinimal}
+use Rattle.campaign_core.specs.Findings.{cause_of, finding, growth_of, reduction, IsCauseAmong, IsMinimal, ReducesToMinimal}
 use Rattle.campaign_core.proofs.Causes.{causes_are_causes}
 use Rattle.report_promises.specs.Told.{Told, HasVerdict}
 use Rattle.report_promises.specs.Promises.{IsFinding, Promises, without}
@@ -36,6 +37,8 @@ use Rattle.report_promises.specs.Promises.{IsCause as IsToldCause}
 use Rattle.report_promises.proofs.Failures.{of_level, has_cause, fewest}
 use Rattle.report_promises.proofs.Least.{no_lesser}
 use Rattle.report_promises.proofs.Numbers.{get_front, get_map}
+use Rattle.report_promises.proofs.Counted.{level_sizes as sizes_of_levels, size_beyond}
+use Rattle.report_promises.proofs.KeepsEach.{keeps_each}
 use Rattle.report_promises.proofs.Grew.{Grew, IsCauseOf, all_numbers, counted, twice, skipped_none, whole_told, onward_told, most_reached}
 
 -- ---- verdicts by numbers
@@ -187,7 +190,7 @@ at_number [] n code e = absurd cc
 at_number (v ∷ vs) zero code e = ap (λ (x : Verdict). Some x) e
 at_number (v ∷ vs) (suc n) code e = at_number vs n code e
 
-module _ (k : Campaign) (d : ℕ) (is : Some d ≡ k.given.depth) (l : IsLawful (grower k)) (minimal : All (ReducesToMinimal (say k)) (report k).findings) where
+module _ (k : Campaign) (d : ℕ) (is : Some d ≡ k.given.depth) (l : IsLawful (grower k)) (given : IsGiven k.given) (minimal : All (ReducesToMinimal (say k)) (report k).findings) where
   abbrev firsts : List (ℕ × ℕ)
   firsts = first_failures (numbered (report k).verdicts)
 
@@ -196,6 +199,15 @@ module _ (k : Campaign) (d : ℕ) (is : Some d ≡ k.given.depth) (l : IsLawful 
 
   abbrev told : Told
   told = told_in k (grew k d is)
+
+  few_hits : k.given.max_hits < 2 ^ 32
+  few_hits = let few = given.few_hits in omega (arith, few)
+
+  low_depth : d ≤ 64
+  low_depth = subst (λ (depth : Option ℕ). IfSome depth (λ faults. faults ≤ 64)) (sym is) given.low_depth
+
+  scenario_at : (number : ℕ) (plan : List Rig) → slice_get (grown (grower k) d) number ≡ Some plan → slice_index_or (plans k) number [] ≡ scenario_of (grower k) plan
+  scenario_at number plan at = get_or_from_slice_get (plans k) number (scenario_of (grower k) plan) [] (plan_at k d is number plan at)
 
   -- what is told of the first failure at a place
   finding_at : (n : ℕ) (none : FindingFacts) → n < length (report k).findings → IsFinding (grower k) told (slice_index_or (report k).findings n none)
@@ -216,6 +228,8 @@ module _ (k : Campaign) (d : ℕ) (is : Some d ≡ k.given.depth) (l : IsLawful 
         reduced_fails = own_code first.1 (say k first.0 f.reduced) reduces.0;
         minimal = without_one (say k first.0) first.1 f.reduced reduces;
         fewest = fewest (grower k) l d told (has_grown k d is) first.0 first.1 no_lower;
+        keeps_each = λ of_level. keeps_each (grower k) l few_hits d low_depth told (has_grown k d is) first.0 first.1 no_lower of_level
+            (reduction (say k) first.0 first.1 f.scenario).kept f.scenario (scenario_at first.0) (own_code first.1 (say k first.0 f.reduced) reduces.0);
       })
 
   found_of : (number code : ℕ) → HasVerdict told number (verdict.Fail code) → (f : FindingFacts) × Contains (report k).findings f × (f.code ≡ code)
@@ -256,6 +270,8 @@ module _ (k : Campaign) (d : ℕ) (is : Some d ≡ k.given.depth) (l : IsLawful 
       let g = has_grown k d is in
       record {
         nothing_skipped = skipped_none (grower k) l d told g;
+        sizes = sizes_of_levels (grower k) l d told g;
+        beyond = size_beyond (grower k) l d told g;
         all_told = counted (grower k) l d told g;
         nothing_twice = twice (grower k) l d told g;
         from_then_on = onward_told (grower k) l d told g;
@@ -269,9 +285,9 @@ module _ (k : Campaign) (d : ℕ) (is : Some d ≡ k.given.depth) (l : IsLawful 
       }
 
 -- of a campaign with a depth or without
-pub keeps_promises : (k : Campaign) → IsLawful (grower k) → EachIsMinimal k → KeepsPromises k
-keeps_promises k l minimal = by_depth k.given.depth refl
+pub keeps_promises : (k : Campaign) → IsLawful (grower k) → IsGiven k.given → EachIsMinimal k → KeepsPromises k
+keeps_promises k l given minimal = by_depth k.given.depth refl
   where
     by_depth : (depth : Option ℕ) → depth ≡ k.given.depth → IfSome (growth_of (grower k) k.given.plans.seed (plans k) depth) (λ g. Promises (grower k) (told_in k g))
     by_depth None is = tt
-    by_depth (Some d) is = keeps k d is l minimal
+    by_depth (Some d) is = keeps k d is l given minimal

@@ -2,7 +2,7 @@
 ghost use Rattle.std.specs.Prelude.{◌≡◌, ℕ, All};
 ghost use Rattle.scenario_values.specs.Scenario.{Entries, DistinctNames};
 ghost use Rattle.action_eval.specs.Catalogue.{HasDistinct};
-ghost use Rattle.campaign_given.specs.Given.{Given};
+ghost use Rattle.campaign_given.specs.Given.{Given, IsGiven};
 ghost use Rattle.campaign_core.specs.Headline.{Campaign, campaign_on, on_workers, EachIsCause, EachIsMinimal, KeepsPromises};
 ghost use Rattle.campaign_core.specs.CommandTexts.{IsReducedToMinimal};
 ghost use Rattle.campaign_core.specs.Forms.{report_in};
@@ -26,12 +26,13 @@ pub fn workers_change_nothing()
     ensures { (form : Form) (c : Campaign) (workers : ℕ) → report_in form (on_workers workers c) ≡ report_in form c }
 {}
 
-/// The report of a campaign of a target keeps its promises, where each reduced scenario that it tells is minimal; and each cause that a report lists is
-/// one: the plan of its number has its scenario, fails with its code, and without any one of its faults doesn't fail with it.
+/// The report of a campaign of a target keeps its promises, where its settings are within their ranges and each reduced scenario that it tells is
+/// minimal. And each cause that a report lists is one: the plan of its number has its scenario, fails with its code, and without any one of its faults
+/// doesn't fail with it.
 pub fn each_behaviour_is_tried<T: Target>()
     ensures causes { (c : Campaign) → EachIsCause c }
     ensures promises { (setup : T) (workload : T.Workload) (given : Given)
-        → (let c = campaign_on T.Target setup workload given in EachIsMinimal c → KeepsPromises c) }
+        → IsGiven given → (let c = campaign_on T.Target setup workload given in EachIsMinimal c → KeepsPromises c) }
 {
     each_target_is_a_lawful_subject::<T>();
 }

@@ -54,6 +54,8 @@ where
         IsFault c (report_in form.now c) (change W.Sink sink.old sink.new)) }
 {
     each_behaviour_is_tried::<T>();
+    // for its clause alone, that the settings are within their ranges
+    let _ = subject.settings.plan_settings();
     let ran = run_campaign(host, subject)?;
     let text = report_in(host, subject, form, &ran)?;
     write_report(text.as_slice(), sink)?;

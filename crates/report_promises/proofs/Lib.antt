@@ -5,3 +5,6 @@ pub mod Grew
 pub mod Faults
 pub mod Failures
 pub mod Least
+pub mod KeptRigs
+pub mod Counted
+pub mod KeepsEach

@@ -1,6 +1,6 @@
 -- What a component does under faults, by its hits and their answers alone: nothing here speaks of scenarios, seeds or numbers of plans. A component is
 -- what it asks after the answers so far, the names of its points, the most hits of a run, and the kinds of faults that are tried at each point.
-use Rattle.std.specs.Prelude.{◌≡◌, ℕ, ◌≤◌, ◌==◌, if◌then◌else◌, List, [], ◌∷◌, ◌++◌, map, length, filter, find, count_by}
+use Rattle.std.specs.Prelude.{◌≡◌, ◌≢◌, ℕ, ◌≤◌, ◌==◌, if◌then◌else◌, List, [], ◌∷◌, ◌++◌, Contains, map, length, filter, find, count_by}
 use Rattle.std.specs.List.{AllByRecursion}
 use Rattle.std.specs.Option.{option_map_or}
 use Rattle.action_eval.specs.declared.rig.Site.{Site}
@@ -8,9 +8,9 @@ use Rattle.action_eval.specs.Answers.{Reply, Go}
 use Rattle.target_trait.specs.Play.{Move, Ask, Done}
 use Rattle.target_trait.specs.Outcomes.{judged}
 use Rattle.target_trait.specs.declared.judgement.Verdict.{Verdict}
-use Rattle.grown_plans.specs.Runs.{Met, site_after, is_fault}
+use Rattle.grown_plans.specs.Runs.{Met, site_after, is_fault, acting}
 use Rattle.grown_plans.specs.GrownPlans.{Subject, is_at}
-use Rattle.grown_plans.specs.Promises.{IsOfKinds}
+use Rattle.grown_plans.specs.Promises.{EachTwo, IsOfKinds}
 
 -- the answers of hits, in order
 abbrev pub answers : List Met → List Reply
@@ -40,6 +40,18 @@ verdict_at_end t hits = judged (t.asks (answers hits))
 pub record IsBehaviourOfKinds (t : Subject) (hits : List Met) : Type 0 where
   pub behaves : IsBehaviour t hits
   pub of_kinds : IsOfKinds t.kinds hits
+
+-- the same, and so many faults act in it
+abbrev pub HasActing : Subject → ℕ → List Met → Type 0
+HasActing t n hits = IsBehaviourOfKinds t hits × (acting hits ≡ n)
+
+-- so many lists of hits are like this: all of them stand in a list, each once
+pub record AreSoMany (n : ℕ) (P : List Met → Type 0) : Type 0 where
+  pub each : List (List Met)
+  pub many : length each ≡ n
+  pub are : AllByRecursion P each
+  pub once : EachTwo (λ hits others. hits ≢ others) each
+  pub no_other : (hits : List Met) → P hits → Contains each hits
 
 -- the hits at which a fault acts
 abbrev pub faults : List Met → List Met

@@ -1,5 +1,5 @@
 -- What a report of a campaign with a depth promises of its component, over the facts that it prints and the behaviours of its plans.
-use Rattle.std.specs.Prelude.{◌≡◌, ◌≢◌, ℕ, ◌≤◌, ◌<◌, Option, Some, List, ◌∷◌, ◌++◌, All, AllPairs, Contains, length, map, remove, slice_get}
+use Rattle.std.specs.Prelude.{◌≡◌, ◌≢◌, ℕ, suc, ◌≤◌, ◌<◌, Option, Some, List, ◌∷◌, ◌++◌, All, AllPairs, Contains, length, map, remove, slice_get}
 use Rattle.std.specs.List.{AllByRecursion, range_with_len}
 use Rattle.scenario_values.specs.Scenario.{Entries, all_faults}
 use Rattle.scenario_values.specs.Keep.{kept}
@@ -11,7 +11,7 @@ use Rattle.grown_plans.specs.Runs.{Met, acting}
 use Rattle.grown_plans.specs.GrownPlans.{Subject, most}
 use Rattle.grown_plans.specs.Promises.{EachTwo, ReturnsOnward}
 use Rattle.report.specs.Reports.{FindingFacts, CauseFacts}
-use Rattle.report_promises.specs.Behaviours.{IsBehaviour, IsBehaviourOfKinds, verdict_at_end, faults, times_hit, AnsweredWithout}
+use Rattle.report_promises.specs.Behaviours.{IsBehaviour, IsBehaviourOfKinds, verdict_at_end, faults, times_hit, AnsweredWithout, AreSoMany, HasActing}
 use Rattle.report_promises.specs.Told.{Told, count_of_levels, count_of_all, HasBehaviour, HasVerdict, IsToldOnce}
 
 -- a scenario's verdict under a number
@@ -25,7 +25,7 @@ without fault scenario = kept (remove (range_with_len 0 (all_faults scenario)) f
 -- ---- a finding
 
 -- its number is the least that fails with its code. Its reduced scenario fails with that code, and without any one of its faults it doesn't. Where
--- it is of a level, no behaviour in which fewer faults act fails so
+-- it is of a level, no behaviour in which fewer faults act fails so, and its reduction keeps each fault
 pub record IsFinding (t : Subject) (told : Told) (f : FindingFacts) : Type 0 where
   pub fails : HasVerdict told f.number (Fail f.code)
   pub least : (other : ℕ) → other < f.number → HasVerdict told other (Fail f.code) → ⊥
@@ -33,6 +33,7 @@ pub record IsFinding (t : Subject) (told : Told) (f : FindingFacts) : Type 0 whe
   pub minimal : (fault : ℕ) → fault < all_faults f.reduced → verdict_of t told f.number (without fault f.reduced) ≢ Fail f.code
   pub fewest : f.number < count_of_levels told → (found hits : List Met) → HasBehaviour told f.number found → IsBehaviourOfKinds t hits
       → acting hits < acting found → verdict_at_end t hits ≢ Fail f.code
+  pub keeps_each : f.number < count_of_levels told → f.reduced ≡ f.scenario
 
 -- ---- a cause
 
@@ -57,6 +58,9 @@ pub record Promises (t : Subject) (told : Told) : Type 0 where
   -- each behaviour in which at most d faults act is that of exactly one number of the levels, with its verdict
   pub nothing_skipped : (hits : List Met) → IsBehaviourOfKinds t hits → acting hits ≤ told.growth.depth
       → IsToldOnce told (count_of_levels told) hits (verdict_at_end t hits)
+  -- as many behaviours as are told of a level have so many acting faults, and as many as lie beyond have one more than d
+  pub sizes : (n size : ℕ) → slice_get told.growth.levels n ≡ Some size → AreSoMany size (HasActing t n)
+  pub beyond : AreSoMany told.growth.beyond (HasActing t (suc told.growth.depth))
   -- no two numbers have the same behaviour
   pub all_told : length told.behaviours ≡ count_of_all told
   pub nothing_twice : EachTwo (λ hits others. hits ≢ others) told.behaviours

@@ -8,5 +8,5 @@ pub returns-clause-causes : goal.returns-clause-causes
 returns-clause-causes g c = λ k. causes_are_causes k k.given.depth refl
 
 pub returns-clause-promises : goal.returns-clause-promises
-returns-clause-promises g c = λ setup workload given.
-    let k = campaign_on g.T.Target setup workload given in keeps_promises k (c.each_target_is_a_lawful_subject.ensures setup workload k.given.max_hits)
+returns-clause-promises g c = λ setup workload given is.
+    let k = campaign_on g.T.Target setup workload given in keeps_promises k (c.each_target_is_a_lawful_subject.ensures setup workload k.given.max_hits) is

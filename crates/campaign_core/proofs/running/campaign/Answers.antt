@@ -14,6 +14,6 @@ returns-clause-promises g c =
     let subject = c.args.subject.now in
     let k : Campaign = campaign_in g.T.Target subject in
     record {
-      promises = c.each_behaviour_is_tried.ensures.promises subject.target.now subject.workload.now subject.settings.now c.in_ok-text.ensures.minimal;
+      promises = c.each_behaviour_is_tried.ensures.promises subject.target.now subject.workload.now subject.settings.now c.plan_settings.ensures.ranges c.in_ok-text.ensures.minimal;
       causes = c.each_behaviour_is_tried.ensures.causes k;
     }
