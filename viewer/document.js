@@ -1,6 +1,6 @@
 // Reads the report's document, checks it against what docs/report.schema.json says, and makes of it the campaign that the page shows.
 import { rowsOfPlans } from "./grown.js";
-import { readRun, runKey } from "./run.js";
+import { Runs } from "./run.js";
 import { clausesOf, spell } from "./scenario.js";
 import { callsOf } from "./words.js";
 
@@ -61,10 +61,12 @@ const growth = members(
   },
   { unseen: count },
 );
-const run = members({ explained: text }, { left_out: count });
+const runAlone = { explained: text };
+const run = members(runAlone, { left_out: count, parent: members(runAlone, { left_out: count }) });
 const about = members({
   program_version: text, told_by: is("target or answers", (value) => value === "target" || value === "answers"), command: text, settings: text,
-  storms: list(text), listed: list(text), grown: list(text), clean_run: orNull(run), finding_runs: list(run), cause_runs: list(run),
+  storms: list(text), listed: list(text), grown: list(text), clean_run: orNull(run), finding_runs: list(orNull(run)),
+  cause_runs: list(orNull(run)),
 });
 const report = members(
   {
@@ -160,14 +162,17 @@ function plansOf(told, parts) {
   return parts.flatMap((part) => Array.from({ length: part.count }, (_, index) => planAt(part.first + index, part)));
 }
 
-/** The runs that a document tells, by their keys. @param {any} told @param {string[]} names */
-function runsOf({ findings, growth, about }, names) {
-  const told = [
-    ...(about.clean_run ? [[0, "", about.clean_run]] : []),
-    ...about.finding_runs.map((run, index) => [findings[index].number, findings[index].reduced, run]),
-    ...about.cause_runs.map((run, index) => [growth.causes[index].number, growth.causes[index].scenario, run]),
-  ];
-  return new Map(told.map(([number, scenario, run]) => [runKey(number, scenario), readRun(scenario, run, names)]));
+/** The runs that a document tells. @param {any} campaign */
+function runsOf({ told: { findings, growth, about }, byNumber, names }) {
+  const runs = new Runs(names);
+  runs.add(0, "", about.clean_run);
+  const add = (number, scenario, run) => {
+    const { text, parent } = byNumber.get(number);
+    runs.add(number, scenario, run, text === scenario && parent !== null ? byNumber.get(parent).text : null);
+  };
+  about.finding_runs.forEach((run, index) => add(findings[index].number, findings[index].reduced, run));
+  about.cause_runs.forEach((run, index) => add(growth.causes[index].number, growth.causes[index].scenario, run));
+  return runs;
 }
 
 /**
@@ -184,10 +189,9 @@ export function campaignOf(told) {
   const campaign = {
     told, parts, plans, byNumber, codes, names, call: callsOf(names),
     points: told.census.map(({ point, hits }) => ({ point, clean: hits, reached: reached ? reached.get(point) ?? null : null })),
-    runs: runsOf(told, names),
   };
   for (const plan of plans) plan.text ??= spell(faultsOf(campaign, plan), names);
-  return campaign;
+  return { ...campaign, runs: runsOf(campaign) };
 }
 
 /**

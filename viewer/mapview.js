@@ -1,6 +1,6 @@
 // Draws the map, and leads pointer and keys to its plans.
 import { element, svgElement } from "./dom.js";
-import { layoutMap, placeOf, planBeside, planIn } from "./map.js";
+import { layoutMap, placeOf, planBeside, planIn, rowsOf } from "./map.js";
 import { framePath, markClass, markOf, markPath } from "./marks.js";
 import { partWords } from "./verdict.js";
 import { counted, grouped } from "./words.js";
@@ -10,7 +10,8 @@ import { counted, grouped } from "./words.js";
 /** @typedef {import("./map.js").Strip} Strip */
 
 const NARROW = 640;
-const LABEL_WIDTH = 168;
+/** The room of a label: by its characters, between these, and of a share of the map at most. */
+const LABEL = { character: 6.9, least: 120, most: 340, share: 0.36 };
 /** What a printed page has room for. */
 const PRINTED_WIDTH = 700;
 /** What the map's box has left and right of it. */
@@ -27,6 +28,11 @@ const MOVES = new Set(["ArrowLeft", "ArrowRight", "ArrowUp", "ArrowDown", "Home"
 /** The size of a cell: large where there are few. @param {number} plans */
 export function cellFor(plans) {
   return CELLS.find(({ most }) => plans <= most)?.size ?? SMALLEST;
+}
+
+/** The room for labels of which the longest has so many characters, in a map of this width. @param {number} characters @param {number} width */
+export function labelWidth(characters, width) {
+  return Math.round(Math.max(LABEL.least, Math.min(characters * LABEL.character + 12, LABEL.most, width * LABEL.share)));
 }
 
 /** The marks of a strip, one path for each that it has. @param {any} campaign @param {Strip} strip @param {number} cell */
@@ -56,6 +62,7 @@ export class MapView {
     Object.assign(this, { campaign, label, tell, chosen });
     this.closed = new Set();
     this.cell = cellFor(campaign.plans.length);
+    this.longest = Math.max(0, ...rowsOf(campaign).rows.map((row) => label(row).length));
     this.selected = null;
     this.firsts = new Set(campaign.told.findings.map((finding) => finding.number));
     this.grid = element("div", { class: "map", role: "grid", tabindex: "0", "aria-label": "Map of plans", "aria-describedby": "map-keys" });
@@ -103,10 +110,11 @@ export class MapView {
   }
 
   draw() {
-    const labels = this.width < NARROW ? 0 : LABEL_WIDTH;
+    const labels = this.width < NARROW ? 0 : labelWidth(this.longest, this.width);
     const width = Math.max(this.width - labels - SIDES, Math.ceil((this.campaign.plans.length * this.cell ** 2) / this.tall));
     this.layout = layoutMap(this.campaign, { width, cell: this.cell, closed: this.closed });
     this.box.classList.toggle("narrow", labels === 0);
+    this.box.style.setProperty("--labels", `${labels}px`);
     this.grid.setAttribute("aria-rowcount", String(this.layout.bands.length + 1));
     this.grid.setAttribute("aria-colcount", String(this.layout.columns.length + 1));
     this.grid.replaceChildren(this.drawHead(), ...this.layout.bands.map((band, index) => this.drawBand(band, index)));

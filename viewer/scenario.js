@@ -10,6 +10,10 @@
 
 /** The point at which a power cut asks for each pending change whether it is kept. */
 export const KEEP = "power::keep";
+/** The point at which it asks whether of a write that is kept the first half alone is there. */
+export const TEAR = "power::tear";
+/** The point of the order of threads: a return lets the next one go first. */
+export const NEXT = "order::next";
 
 const TASKS = new Set(["off", "yield", "print", "sleep", "delay", "return", "panic", "pause"]);
 const PASSING = new Set(["off", "yield"]);

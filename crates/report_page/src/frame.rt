@@ -7,7 +7,7 @@ pub const BEFORE: &str = r###"<!doctype html>
 <meta charset="utf-8">
 <meta name="viewport" content="width=device-width, initial-scale=1">
 <meta name="color-scheme" content="light dark">
-<meta http-equiv="Content-Security-Policy" content="default-src 'none'; style-src 'sha256-F21hftB0O+VWy9EyNdqxxLozEMqY0zlpsrJI3FTWd3A='; script-src 'sha256-XjPtzdQgb+Z+dRi1+kA2H+qTabx2xQNedMHAu+qPfdU='; base-uri 'none'; form-action 'none'">
+<meta http-equiv="Content-Security-Policy" content="default-src 'none'; style-src 'sha256-9XUKVvW3GMnCjUGrM4mFQTXiOxoE1PcW35fiChkVAWk='; script-src 'sha256-89dnXl/hK/HzTVLiAeRPNVz9XVwOp7eZFVzXVolLbho='; base-uri 'none'; form-action 'none'">
 <title>Paklour report</title>
 <style>
 :root {
@@ -75,7 +75,12 @@ code { unicode-bidi: isolate; }
 :focus-visible { outline: 2px solid var(--accent); outline-offset: 2px; }
 header p, section > p { max-width: 48rem; }
 .kind { margin: 0; color: var(--muted); }
+.outcome { margin: 0.8rem 0 1rem; padding: 0.7rem 1rem 0.6rem; max-width: 48rem; background: var(--raised); border-left: 6px solid var(--muted); border-radius: 4px; }
+.outcome.fails { border-left-color: var(--code-0); }
+.outcome.passes { border-left-color: var(--code-4); }
+.outcome p, .outcome ul { margin: 0; }
 .headline { font-size: 1.25rem; font-weight: 600; }
+nav ul { display: flex; flex-wrap: wrap; gap: 0.2rem 1.2rem; margin: 1.2rem 0 0; padding: 0; list-style: none; }
 .ways, .legend { display: flex; flex-wrap: wrap; gap: 0.2rem 1.4rem; padding: 0; list-style: none; }
 .muted { color: var(--muted); font-size: 0.92rem; }
 h1, .words, .scenario, p code, li, summary { overflow-wrap: anywhere; }
@@ -120,18 +125,23 @@ th[scope="row"] { white-space: nowrap; }
 td code, .verdict, td { overflow-wrap: anywhere; }
 .plans td:nth-child(2) { width: 9rem; min-width: 7rem; }
 .plans td:first-child { width: 4rem; }
-.hits td { min-width: 6rem; }
-.hits .number, .plans .number { min-width: 3rem; }
+.plans .number { min-width: 3rem; }
 .points td:first-child { min-width: 12rem; }
 .number { text-align: right; font-variant-numeric: tabular-nums; white-space: nowrap; }
 th.number { white-space: normal; }
-.hits { margin: 0.4rem 0; }
-.hits td, .hits th { border: 0; padding: 0.05rem 1rem 0.05rem 0; }
-.hits .number { color: var(--muted); }
-.hits td[colspan] { color: var(--muted); }
-.hits .fault-line td { background: var(--fault); color: var(--ink); }
+.hits { margin: 0.4rem 0; min-width: min(100%, 24rem); }
+.hits.two { width: 100%; }
+.hits td, .hits th { border: 0; padding: 0.08rem 0.6rem; }
+.hits.two td:nth-child(2), .hits.two td:nth-child(4) { width: 50%; }
+.hits.two td:nth-child(3) { border-left: 1px solid var(--line); }
+.hits .number { color: var(--muted); padding: 0.08rem 0.2rem; }
+.hits .same td { color: var(--muted); }
+.hits .near > span:first-child { font-weight: 600; color: var(--ink); }
+.hits .alone { background: var(--raised); }
+.hits .fault-line td { background: var(--fault); }
 .hits .fault-line td:first-child::before { content: "\25b6\a0"; }
-.fault { text-decoration: underline; text-underline-offset: 3px; }
+.hits .fault-line b { text-decoration: underline; text-underline-offset: 3px; }
+.hits .ends td { padding-top: 0.35rem; }
 .plans { width: 100%; }
 .plans .words { min-width: 11rem; }
 label { min-width: 0; max-width: 100%; }
@@ -139,7 +149,7 @@ label { min-width: 0; max-width: 100%; }
 
 /* the map */
 .map-box { position: relative; border: 1px solid var(--line); border-radius: 8px; }
-.map { max-height: min(80vh, 60rem); overflow: auto; padding: 0 10px 8px; border-bottom: 1px solid var(--line); scroll-padding: 3rem 1rem 1rem; }
+.map { max-height: min(85vh, 70rem); overflow: auto; padding: 0 10px 8px; border-bottom: 1px solid var(--line); scroll-padding: 3rem 1rem 1rem; }
 .map-head, .map-band { display: flex; min-width: max-content; }
 .map-head { position: sticky; top: 0; z-index: 2; padding: 8px 0 4px; background: var(--ground); border-bottom: 1px solid var(--line); margin-bottom: 8px; }
 .map-label {
@@ -147,7 +157,7 @@ label { min-width: 0; max-width: 100%; }
   left: 0;
   z-index: 1;
   flex: none;
-  width: 168px;
+  width: var(--labels);
   padding-right: 10px;
   overflow: hidden;
   background: var(--ground);
@@ -190,7 +200,9 @@ label { min-width: 0; max-width: 100%; }
 
 @media (max-width: 640px) {
   body { padding: 1rem 0.7rem 3rem; }
-  .hits td, .hits th { padding-right: 0.5rem; }
+  .hits td, .hits th { padding: 0.08rem 0.25rem; }
+  .hits.two td:nth-child(3), .hits.two th:nth-child(3) { display: none; }
+  .hits.two td:nth-child(4) { border-left: 1px solid var(--line); }
 }
 
 @media print {
@@ -200,9 +212,9 @@ label { min-width: 0; max-width: 100%; }
   .map-band, tr, .causes li { break-inside: avoid; }
   h2, h3, summary { break-after: avoid; }
   .run:not([open]) { display: none; }
-  .controls, .filters, .pointed, .more, #brief { display: none; }
+  nav, .controls, .filters, .pointed, .more, #brief { display: none; }
   .fold .more { display: inline; border: 0; padding: 0; background: none; }
-  .mark-pass, .mark-unresolved, svg path, .hits .fault-line td { print-color-adjust: exact; }
+  .outcome, svg path, .hits td { print-color-adjust: exact; }
 }
 </style>
 </head>
@@ -293,6 +305,10 @@ function rowsOfPlans(told) {
 
 /** The point at which a power cut asks for each pending change whether it is kept. */
 const KEEP = "power::keep";
+/** The point at which it asks whether of a write that is kept the first half alone is there. */
+const TEAR = "power::tear";
+/** The point of the order of threads: a return lets the next one go first. */
+const NEXT = "order::next";
 
 const TASKS = new Set(["off", "yield", "print", "sleep", "delay", "return", "panic", "pause"]);
 const PASSING = new Set(["off", "yield"]);
@@ -404,10 +420,11 @@ function spell(faults, points) {
 // A run hit by hit, beside another one.
 
 /** @typedef {{point: number, answer: string|null}} Step */
-/** @typedef {{scenario: string, steps: Step[], more: number, end: string|null}} Run */
-/** @typedef {{number: number, point: string, ordinal: number, answer: string|null}} Hit */
+/** @typedef {{scenario: string, verdict: string, steps: Step[], more: number, end: string|null}} Run */
+/** @typedef {{number: number, point: string, ordinal: number, answer: string|null, near?: boolean}} Hit */
+/** A run as a document tells it. @typedef {{explained: string, left_out?: number, parent?: {explained: string, left_out?: number}}} Told */
 /**
- * A line of two runs side by side. `same` is where both hit the same and are answered the same.
+ * A line of two runs side by side. `same` is where both hit the same point and are answered the same. Near is a hit of a file at whose hits a fault acts.
  * @typedef {{here: Hit|null, there: Hit|null, same: boolean, fault: boolean}} Line
  */
 /** @typedef {{fold: false, line: Line}|{fold: true, lines: Line[]}} Piece */
@@ -461,7 +478,8 @@ function readRun(scenario, { explained, left_out: more = 0 }, names) {
   const steps = [];
   const lines = explained.split(BEFORE_HIT);
   const [last, ...behind] = lines.pop().split(BEHIND_HITS);
-  for (const line of [...lines, last]) {
+  const [first, ...hitLines] = [...lines, last];
+  for (const line of hitLines) {
     const head = `hit ${steps.length + 1} `;
     const step = line.startsWith(head) ? readHit(line.slice(head.length), places, hits) : null;
     if (step) {
@@ -470,7 +488,66 @@ function readRun(scenario, { explained, left_out: more = 0 }, names) {
     } else if (steps.length > 0) steps[steps.length - 1].answer = `${steps[steps.length - 1].answer ?? "go"}\n${line}`;
   }
   const stopped = behind.find((line) => line.startsWith("stopped "));
-  return { scenario, steps, more, end: stopped ? stopped.slice("stopped ".length) : null };
+  return { scenario, verdict: first.replace(/^verdict /, ""), steps, more, end: stopped ? stopped.slice("stopped ".length) : null };
+}
+
+/** The runs that a document tells. Each may have a thousand hits, so one is read where it is asked for. */
+class Runs {
+  /** @param {string[]} names */
+  constructor(names) {
+    this.names = names;
+    /** @type {Map<string, {scenario: string, told: Told, before: string|null}>} */
+    this.told = new Map();
+    /** @type {Map<string, Run>} */
+    this.read = new Map();
+  }
+
+  /**
+   * @param {number} number
+   * @param {string} scenario
+   * @param {Told|null} told null where nobody told this run
+   * @param {string|null} [parent] the scenario of the plan that this one grew from
+   */
+  add(number, scenario, told, parent = null) {
+    if (told === null) return;
+    const before = told.parent ? parent : null;
+    const key = runKey(number, scenario);
+    if (before !== null || !this.told.has(key)) this.told.set(key, { scenario, told, before });
+    if (before !== null && !this.told.has(before)) this.told.set(before, { scenario: before, told: told.parent, before: null });
+  }
+
+  /** Whether a run is told. @param {number} number @param {string} scenario */
+  has(number, scenario) {
+    return this.told.has(runKey(number, scenario));
+  }
+
+  /** @param {number} number @param {string} scenario @returns {Run|null} */
+  of(number, scenario) {
+    return this.get(runKey(number, scenario));
+  }
+
+  /** @param {string} key @returns {Run|null} */
+  get(key) {
+    const known = this.told.get(key);
+    if (known && !this.read.has(key)) this.read.set(key, readRun(known.scenario, known.told, this.names));
+    return this.read.get(key) ?? null;
+  }
+
+  /**
+   * The run to look at beside another one: its parent's; where that isn't told, that without the fault which acted last, else that without faults.
+   * @param {Run} run
+   * @returns {Run|null}
+   */
+  beside(run) {
+    if (run.scenario === "") return null;
+    const { before = null } = this.told.get(run.scenario) ?? {};
+    if (before !== null) return this.get(before);
+    const faults = run.more > 0 ? [] : singleFaults(run.scenario, this.names);
+    const acted = hitsOf(run, this.names).flatMap((hit) => faults.filter((fault) => fault.hit === hit.ordinal && this.names[fault.point] === hit.point));
+    const last = acted[acted.length - 1];
+    const less = last && this.get(spell(faults.filter((fault) => fault !== last), this.names));
+    return less ?? this.get("");
+  }
 }
 
 /**
@@ -492,11 +569,6 @@ function isFault(answer) {
   return answer !== null && /^(return|panic|pause)/.test(answer);
 }
 
-/** @param {Hit|null} one @param {Hit|null} other */
-function isSame(one, other) {
-  return one !== null && other !== null && one.point === other.point && one.answer === other.answer;
-}
-
 /**
  * The faults of a scenario of which each acts at one hit, or from there on; none of any other scenario.
  * @param {string} scenario
@@ -513,23 +585,37 @@ function singleFaults(scenario, names) {
 }
 
 /**
- * The run to look at beside another one: that without the fault which acted last, where it is told, else that without faults.
- * @param {Map<string, Run>} runs
- * @param {Run} run
- * @param {string[]} names
- * @returns {Run|null}
+ * Which hits of two runs stand beside each other: as many as there can be at the same points in the same order, after those with which both begin.
+ * @param {Hit[]} here
+ * @param {Hit[]} there
+ * @returns {[number, number][]}
  */
-function runBeside(runs, run, names) {
-  if (run.scenario === "") return null;
-  const faults = run.more > 0 ? [] : singleFaults(run.scenario, names);
-  const acted = hitsOf(run, names).flatMap((hit) => faults.filter((fault) => fault.hit === hit.ordinal && names[fault.point] === hit.point));
-  const last = acted[acted.length - 1];
-  const before = last && runs.get(spell(faults.filter((fault) => fault !== last), names));
-  return before ?? runs.get("") ?? null;
+function pairsOf(here, there) {
+  const isPair = (one, other) => here[one].point === there[other].point;
+  const most = Math.min(here.length, there.length);
+  let begin = 0;
+  while (begin < most && isPair(begin, begin)) begin += 1;
+  const pairs = Array.from({ length: begin }, (_, at) => /** @type {[number, number]} */ ([at, at]));
+  const width = there.length + 1;
+  // How many pairs there are at most from a hit of each on.
+  const counts = new Uint16Array((here.length + 1) * width);
+  for (let one = here.length - 1; one >= begin; one -= 1) {
+    for (let other = there.length - 1; other >= begin; other -= 1) {
+      const at = one * width + other;
+      counts[at] = isPair(one, other) ? counts[at + width + 1] + 1 : Math.max(counts[at + width], counts[at + 1]);
+    }
+  }
+  for (let one = begin, other = begin; one < here.length && other < there.length;) {
+    const at = one * width + other;
+    if (isPair(one, other)) pairs.push([one++, other++]);
+    else if (counts[at + width] >= counts[at + 1]) one += 1;
+    else other += 1;
+  }
+  return pairs;
 }
 
 /**
- * Two runs, line by line; `beside` is null where none is told.
+ * Two runs, line by line; `beside` is null where none is told. Hits of one run alone stand beside those of the other alone, as they come.
  * @param {Run} run
  * @param {Run|null} beside
  * @param {string[]} names
@@ -538,15 +624,37 @@ function runBeside(runs, run, names) {
 function linesOf(run, beside, names) {
   const here = hitsOf(run, names);
   const there = beside ? hitsOf(beside, names) : [];
-  return Array.from({ length: Math.max(here.length, there.length) }, (_, index) => {
-    const one = here[index] ?? null;
-    const other = there[index] ?? null;
-    return { here: one, there: other, same: isSame(one, other), fault: isFault(one?.answer ?? null) };
-  });
+  const lines = [];
+  const add = (one, other) => {
+    const same = one !== null && other !== null && one.point === other.point && one.answer === other.answer;
+    lines.push({ here: one, there: other, same, fault: isFault(one?.answer ?? null) });
+  };
+  let [nextHere, nextThere] = [0, 0];
+  for (const [one, other] of [...pairsOf(here, there), [here.length, there.length]]) {
+    const [alone, lacking] = [here.slice(nextHere, one), there.slice(nextThere, other)];
+    for (let at = 0; at < Math.max(alone.length, lacking.length); at += 1) add(alone[at] ?? null, lacking[at] ?? null);
+    if (one < here.length || other < there.length) add(here[one], there[other]);
+    [nextHere, nextThere] = [one + 1, other + 1];
+  }
+  const files = filesOfFaults(lines);
+  for (const hit of [...here, ...there]) hit.near = files.has(fileOf(hit.point));
+  return lines;
+}
+
+/** The file that a point names; null where it names none. @param {string} point */
+function fileOf(point) {
+  const at = point.indexOf("@");
+  return at < 0 ? null : point.slice(at + 1);
+}
+
+/** The files at whose hits a fault acts, of a run whose points name files. @param {Line[]} lines @returns {Set<string>} */
+function filesOfFaults(lines) {
+  const files = lines.filter(({ fault }) => fault).map(({ here }) => fileOf(here.point));
+  return new Set(files.filter((file) => file !== null));
 }
 
 /**
- * Long stretches without a fault, that are the same in both runs, folded.
+ * Long stretches that are the same in both runs, folded. What a fault may have to do with stays.
  * @param {Line[]} lines
  * @returns {Piece[]}
  */
@@ -554,7 +662,7 @@ function foldLines(lines) {
   const pieces = [];
   let begin = 0;
   for (let at = 0; at <= lines.length; at += 1) {
-    if (at < lines.length && lines[at].same && !lines[at].fault) continue;
+    if (at < lines.length && lines[at].same && !lines[at].fault && !lines[at].here.near) continue;
     const stretch = lines.slice(begin, at);
     const folded = stretch.length >= FOLDED ? stretch.length - KEPT_BEFORE : 0;
     if (folded > 0) pieces.push({ fold: true, lines: stretch.slice(0, folded) });
@@ -608,18 +716,30 @@ function sentence(text) {
   return `${text.charAt(0).toUpperCase()}${text.slice(1)}.`;
 }
 
+/** The points of calls of the system, as the supervisor of outside/ names them. */
+const IS_CALL = /^(?:sys|libc)::/;
+
+/** The points that a power cut asks. */
+const IN_CUT = new Set([KEEP, TEAR]);
+
+/** What is hit at points that aren't a program's calls. */
+const NAMED = new Map([[KEEP, "pending change"], [TEAR, "write that is kept"], [NEXT, "choice between threads"]]);
+
 /**
- * How points are called: by what stands behind the last `::`, where no other point is called so; `libc::write@a.db` is `write of a.db`.
+ * How points are called: by what stands behind the last `::`, where no other point is called so; `sys::write@a.db` is `write of a.db`. Files are told from
+ * the root folder on, which is `.` itself.
  * @param {string[]} points
  * @returns {(point: string) => string}
  */
 function callsOf(points) {
   const short = points.map(lastOf);
-  const calls = new Map();
+  const calls = new Map(NAMED);
   points.forEach((point, index) => {
+    if (NAMED.has(point)) return;
     const alone = short.filter((name) => name === short[index]).length === 1;
     const [name, ...file] = (alone ? short[index] : point).split("@");
-    calls.set(point, file.length > 0 && name !== "" ? `${name} of ${file.join("@")}` : name || point);
+    const named = file.join("@") === "." && IS_CALL.test(point) ? "the root folder" : file.join("@");
+    calls.set(point, file.length > 0 && name !== "" ? `${name} of ${named}` : name || point);
   });
   return (point) => calls.get(point) ?? point;
 }
@@ -640,21 +760,28 @@ function hitWords({ point, first, last }, call) {
   return `the ${ordinal(first)} ${name}`;
 }
 
-/** @param {string|null} argument */
-function failureWords(argument) {
+/**
+ * What a call comes to that a return answers. To points of a program's own an argument is a text, of which the program makes what it likes.
+ * @param {string} point
+ * @param {string|null} argument
+ */
+function failureWords(point, argument) {
   if (argument === null) return "fails";
   if (/^E[A-Z0-9]+$/.test(argument)) return `fails with ${argument}`;
-  if (argument === "HALF") return "does its first half alone";
-  if (argument === "DROP") return "answers that all is done, and does nothing";
+  if (argument === "HALF" && IS_CALL.test(point)) return "does its first half alone";
+  if (argument === "DROP" && IS_CALL.test(point)) return "answers that all is done, and does nothing";
   return `fails with the text \u201c${argument}\u201d`;
 }
 
 /** @param {Clause} clause @param {Call} call */
 function actWords(clause, call) {
   const hit = hitWords(clause, call);
-  const { task, argument } = clause.term;
+  const { point, term: { task, argument } } = clause;
+  if (point === KEEP && (task === "return" || task === "panic")) return `${hit} is ${task === "return" ? "kept" : "lost all the same"}`;
+  if (point === TEAR && (task === "return" || task === "panic")) return task === "return" ? `of ${hit} the first half alone is there` : `${hit} is whole all the same`;
+  if (point === NEXT && task === "return") return `at ${hit} the next one goes first`;
   switch (task) {
-    case "return": return `${hit} ${failureWords(argument)}`;
+    case "return": return `${hit} ${failureWords(point, argument)}`;
     case "panic": return `the program ends at ${hit}`;
     case "pause": return `the run is ended at ${hit}`;
     case "print": return `a note is taken at ${hit}`;
@@ -663,17 +790,55 @@ function actWords(clause, call) {
   }
 }
 
-/** @param {Clause} clause */
-function keptWords({ first, last, term }) {
-  const half = term.argument === null ? "" : term.argument === "HALF" ? "the first half of " : `(${term.argument}) `;
-  if (last === Infinity) return half + (first === 1 ? "each pending change" : `each pending change from the ${ordinal(first)} on`);
-  if (last > first) return `${half}pending changes ${first} to ${last}`;
-  return `${half}the ${ordinal(first)} pending change`;
+/**
+ * What an answer comes to at a hit of a run.
+ * @param {string} point
+ * @param {string|null} answer null where the hit goes on
+ * @returns {string|null}
+ */
+function answerWords(point, answer) {
+  const term = answer === null ? null : parseTerm(answer);
+  const isReturn = term?.task === "return";
+  if (point === KEEP) return isReturn ? "is kept" : "isn\u2019t kept";
+  if (point === TEAR) return isReturn ? "its first half alone" : "whole";
+  if (term === null) return answer;
+  if (isReturn) return point === NEXT ? "the next one goes first" : failureWords(point, term.argument);
+  return term.task === "panic" ? "the program ends here" : answer;
+}
+
+/** Whether a power cut keeps something by this clause, or keeps half of it. @param {Clause} clause */
+function isOfCut(clause) {
+  return IN_CUT.has(clause.point) && clause.term.task === "return" && clause.term.percent === null;
 }
 
 /** @param {Clause} clause */
-function isKept(clause) {
-  return clause.point === KEEP && clause.term.task === "return" && clause.term.percent === null;
+function keptWords({ first, last }) {
+  if (last === Infinity) return first === 1 ? "each pending change" : `each pending change from the ${ordinal(first)} on`;
+  return last > first ? `pending changes ${first} to ${last}` : `the ${ordinal(first)} pending change`;
+}
+
+/**
+ * What a power cut keeps. It is asked for the half of a write right behind the hit that keeps it, so in the order of time a tear is of the change before
+ * it. Of a scenario that has no order that is certain of the only one.
+ * @param {Clause[]} clauses
+ * @param {Call} call
+ * @param {boolean} inOrder
+ */
+function cutWords(clauses, call, inOrder) {
+  const isOne = ({ first, last }) => first === last;
+  const kept = [];
+  const torn = [];
+  clauses.forEach((clause, index) => {
+    const before = clauses[index - 1];
+    const isCertain = inOrder || (clauses.length === 2 && clause.first === 1);
+    if (clause.point === KEEP) kept.push(keptWords(clause));
+    else if (isCertain && before?.point === KEEP && isOne(before) && isOne(clause)) kept.push(`the first half of ${kept.pop()}`);
+    else torn.push(hitWords(clause, call));
+  });
+  return [
+    ...(kept.length > 0 ? [`the power cut keeps ${listed(kept)}`] : []),
+    ...torn.map((hit) => `of ${hit} the first half alone is there`),
+  ];
 }
 
 /** @param {Clause} clause @param {Call} call */
@@ -687,15 +852,24 @@ function clauseWords(clause, call) {
 }
 
 /**
- * What happens where these clauses act. What the power cut keeps stands last, as the cut comes at the end.
+ * What happens where these clauses act. Where they aren't in the order of time, what the power cut keeps stands last.
  * @param {Clause[]} clauses
  * @param {Call} call
+ * @param {boolean} [inOrder]
  */
-function wordsOfClauses(clauses, call) {
+function wordsOfClauses(clauses, call, inOrder = false) {
   if (clauses.length === 0) return "no fault";
-  const kept = clauses.filter(isKept);
-  const parts = clauses.filter((clause) => !isKept(clause)).map((clause) => clauseWords(clause, call));
-  if (kept.length > 0) parts.push(`the power cut keeps ${listed(kept.map(keptWords))}`);
+  const ordered = inOrder ? clauses : [...clauses.filter((clause) => !isOfCut(clause)), ...clauses.filter(isOfCut)];
+  const parts = [];
+  for (let begin = 0, end = 0; begin < ordered.length; begin = end) {
+    end = begin + 1;
+    if (!isOfCut(ordered[begin])) {
+      parts.push(clauseWords(ordered[begin], call));
+      continue;
+    }
+    while (end < ordered.length && isOfCut(ordered[end])) end += 1;
+    parts.push(...cutWords(ordered.slice(begin, end), call, inOrder));
+  }
   return parts.join("; ");
 }
 
@@ -710,10 +884,17 @@ function wordsOfScenario(scenario, call) {
 
 /**
  * A kind of fault, as `return(ENOSPC)`, in words.
+ * @param {string} point
  * @param {string} kind
  */
-function wordsOfKind(kind) {
-  return kind === "return" || kind === "panic" ? `a ${kind}` : kind;
+function wordsOfKind(point, kind) {
+  const { task, argument } = parseTerm(kind) ?? { task: kind, argument: null };
+  if (task === "panic") return "the end of the program";
+  if (point === NEXT) return "that the next one goes first";
+  if (argument === null) return "a failure";
+  if (argument === "HALF" && IS_CALL.test(point)) return "its first half alone";
+  if (argument === "DROP" && IS_CALL.test(point)) return "a loss that nobody is told";
+  return /^E[A-Z0-9]+$/.test(argument) ? argument : `a failure with the text \u201c${argument}\u201d`;
 }
 
 /**
@@ -783,10 +964,12 @@ const growth = members(
   },
   { unseen: count },
 );
-const run = members({ explained: text }, { left_out: count });
+const runAlone = { explained: text };
+const run = members(runAlone, { left_out: count, parent: members(runAlone, { left_out: count }) });
 const about = members({
   program_version: text, told_by: is("target or answers", (value) => value === "target" || value === "answers"), command: text, settings: text,
-  storms: list(text), listed: list(text), grown: list(text), clean_run: orNull(run), finding_runs: list(run), cause_runs: list(run),
+  storms: list(text), listed: list(text), grown: list(text), clean_run: orNull(run), finding_runs: list(orNull(run)),
+  cause_runs: list(orNull(run)),
 });
 const report = members(
   {
@@ -882,14 +1065,17 @@ function plansOf(told, parts) {
   return parts.flatMap((part) => Array.from({ length: part.count }, (_, index) => planAt(part.first + index, part)));
 }
 
-/** The runs that a document tells, by their keys. @param {any} told @param {string[]} names */
-function runsOf({ findings, growth, about }, names) {
-  const told = [
-    ...(about.clean_run ? [[0, "", about.clean_run]] : []),
-    ...about.finding_runs.map((run, index) => [findings[index].number, findings[index].reduced, run]),
-    ...about.cause_runs.map((run, index) => [growth.causes[index].number, growth.causes[index].scenario, run]),
-  ];
-  return new Map(told.map(([number, scenario, run]) => [runKey(number, scenario), readRun(scenario, run, names)]));
+/** The runs that a document tells. @param {any} campaign */
+function runsOf({ told: { findings, growth, about }, byNumber, names }) {
+  const runs = new Runs(names);
+  runs.add(0, "", about.clean_run);
+  const add = (number, scenario, run) => {
+    const { text, parent } = byNumber.get(number);
+    runs.add(number, scenario, run, text === scenario && parent !== null ? byNumber.get(parent).text : null);
+  };
+  about.finding_runs.forEach((run, index) => add(findings[index].number, findings[index].reduced, run));
+  about.cause_runs.forEach((run, index) => add(growth.causes[index].number, growth.causes[index].scenario, run));
+  return runs;
 }
 
 /**
@@ -906,10 +1092,9 @@ function campaignOf(told) {
   const campaign = {
     told, parts, plans, byNumber, codes, names, call: callsOf(names),
     points: told.census.map(({ point, hits }) => ({ point, clean: hits, reached: reached ? reached.get(point) ?? null : null })),
-    runs: runsOf(told, names),
   };
   for (const plan of plans) plan.text ??= spell(faultsOf(campaign, plan), names);
-  return campaign;
+  return { ...campaign, runs: runsOf(campaign) };
 }
 
 /**
@@ -963,7 +1148,7 @@ function planWords(campaign, plan) {
   if (!plan.fault) return wordsOfScenario(plan.text, call);
   const clauses = faultsOf(campaign, plan).map(({ point, hit, kind }) =>
     ({ point: names[point], term: parseTerm(kind), first: hit, last: kind.startsWith("1*") ? hit : Infinity }));
-  return wordsOfClauses(clauses, call);
+  return wordsOfClauses(clauses, call, true);
 }
 
 /**
@@ -1453,8 +1638,8 @@ function kindsByPoint({ plans, names }) {
 function pointsByKinds(kinds, { call }) {
   const groups = new Map();
   for (const [point, tried] of kinds) {
-    if (point === KEEP) continue;
-    const words = listed(tried.map(wordsOfKind), "or");
+    if (point === KEEP || point === TEAR) continue;
+    const words = listed(tried.map((kind) => wordsOfKind(point, kind)), "or");
     groups.set(words, [...(groups.get(words) ?? []), call(point)]);
   }
   return [...groups].sort((one, other) => one[1].length - other[1].length);
@@ -1466,14 +1651,10 @@ function faultsWords(campaign) {
   const groups = pointsByKinds(kinds, campaign);
   const parts = groups.map(([words, points], index) =>
     `${words} at ${index < groups.length - 1 ? listed(points) : groups.length > 1 ? "each other point that is hit" : "any point that is hit"}`);
-  if (kinds.has(KEEP)) parts.push(keptKindsWords(kinds.get(KEEP)));
-  return parts.join(", or ");
-}
-
-/** @param {string[]} kinds */
-function keptKindsWords(kinds) {
-  const parts = kinds.map((kind) => (kind === "return" ? "a pending change" : kind === "return(HALF)" ? "the first half of one" : `${kind} of one`));
-  return `${listed(parts, "or")} that the power cut keeps`;
+  const isTried = (point) => (kinds.get(point) ?? []).some((kind) => kind.startsWith("return"));
+  if (isTried(KEEP)) parts.push("a pending change that the power cut keeps");
+  if (isTried(TEAR)) parts.push("a write of which it keeps the first half alone");
+  return parts.length > 2 ? `${parts.slice(0, -1).join("; ")}; or ${parts[parts.length - 1]}` : parts.join(", or ");
 }
 
 /** @param {any} campaign */
@@ -1491,8 +1672,8 @@ function triedAtHits({ parts }) {
   const size = (name) => parts.find((part) => part.name === name)?.count ?? 0;
   const hits = size("hits") / 3;
   if (hits === 0) return ["Tried was the run without faults."];
-  const sentences = [`Tried was one fault at each of ${counted(hits, "hit")} of the run without faults: a return, a return from then on, and a panic.`];
-  if (size("pairs") > 0) sentences.push(`In ${counted(size("pairs"), "plan")} more two of these hits have a fault: both a return, or the second a panic.`);
+  const sentences = [`Tried was one fault at each of ${counted(hits, "hit")} of the run without faults: a failure, failures from then on, and the end of the program.`];
+  if (size("pairs") > 0) sentences.push(`In ${counted(size("pairs"), "plan")} more two of these hits have a fault: both fail, or the program ends at the second.`);
   return sentences;
 }
 
@@ -1557,7 +1738,7 @@ function partWords({ name, level }) {
 function rowWords({ kind, point, hit, name }, call) {
   if (kind === "none") return "no fault";
   if (kind === "wide") return partWords({ name, level: null });
-  return `${ordinal(hit)} ${point === KEEP ? "pending change" : call(point)}`;
+  return `${ordinal(hit)} ${call(point)}`;
 }
 
 // Draws the map, and leads pointer and keys to its plans.
@@ -1567,7 +1748,8 @@ function rowWords({ kind, point, hit, name }, call) {
 /** @typedef {import("./map.js").Strip} Strip */
 
 const NARROW = 640;
-const LABEL_WIDTH = 168;
+/** The room of a label: by its characters, between these, and of a share of the map at most. */
+const LABEL = { character: 6.9, least: 120, most: 340, share: 0.36 };
 /** What a printed page has room for. */
 const PRINTED_WIDTH = 700;
 /** What the map's box has left and right of it. */
@@ -1584,6 +1766,11 @@ const MOVES = new Set(["ArrowLeft", "ArrowRight", "ArrowUp", "ArrowDown", "Home"
 /** The size of a cell: large where there are few. @param {number} plans */
 function cellFor(plans) {
   return CELLS.find(({ most }) => plans <= most)?.size ?? SMALLEST;
+}
+
+/** The room for labels of which the longest has so many characters, in a map of this width. @param {number} characters @param {number} width */
+function labelWidth(characters, width) {
+  return Math.round(Math.max(LABEL.least, Math.min(characters * LABEL.character + 12, LABEL.most, width * LABEL.share)));
 }
 
 /** The marks of a strip, one path for each that it has. @param {any} campaign @param {Strip} strip @param {number} cell */
@@ -1613,6 +1800,7 @@ class MapView {
     Object.assign(this, { campaign, label, tell, chosen });
     this.closed = new Set();
     this.cell = cellFor(campaign.plans.length);
+    this.longest = Math.max(0, ...rowsOf(campaign).rows.map((row) => label(row).length));
     this.selected = null;
     this.firsts = new Set(campaign.told.findings.map((finding) => finding.number));
     this.grid = element("div", { class: "map", role: "grid", tabindex: "0", "aria-label": "Map of plans", "aria-describedby": "map-keys" });
@@ -1660,10 +1848,11 @@ class MapView {
   }
 
   draw() {
-    const labels = this.width < NARROW ? 0 : LABEL_WIDTH;
+    const labels = this.width < NARROW ? 0 : labelWidth(this.longest, this.width);
     const width = Math.max(this.width - labels - SIDES, Math.ceil((this.campaign.plans.length * this.cell ** 2) / this.tall));
     this.layout = layoutMap(this.campaign, { width, cell: this.cell, closed: this.closed });
     this.box.classList.toggle("narrow", labels === 0);
+    this.box.style.setProperty("--labels", `${labels}px`);
     this.grid.setAttribute("aria-rowcount", String(this.layout.bands.length + 1));
     this.grid.setAttribute("aria-colcount", String(this.layout.columns.length + 1));
     this.grid.replaceChildren(this.drawHead(), ...this.layout.bands.map((band, index) => this.drawBand(band, index)));
@@ -1856,62 +2045,104 @@ function scenarioCode(text) {
 function drawHeader(campaign) {
   const { told } = campaign;
   const { sentences, whole } = wholeness(campaign);
+  const { fail, unresolved } = told.counts;
   const ways = failuresByCode(campaign).map(([code, count]) =>
     element("li", {}, markIcon(markOf({ verdict: "fail", code }, campaign.codes)), `${code}: ${counted(count, "plan")}`));
   return element("header", {},
     element("p", { class: "kind" }, "Paklour report"),
     element("h1", {}, told.label),
-    element("p", { class: "headline" }, headline(campaign)),
-    ways.length > 0 ? element("ul", { class: "ways" }, ...ways) : null,
-    element("p", {}, tried(campaign).join(" ")),
+    element("div", { class: `outcome ${fail > 0 ? "fails" : unresolved > 0 ? "ended" : "passes"}` },
+      element("p", { class: "headline" }, headline(campaign)),
+      ways.length > 0 ? element("ul", { class: "ways" }, ...ways) : null),
+    element("p", {}, ["A plan is one run of the program, with its faults.", ...tried(campaign)].join(" ")),
     element("p", { class: whole ? "whole" : "open" }, sentences.join(" ")),
     element("p", { class: "muted" }, limits(campaign).join(" ")));
+}
+
+/** Links to the sections that there are. @param {HTMLElement[]} sections */
+function drawContents(sections) {
+  const links = sections.map((one) => element("li", {}, element("a", { href: `#${one.id}` }, one.querySelector("h2").textContent)));
+  return element("nav", { "aria-label": "Contents" }, element("ul", {}, ...links));
 }
 
 // ---- runs
 
 /** @param {(point: string) => string} call @param {import("./run.js").Hit|null} hit */
 function drawHit(call, hit) {
-  if (hit === null) return [element("span", { class: "muted" }, "\u2013")];
-  const keeps = hit.point === KEEP;
-  const name = keeps ? `${ordinal(hit.ordinal)} pending change` : `${ordinal(hit.ordinal)} ${call(hit.point)}`;
-  if (hit.answer === null) return [name];
-  return [name, " ", element("b", { class: isFault(hit.answer) ? "fault" : null }, keeps && hit.answer === "return" ? "kept" : hit.answer)];
+  if (hit === null) return element("div", { class: "hit muted" }, "\u2013");
+  const answer = answerWords(hit.point, hit.answer);
+  const name = element("span", {}, `${ordinal(hit.ordinal)} ${call(hit.point)}`);
+  return element("div", { class: hit.near ? "hit near" : "hit" }, name, ...(answer === null ? [] : [" ", element(isFault(hit.answer) ? "b" : "span", {}, answer)]));
 }
 
 /** @param {(point: string) => string} call @param {import("./run.js").Line} line @param {boolean} beside */
 function drawLine(call, { here, there, same, fault }, beside) {
-  const number = element("td", { class: "number" }, String((here ?? there).number));
-  const cell = (hit, columns) => element("td", { colspan: columns }, element("div", { class: "hit" }, ...drawHit(call, hit)));
-  const cells = beside && !same ? [cell(here, null), cell(there, null)] : [cell(here, beside ? "2" : null)];
-  return element("tr", { class: fault ? "fault-line" : same || !beside ? null : "differs" }, number, ...cells);
+  const cells = (hit, isAlone) => [
+    element("td", { class: "number" }, hit === null ? "" : String(hit.number)),
+    element("td", { class: isAlone ? "alone" : null }, drawHit(call, hit)),
+  ];
+  const isAlone = (hit, other) => beside && hit !== null && hit.point !== other?.point;
+  const kind = fault ? "fault-line" : same || !beside ? "same" : null;
+  return element("tr", { class: kind }, ...cells(here, isAlone(here, there)), ...(beside ? cells(there, isAlone(there, here)) : []));
 }
 
 /** @param {(point: string) => string} call @param {{lines: any[]}} piece @param {boolean} beside */
 function drawFold(call, { lines }, beside) {
   const button = element("button", { type: "button", class: "more" }, `${lines.length} hits go on, the same${beside ? " in both" : ""}`);
-  const row = element("tr", { class: "fold" }, element("td", { class: "number" }, "\u22ee"), element("td", { colspan: beside ? "2" : null }, button));
+  const row = element("tr", { class: "fold" }, element("td", { class: "number" }, "\u22ee"), element("td", { colspan: beside ? "3" : null }, button));
   button.addEventListener("click", () => row.replaceWith(...lines.map((line) => drawLine(call, line, beside))));
   return row;
 }
 
-/** A run hit by hit, beside another one. @param {any} campaign @param {{number: number, scenario: string}} plan @param {boolean} open */
-function drawRun({ runs, names, call }, { number, scenario }, open) {
-  const run = runs.get(runKey(number, scenario));
-  if (!run) return null;
-  const other = runBeside(runs, run, names);
+/** What came of two runs, below their hits. @param {any} campaign @param {import("./run.js").Run} run @param {import("./run.js").Run|null} other */
+function drawEnds(campaign, run, other) {
+  const cells = ({ verdict }) => {
+    const [word, code = null] = verdict.startsWith("fail ") ? ["fail", verdict.slice("fail ".length)] : [verdict];
+    return [element("td"), element("td", {}, verdictMark(campaign, { verdict: word, code }))];
+  };
+  return element("tr", { class: "ends" }, ...cells(run), ...(other ? cells(other) : []));
+}
+
+/** @param {import("./run.js").Run} other */
+function besideWords({ scenario }) {
+  return `the run ${scenario === "" ? "without faults" : "without its last fault"}`;
+}
+
+/** @param {any} campaign @param {import("./run.js").Run} run @param {import("./run.js").Run|null} other */
+function drawHits(campaign, run, other) {
+  const { names, call } = campaign;
   const beside = other !== null;
   const lines = linesOf(run, other, names);
   const pieces = foldLines(beside ? lines : lines.map((line) => ({ ...line, same: true })));
   const rows = pieces.map((piece) => (piece.fold ? drawFold(call, piece, beside) : drawLine(call, piece.line, beside)));
-  const otherWords = other && `the run ${other.scenario === "" ? "without faults" : "without its last fault"}`;
-  const heads = [element("th", { class: "number" }, "hit"), element("th", {}, "this run"), beside ? element("th", {}, otherWords) : null];
-  const head = element("thead", {}, element("tr", {}, ...heads));
-  const notes = [run.more > 0 ? `${counted(run.more, "further hit")} of this run ${run.more === 1 ? "isn\u2019t" : "aren\u2019t"} told.` : null, endWords(run)];
-  return element("details", { class: "run", open },
-    element("summary", {}, `The run, hit by hit${beside ? `, beside ${otherWords}` : ""}`),
-    element("div", { class: "scroll" }, element("table", { class: "hits" }, head, element("tbody", {}, ...rows))),
-    ...notes.filter((note) => note !== null).map((note) => element("p", { class: "muted" }, note)));
+  const head = (words) => [element("th", { class: "number" }, "hit"), element("th", {}, words)];
+  const heads = element("thead", {}, element("tr", {}, ...head("this run"), ...(other ? head(besideWords(other)) : [])));
+  const files = [...filesOfFaults(lines)];
+  const notes = [
+    files.length > 0 ? `In bold: hits of the same file as ${files.length === 1 ? "the fault\u2019s" : "a fault\u2019s"}, ${listed(files)}.` : null,
+    lines.some(({ here, there }) => here?.point === KEEP || there?.point === KEEP)
+      ? "A pending change is one that no sync has made last. A power cut may keep any of them." : null,
+    run.more > 0 ? `${counted(run.more, "further hit")} of this run ${run.more === 1 ? "isn\u2019t" : "aren\u2019t"} told.` : null,
+    endWords(run),
+  ];
+  return [
+    element("div", { class: "scroll" }, element("table", { class: beside ? "hits two" : "hits" }, heads, element("tbody", {}, ...rows, drawEnds(campaign, run, other)))),
+    ...notes.filter((note) => note !== null).map((note) => element("p", { class: "muted" }, note)),
+  ];
+}
+
+/** A run hit by hit, beside another one, read and drawn when it is opened. @param {any} campaign @param {{number: number, scenario: string}} plan @param {boolean} open */
+function drawRun(campaign, { number, scenario }, open) {
+  const { runs } = campaign;
+  if (!runs.has(number, scenario)) return null;
+  const made = element("details", { class: "run", open }, element("summary", {}, "The run, hit by hit"));
+  const draw = () => {
+    const run = runs.of(number, scenario);
+    made.append(...drawHits(campaign, run, runs.beside(run)));
+  };
+  if (open) draw();
+  else made.addEventListener("toggle", draw, { once: true });
+  return made;
 }
 
 /** @param {{end: string|null}} run */
@@ -1928,7 +2159,7 @@ function drawFinding(campaign, finding, index) {
   const planned = finding.reduced === finding.scenario ? null
     : element("p", { class: "muted" }, `Reduced, in ${counted(finding.tests, "test")}, from `, scenarioCode(finding.scenario));
   return element("article", { id: `first-${finding.number}`, class: "finding" },
-    element("h3", {}, verdictMark(campaign, { verdict: "fail", code: finding.code }), " ", planLink(finding.number)),
+    element("h3", {}, verdictMark(campaign, { verdict: "fail", code: finding.code }), ", ", planLink(finding.number)),
     element("p", { class: "words" }, sentence(wordsOfNumbered(campaign, finding.number, finding.reduced))),
     element("p", {}, scenarioCode(finding.reduced)),
     planned,
@@ -1949,15 +2180,15 @@ function drawFindings(campaign) {
 function drawCause(campaign, cause) {
   const mark = verdictMark(campaign, { verdict: "fail", code: cause.code });
   return element("li", { id: `cause-${cause.number}` },
-    element("p", {}, mark, " ", planLink(cause.number), ": ", sentence(wordsOfNumbered(campaign, cause.number, cause.scenario))),
+    element("p", {}, mark, ", ", planLink(cause.number), ": ", sentence(wordsOfNumbered(campaign, cause.number, cause.scenario))),
     scenarioCode(cause.scenario),
     drawRun(campaign, cause, false));
 }
 
 /** @param {any} campaign @param {string[]} points */
 function groupWords({ call }, points) {
-  const calls = points.filter((point) => point !== KEEP).map(call);
-  const kept = points.includes(KEEP) ? "what the power cut keeps" : null;
+  const calls = points.filter((point) => point !== KEEP && point !== TEAR).map(call);
+  const kept = points.includes(KEEP) || points.includes(TEAR) ? "what the power cut keeps" : null;
   return listed([...calls, ...(kept ? [kept] : [])]) || "no fault";
 }
 
@@ -2020,8 +2251,9 @@ function drawMap(campaign, chosen) {
 /** What the map shows. Only of plans that grew it is known which fault acts first. @param {any} campaign */
 function mapWords({ told }) {
   const down = told.growth ? "acts first, in the order of the run without faults" : "its scenario names first";
-  return `Each mark is a plan. Down stands the fault that ${down}; across, how many faults it has. In a row the marks stand in the order of their plans\u2019 `
-    + "numbers. A column closes and opens by its head.";
+  const onward = told.growth?.onward > 0 ? " Under \u201con\u201d the last fault goes on from then on." : "";
+  return `Each mark is a plan. Down stands the fault that ${down}; across, how many faults it has.${onward} In a row the marks stand in the order of their `
+    + "plans\u2019 numbers. A column closes and opens by its head.";
 }
 
 /** What is told of the plan that was chosen. @param {any} campaign @param {number} number */
@@ -2137,7 +2369,7 @@ function drawAgain({ told: { seed, about } }) {
   const items = [["seed", seed], ["program", `paklour ${about.program_version}`], ["command", about.command]];
   const rows = items.map(([name, value]) =>
     element("tr", {}, element("th", { scope: "row" }, name), element("td", {}, element("code", {}, value))));
-  return section("Again", "again",
+  return section("Made again", "again",
     element("table", {}, element("tbody", {}, ...rows)),
     preformatted(about.settings));
 }
@@ -2153,8 +2385,9 @@ function drawPage(campaign) {
   };
   const { made, view } = drawMap(campaign, choose);
   made.append(chosen);
-  const parts = [drawHeader(campaign), drawFindings(campaign), drawCauses(campaign), made, drawPoints(campaign), drawPlans(campaign), drawAgain(campaign)];
-  document.getElementById("page").replaceChildren(...parts.filter((part) => part !== null));
+  const parts = [drawFindings(campaign), drawCauses(campaign), made, drawPoints(campaign), drawPlans(campaign), drawAgain(campaign)];
+  const sections = parts.filter((part) => part !== null);
+  document.getElementById("page").replaceChildren(drawHeader(campaign), drawContents(sections), ...sections);
   view.fit(view.box.clientWidth);
   followHash(view, choose, chosen);
 }
