@@ -21,7 +21,7 @@ export function planWords(campaign, plan) {
  * @param {string} scenario
  */
 export function wordsOfNumbered(campaign, number, scenario) {
-  const plan = campaign.byNumber.get(number);
+  const plan = campaign.plans[number];
   return plan.text === scenario ? planWords(campaign, plan) : wordsOfScenario(scenario, campaign.call);
 }
 

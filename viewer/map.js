@@ -24,7 +24,7 @@ const FEWEST_SLOTS = 4;
 
 /**
  * The rows of the map, and the row of each plan: the run without faults; a first fault's hit; a list that didn't grow (storms and the like).
- * @param {{plans: Plan[], byNumber: Map<number, Plan>, names: string[]}} campaign
+ * @param {{plans: Plan[], names: string[]}} campaign
  */
 export function rowsOf(campaign) {
   const rows = [];

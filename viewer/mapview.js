@@ -39,7 +39,7 @@ export function labelWidth(characters, width) {
 export function stripPaths(campaign, strip, cell) {
   const paths = new Map();
   strip.numbers.forEach((number, index) => {
-    const mark = markOf(campaign.byNumber.get(number), campaign.codes);
+    const mark = markOf(campaign.plans[number], campaign.codes);
     const path = markPath(mark, (index % strip.slots) * cell, Math.floor(index / strip.slots) * cell, cell);
     paths.set(mark, (paths.get(mark) ?? "") + path);
   });
@@ -48,7 +48,7 @@ export function stripPaths(campaign, strip, cell) {
 
 /** How many plans a strip has, and how many fail. @param {any} campaign @param {Strip} strip */
 function stripWords(campaign, strip) {
-  const fail = strip.numbers.filter((number) => campaign.byNumber.get(number).verdict === "fail").length;
+  const fail = strip.numbers.filter((number) => campaign.plans[number].verdict === "fail").length;
   return `${counted(strip.numbers.length, "plan")}${fail > 0 ? `, ${grouped(fail)} ${fail === 1 ? "fails" : "fail"}` : ""}`;
 }
 
@@ -237,11 +237,11 @@ export class MapView {
     for (const old of this.grid.querySelectorAll(".frame-selected, .frame-before, #map-current")) old.remove();
     this.grid.removeAttribute("aria-activedescendant");
     if (this.selected === null) return;
-    let plan = this.campaign.byNumber.get(this.selected);
+    let plan = this.campaign.plans[this.selected];
     this.frame(this.selected, "frame-selected");
     while (plan?.parent !== null && plan !== undefined) {
       this.frame(plan.parent, "frame-before");
-      plan = this.campaign.byNumber.get(plan.parent);
+      plan = this.campaign.plans[plan.parent];
     }
     this.drawCurrent(this.selected);
   }

@@ -214,7 +214,7 @@ function drawCauses(campaign) {
 
 /** @param {any} campaign @param {number} number */
 function tellPlan(campaign, number) {
-  const plan = campaign.byNumber.get(number);
+  const plan = campaign.plans[number];
   return `plan ${number}, ${verdictWords(plan)}: ${planWords(campaign, plan)}`;
 }
 
@@ -254,7 +254,7 @@ function mapWords({ told }) {
 
 /** What is told of the plan that was chosen. @param {any} campaign @param {number} number */
 function drawChosen(campaign, number) {
-  const plan = campaign.byNumber.get(number);
+  const plan = campaign.plans[number];
   if (!plan) return [element("p", {}, `Plan ${number} isn\u2019t in this campaign.`)];
   return [
     element("h3", {}, `Plan ${number} `, verdictMark(campaign, plan)),
@@ -399,7 +399,7 @@ function followHash(view, choose, chosen) {
     const match = /^#plan-(\d+)$/.exec(location.hash);
     if (!match) return;
     const number = Number(match[1]);
-    view.select(view.campaign.byNumber.has(number) ? number : null);
+    view.select(number < view.campaign.plans.length ? number : null);
     choose(number);
     chosen.scrollIntoView({ block: "center" });
   };

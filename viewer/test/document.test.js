@@ -61,7 +61,7 @@ test("a document that lacks something, or contradicts itself, is refused with wh
 test("runs are the document's, null where nobody told one, each beside its parent's where that is told", () => {
   const looked = { told: 0, lacking: 0, beside: 0 };
   for (const { name, json } of reports()) {
-    const { told: { findings, growth, about }, runs, byNumber } = campaignOf(readDocument(json));
+    const { told: { findings, growth, about }, runs, plans } = campaignOf(readDocument(json));
     const items = [...findings.map(({ number, reduced }, at) => [number, reduced, about.finding_runs[at]]),
       ...(growth?.causes ?? []).map(({ number, scenario }, at) => [number, scenario, about.cause_runs[at]])].filter(([, , run]) => run !== undefined);
     for (const [number, scenario, run] of items) {
@@ -71,7 +71,7 @@ test("runs are the document's, null where nobody told one, each beside its paren
         looked.told += 1;
       }
       if (!run?.parent) continue;
-      assert.equal(runs.beside(runs.of(number, scenario)).scenario, byNumber.get(byNumber.get(number).parent).text, name);
+      assert.equal(runs.beside(runs.of(number, scenario)).scenario, plans[plans[number].parent].text, name);
       looked.beside += 1;
     }
   }
@@ -114,7 +114,7 @@ test("a plan has its parent's faults and one more, and its level tells how many"
     const campaign = campaignOf(readDocument(json));
     for (const plan of campaign.plans.filter((one) => one.fault)) {
       const faults = faultsOf(campaign, plan);
-      assert.deepEqual(faultsOf(campaign, campaign.byNumber.get(plan.parent)), faults.slice(0, -1), name);
+      assert.deepEqual(faultsOf(campaign, campaign.plans[plan.parent]), faults.slice(0, -1), name);
       assert.equal(faults.length, plan.part.level, `${name} ${plan.number}`);
     }
   }
@@ -142,7 +142,7 @@ test("filters give what a straightforward search gives", () => {
         const verdict = told.get(number) ?? "pass";
         return (filter.verdict === "" || verdict === filter.verdict || verdict.split(" ")[0] === filter.verdict)
           && (filter.point === "" || names(texts[number], filter.point))
-          && (filter.level === "" || filter.level === levelKeyOf(campaign.byNumber.get(number)))
+          && (filter.level === "" || filter.level === levelKeyOf(campaign.plans[number]))
           && [String(number), texts[number].toLowerCase()].some((one) => one.includes(filter.text.toLowerCase()));
       });
       assert.deepEqual(filterPlans(campaign, filter).map((plan) => plan.number), wanted, `${name} ${JSON.stringify(filter)}`);

@@ -89,11 +89,11 @@ export function keptBrief(name) {
 export function explainedReport(name) {
   const { settings, input } = kept(name);
   const document = JSON.parse(keptReport(name));
-  const { byNumber } = campaignOf(document);
+  const { plans } = campaignOf(document);
   const explain = (scenario) => ({ explained: told(["report", "--explain", scenario === "" ? "none" : scenario, settings], { input }) });
   const runOf = (number, scenario) => {
-    const { parent } = byNumber.get(number);
-    return parent ? { ...explain(scenario), parent: explain(byNumber.get(parent).text) } : explain(scenario);
+    const { parent } = plans[number];
+    return parent ? { ...explain(scenario), parent: explain(plans[parent].text) } : explain(scenario);
   };
   document.about.clean_run = explain("");
   document.about.finding_runs = document.findings.map(({ number, reduced }) => runOf(number, reduced));

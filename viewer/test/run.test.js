@@ -13,7 +13,7 @@ const saved = () => campaignBy(keptReport("save"));
 
 test("plans in words, of the program in the tutorial", () => {
   const campaign = saved();
-  const words = (number) => planWords(campaign, campaign.byNumber.get(number));
+  const words = (number) => planWords(campaign, campaign.plans[number]);
   assert.equal(words(31), "the 1st fsync fails; the power cut keeps the 3rd pending change");
   assert.equal(wordsOfNumbered(campaign, 31, campaign.told.findings[0].reduced), words(31));
   assert.equal(wordsOfNumbered(campaign, 31, "libc::fsync=1*return"), "the 1st fsync fails");
@@ -30,8 +30,8 @@ test("a plan that grew is told in the order in which its faults act", () => {
   const number = document.about.grown.indexOf("0 1 1*return; 5 1 1*panic");
   document.about.grown[number] = "5 1 1*return; 0 1 1*panic";
   const campaign = campaignBy(JSON.stringify(document));
-  assert.equal(planWords(campaign, campaign.byNumber.get(number)), "the 1st rename fails; the program ends at the 1st open");
-  assert.equal(campaign.byNumber.get(number).text, "libc::open=1*panic;libc::rename=1*return");
+  assert.equal(planWords(campaign, campaign.plans[number]), "the 1st rename fails; the program ends at the 1st open");
+  assert.equal(campaign.plans[number].text, "libc::open=1*panic;libc::rename=1*return");
 });
 
 const steps = (explained, names) => readRun("", { explained }, names).steps.map(({ point, answer }) => [point, answer]);
@@ -225,7 +225,7 @@ test("how many plans grew from one", () => {
   const campaign = saved();
   const grew = (number) => {
     const known = campaign.plans.filter((plan) => {
-      for (let at = plan.parent; at !== null; at = campaign.byNumber.get(at).parent) if (at === number) return true;
+      for (let at = plan.parent; at !== null; at = campaign.plans[at].parent) if (at === number) return true;
       return false;
     });
     return { plans: known.length, fail: known.filter((plan) => plan.verdict === "fail").length };

@@ -7,7 +7,7 @@ pub const BEFORE: &str = r###"<!doctype html>
 <meta charset="utf-8">
 <meta name="viewport" content="width=device-width, initial-scale=1">
 <meta name="color-scheme" content="light dark">
-<meta http-equiv="Content-Security-Policy" content="default-src 'none'; style-src 'sha256-9XUKVvW3GMnCjUGrM4mFQTXiOxoE1PcW35fiChkVAWk='; script-src 'sha256-89dnXl/hK/HzTVLiAeRPNVz9XVwOp7eZFVzXVolLbho='; base-uri 'none'; form-action 'none'">
+<meta http-equiv="Content-Security-Policy" content="default-src 'none'; style-src 'sha256-9XUKVvW3GMnCjUGrM4mFQTXiOxoE1PcW35fiChkVAWk='; script-src 'sha256-TYjIWAfbLtkjSBi6feUWyrqo6s2Q2tmvhNvChfUzkkU='; base-uri 'none'; form-action 'none'">
 <title>Paklour report</title>
 <style>
 :root {
@@ -248,21 +248,34 @@ const BETWEEN_FAULTS = "; ";
 const FAULT = /^(\d+) (\d+) (1\*panic|(?:1\*)?return(?:\(.*\))?)$/s;
 
 /**
- * The plans that grew: each is an earlier one's text with one fault more. Null stands where a text isn't that.
+ * The plans that grew: each is an earlier one's text with one fault more. Null stands where a text isn't that. Many
+ * plans have the same fault, which is read once, and the same parent as the one before.
  * @param {any} told
  * @returns {(Row|null)[]}
  */
 function grownRows({ census, about }) {
   const numbers = new Map();
+  const faults = new Map();
+  const faultOf = (text) => {
+    if (!faults.has(text)) faults.set(text, readFault(text, census.length));
+    return faults.get(text);
+  };
+  let [before, parent] = ["", 0];
   return about.grown.map((text, number) => {
     numbers.set(text, number);
     if (number === 0) return text === "" ? WITHOUT_FAULTS : null;
     const cut = text.lastIndexOf(BETWEEN_FAULTS);
-    const parent = numbers.get(text.slice(0, Math.max(cut, 0)));
-    const match = FAULT.exec(cut < 0 ? text : text.slice(cut + BETWEEN_FAULTS.length));
-    if (parent === undefined || !match || Number(match[1]) >= census.length) return null;
-    return { parent, fault: { point: Number(match[1]), hit: Number(match[2]), kind: match[3] }, text: null };
+    const isOfSame = before.length === Math.max(cut, 0) && text.startsWith(before);
+    if (!isOfSame) [before, parent] = [text.slice(0, Math.max(cut, 0)), numbers.get(text.slice(0, Math.max(cut, 0)))];
+    const fault = faultOf(cut < 0 ? text : text.slice(cut + BETWEEN_FAULTS.length));
+    return parent === undefined || fault === null ? null : { parent, fault, text: null };
   });
+}
+
+/** @param {string} text @param {number} points how many there are @returns {Fault|null} */
+function readFault(text, points) {
+  const match = FAULT.exec(text);
+  return match && Number(match[1]) < points ? { point: Number(match[1]), hit: Number(match[2]), kind: match[3] } : null;
 }
 
 /** The plans at hits of the run without faults: each fails once, from then on, and panics. @param {any} told @returns {Row[]} */
@@ -401,20 +414,51 @@ function chainOf(faults) {
   return terms.join("->");
 }
 
+/** @typedef {{point: number, hit: number, kind: string}} SingleFault */
+/** What a scenario says of one point. @typedef {{point: number, faults: SingleFault[], text: string}} Share */
+
+/** @param {number} point @param {SingleFault[]} faults by their hits @param {string[]} names @returns {Share} */
+function shareOf(point, faults, names) {
+  return { point, faults, text: `${names[point]}=${chainOf(faults)}` };
+}
+
 /**
- * The scenario of faults that each act at one hit, or from there on: as the program spells it, points in the order of the catalogue.
- * @param {{point: number, hit: number, kind: string}[]} faults
- * @param {string[]} points
+ * What the scenario of faults that each act at one hit, or from there on, says of each point, in the order of the catalogue.
+ * @param {SingleFault[]} faults
+ * @param {string[]} names
+ * @returns {Share[]}
  */
-function spell(faults, points) {
-  const sorted = [...faults].sort((one, other) => one.point - other.point || one.hit - other.hit);
+function sharesOf(faults, names) {
+  const points = [...new Set(faults.map(({ point }) => point))].sort((one, other) => one - other);
+  return points.map((point) =>
+    shareOf(point, faults.filter((fault) => fault.point === point).sort((one, other) => one.hit - other.hit), names));
+}
+
+/** The scenario of faults, as the program spells it. @param {SingleFault[]} faults @param {string[]} names */
+function spell(faults, names) {
+  return sharesOf(faults, names).map(({ text }) => text).join(";");
+}
+
+/**
+ * A scenario with one fault more, of which what it says of other points stays.
+ * @param {Share[]} shares
+ * @param {SingleFault} fault
+ * @param {string[]} names
+ */
+function spellWith(shares, fault, names) {
+  const own = shares.find(({ point }) => point === fault.point);
+  const [{ text: added }] = own ? sharesOf([...own.faults, fault], names) : [shareOf(fault.point, [fault], names)];
   let text = "";
-  for (let begin = 0, end = 0; begin < sorted.length; begin = end) {
-    const { point } = sorted[begin];
-    while (end < sorted.length && sorted[end].point === point) end += 1;
-    text += `${begin > 0 ? ";" : ""}${points[point]}=${chainOf(sorted.slice(begin, end))}`;
+  let isIn = false;
+  for (const share of shares) {
+    if (!isIn && share.point >= fault.point) {
+      text += text === "" ? added : `;${added}`;
+      isIn = true;
+    }
+    if (share !== own) text += text === "" ? share.text : `;${share.text}`;
   }
-  return text;
+  if (isIn) return text;
+  return text === "" ? added : `${text};${added}`;
 }
 
 // A run hit by hit, beside another one.
@@ -942,9 +986,12 @@ const digits = is("a text of digits", (value) => typeof value === "string" && /^
 const verdict = is("a verdict", (value) => VERDICTS.includes(value));
 const orNull = (check) => (value, path) => (value === null ? [] : check(value, path));
 
-/** @param {Check} check @returns {Check} */
-const list = (check) => (value, path) =>
-  Array.isArray(value) ? value.flatMap((item, index) => check(item, `${path}[${index}]`)) : [`${path} isn't a list`];
+/** Its items are checked once more where one is wrong: most lists are right, and may be long. @param {Check} check @returns {Check} */
+const list = (check) => (value, path) => {
+  if (!Array.isArray(value)) return [`${path} isn't a list`];
+  if (value.every((item) => check(item, path).length === 0)) return [];
+  return value.flatMap((item, index) => check(item, `${path}[${index}]`));
+};
 
 /** @param {Record<string, Check>} needed @param {Record<string, Check>} [optional] @returns {Check} */
 const members = (needed, optional = {}) => (value, path) => {
@@ -1053,25 +1100,37 @@ function numbered(sizes) {
 
 /** @param {any} told @param {Part[]} parts @returns {Plan[]} */
 function plansOf(told, parts) {
-  const notPassed = new Map(told.not_passed.map((item) => [item.number, item]));
   const rows = rowsOfPlans(told);
   if (rows.length !== told.counts.plans) throw new ReadError(["the plans that are told aren't as many as are counted"]);
   if (rows.includes(null)) throw new ReadError([`about.grown[${rows.indexOf(null)}] isn't a plan that grew`]);
-  const planAt = (number, part) => {
-    const item = notPassed.get(number);
-    const { parent, fault, text } = rows[number];
-    return { number, part, verdict: item?.verdict ?? "pass", code: item?.code ?? null, parent, fault, text: item?.scenario ?? text };
-  };
-  return parts.flatMap((part) => Array.from({ length: part.count }, (_, index) => planAt(part.first + index, part)));
+  const plans = [];
+  for (const part of parts) {
+    for (let number = part.first; number < part.first + part.count; number += 1) {
+      const { parent, fault, text } = rows[number];
+      plans.push({ number, part, verdict: "pass", code: null, parent, fault, text });
+    }
+  }
+  for (const { number, verdict, code, scenario } of told.not_passed) Object.assign(plans[number], { verdict, code, text: scenario });
+  return plans;
+}
+
+/** Spells the plans that grew. Those with the same parent follow each other mostly, so its scenario is made once. @param {Plan[]} plans @param {string[]} names */
+function spellPlans(plans, names) {
+  let [parent, shares] = [-1, []];
+  for (const plan of plans) {
+    if (plan.text !== null) continue;
+    if (plan.parent !== parent) [parent, shares] = [plan.parent, sharesOf(faultsOf({ plans }, plans[plan.parent]), names)];
+    plan.text = spellWith(shares, plan.fault, names);
+  }
 }
 
 /** The runs that a document tells. @param {any} campaign */
-function runsOf({ told: { findings, growth, about }, byNumber, names }) {
+function runsOf({ told: { findings, growth, about }, plans, names }) {
   const runs = new Runs(names);
   runs.add(0, "", about.clean_run);
   const add = (number, scenario, run) => {
-    const { text, parent } = byNumber.get(number);
-    runs.add(number, scenario, run, text === scenario && parent !== null ? byNumber.get(parent).text : null);
+    const { text, parent } = plans[number];
+    runs.add(number, scenario, run, text === scenario && parent !== null ? plans[parent].text : null);
   };
   about.finding_runs.forEach((run, index) => add(findings[index].number, findings[index].reduced, run));
   about.cause_runs.forEach((run, index) => add(growth.causes[index].number, growth.causes[index].scenario, run));
@@ -1085,27 +1144,26 @@ function runsOf({ told: { findings, growth, about }, byNumber, names }) {
 function campaignOf(told) {
   const parts = partsOf(told);
   const plans = plansOf(told, parts);
-  const byNumber = new Map(plans.map((plan) => [plan.number, plan]));
   const codes = [...new Set(told.findings.map((finding) => finding.code))];
   const reached = told.growth && new Map(told.growth.reached.map((item) => [item.point, item.hits]));
   const names = told.census.map((item) => item.point);
   const campaign = {
-    told, parts, plans, byNumber, codes, names, call: callsOf(names),
+    told, parts, plans, codes, names, call: callsOf(names),
     points: told.census.map(({ point, hits }) => ({ point, clean: hits, reached: reached ? reached.get(point) ?? null : null })),
   };
-  for (const plan of plans) plan.text ??= spell(faultsOf(campaign, plan), names);
+  spellPlans(plans, names);
   return { ...campaign, runs: runsOf(campaign) };
 }
 
 /**
  * The faults of a plan that grew from others, in the order of time; none of any other plan.
- * @param {{byNumber: Map<number, Plan>}} campaign
+ * @param {{plans: Plan[]}} campaign
  * @param {Plan} plan
  * @returns {Fault[]}
  */
 function faultsOf(campaign, plan) {
   const faults = [];
-  for (let one = plan; one?.fault; one = campaign.byNumber.get(one.parent)) faults.push(one.fault);
+  for (let one = plan; one?.fault; one = campaign.plans[one.parent]) faults.push(one.fault);
   return faults.reverse();
 }
 
@@ -1117,24 +1175,25 @@ function levelKeyOf(plan) {
 
 /**
  * The plans that a filter lets through; a member that is empty lets all.
- * @param {{plans: Plan[], byNumber: Map<number, Plan>, names: string[]}} campaign
+ * @param {{plans: Plan[], names: string[]}} campaign
  * @param {{verdict?: string, point?: string, level?: string, text?: string}} filter `verdict` is a verdict, or `fail` and a code behind a blank; `text` stands
  *   in the scenario, small or large, or in the number
  */
 function filterPlans(campaign, { verdict = "", point = "", level = "", text = "" }) {
-  const wanted = text.trim();
-  const pattern = new RegExp(wanted.replace(/[\\^$.*+?()[\]{}|]/g, "\\$&"), "i");
+  const wanted = text.trim().toLowerCase();
+  const place = campaign.names.indexOf(point);
+  if (wanted !== "") campaign.lowered ??= campaign.plans.map((plan) => plan.text.toLowerCase());
   return campaign.plans.filter((plan) =>
     (verdict === "" || verdict === plan.verdict || (plan.code !== null && verdict === `${plan.verdict} ${plan.code}`))
     && (level === "" || level === levelKeyOf(plan))
-    && (point === "" || hasFaultAt(campaign, plan, point))
-    && (wanted === "" || pattern.test(plan.text) || String(plan.number).includes(wanted)));
+    && (point === "" || hasFaultAt(campaign, plan, point, place))
+    && (wanted === "" || campaign.lowered[plan.number].includes(wanted) || String(plan.number).includes(wanted)));
 }
 
-/** Whether a plan has a fault at this point. @param {any} campaign @param {Plan} plan @param {string} point */
-function hasFaultAt({ byNumber, names }, plan, point) {
+/** Whether a plan has a fault at this point. @param {any} campaign @param {Plan} plan @param {string} point @param {number} place */
+function hasFaultAt({ plans }, plan, point, place) {
   if (!plan.fault) return (clausesOf(plan.text) ?? []).some((clause) => clause.point === point);
-  for (let one = plan; one?.fault; one = byNumber.get(one.parent)) if (names[one.fault.point] === point) return true;
+  for (let one = plan; one?.fault; one = plans[one.parent]) if (one.fault.point === place) return true;
   return false;
 }
 
@@ -1158,7 +1217,7 @@ function planWords(campaign, plan) {
  * @param {string} scenario
  */
 function wordsOfNumbered(campaign, number, scenario) {
-  const plan = campaign.byNumber.get(number);
+  const plan = campaign.plans[number];
   return plan.text === scenario ? planWords(campaign, plan) : wordsOfScenario(scenario, campaign.call);
 }
 
@@ -1361,7 +1420,7 @@ const FEWEST_SLOTS = 4;
 
 /**
  * The rows of the map, and the row of each plan: the run without faults; a first fault's hit; a list that didn't grow (storms and the like).
- * @param {{plans: Plan[], byNumber: Map<number, Plan>, names: string[]}} campaign
+ * @param {{plans: Plan[], names: string[]}} campaign
  */
 function rowsOf(campaign) {
   const rows = [];
@@ -1777,7 +1836,7 @@ function labelWidth(characters, width) {
 function stripPaths(campaign, strip, cell) {
   const paths = new Map();
   strip.numbers.forEach((number, index) => {
-    const mark = markOf(campaign.byNumber.get(number), campaign.codes);
+    const mark = markOf(campaign.plans[number], campaign.codes);
     const path = markPath(mark, (index % strip.slots) * cell, Math.floor(index / strip.slots) * cell, cell);
     paths.set(mark, (paths.get(mark) ?? "") + path);
   });
@@ -1786,7 +1845,7 @@ function stripPaths(campaign, strip, cell) {
 
 /** How many plans a strip has, and how many fail. @param {any} campaign @param {Strip} strip */
 function stripWords(campaign, strip) {
-  const fail = strip.numbers.filter((number) => campaign.byNumber.get(number).verdict === "fail").length;
+  const fail = strip.numbers.filter((number) => campaign.plans[number].verdict === "fail").length;
   return `${counted(strip.numbers.length, "plan")}${fail > 0 ? `, ${grouped(fail)} ${fail === 1 ? "fails" : "fail"}` : ""}`;
 }
 
@@ -1975,11 +2034,11 @@ class MapView {
     for (const old of this.grid.querySelectorAll(".frame-selected, .frame-before, #map-current")) old.remove();
     this.grid.removeAttribute("aria-activedescendant");
     if (this.selected === null) return;
-    let plan = this.campaign.byNumber.get(this.selected);
+    let plan = this.campaign.plans[this.selected];
     this.frame(this.selected, "frame-selected");
     while (plan?.parent !== null && plan !== undefined) {
       this.frame(plan.parent, "frame-before");
-      plan = this.campaign.byNumber.get(plan.parent);
+      plan = this.campaign.plans[plan.parent];
     }
     this.drawCurrent(this.selected);
   }
@@ -2218,7 +2277,7 @@ function drawCauses(campaign) {
 
 /** @param {any} campaign @param {number} number */
 function tellPlan(campaign, number) {
-  const plan = campaign.byNumber.get(number);
+  const plan = campaign.plans[number];
   return `plan ${number}, ${verdictWords(plan)}: ${planWords(campaign, plan)}`;
 }
 
@@ -2258,7 +2317,7 @@ function mapWords({ told }) {
 
 /** What is told of the plan that was chosen. @param {any} campaign @param {number} number */
 function drawChosen(campaign, number) {
-  const plan = campaign.byNumber.get(number);
+  const plan = campaign.plans[number];
   if (!plan) return [element("p", {}, `Plan ${number} isn\u2019t in this campaign.`)];
   return [
     element("h3", {}, `Plan ${number} `, verdictMark(campaign, plan)),
@@ -2403,7 +2462,7 @@ function followHash(view, choose, chosen) {
     const match = /^#plan-(\d+)$/.exec(location.hash);
     if (!match) return;
     const number = Number(match[1]);
-    view.select(view.campaign.byNumber.has(number) ? number : null);
+    view.select(number < view.campaign.plans.length ? number : null);
     choose(number);
     chosen.scrollIntoView({ block: "center" });
   };
