@@ -235,12 +235,18 @@ export function levelKeyOf(plan) {
 export function filterPlans(campaign, { verdict = "", point = "", level = "", text = "" }) {
   const wanted = text.trim().toLowerCase();
   const place = campaign.names.indexOf(point);
-  if (wanted !== "") campaign.lowered ??= campaign.plans.map((plan) => plan.text.toLowerCase());
+  const lowered = wanted === "" ? [] : loweredTexts(campaign);
   return campaign.plans.filter((plan) =>
     (verdict === "" || verdict === plan.verdict || (plan.code !== null && verdict === `${plan.verdict} ${plan.code}`))
     && (level === "" || level === levelKeyOf(plan))
     && (point === "" || hasFaultAt(campaign, plan, point, place))
-    && (wanted === "" || campaign.lowered[plan.number].includes(wanted) || String(plan.number).includes(wanted)));
+    && (wanted === "" || lowered[plan.number].includes(wanted) || String(plan.number).includes(wanted)));
+}
+
+/** The scenarios of all plans, in small letters. They are made once: a page asks for them before anybody filters. @param {any} campaign @returns {string[]} */
+export function loweredTexts(campaign) {
+  campaign.lowered ??= campaign.plans.map((plan) => plan.text.toLowerCase());
+  return campaign.lowered;
 }
 
 /** Whether a plan has a fault at this point. @param {any} campaign @param {Plan} plan @param {string} point @param {number} place */

@@ -62,7 +62,8 @@ export class MapView {
     Object.assign(this, { campaign, label, tell, chosen });
     this.closed = new Set();
     this.cell = cellFor(campaign.plans.length);
-    this.longest = Math.max(0, ...rowsOf(campaign).rows.map((row) => label(row).length));
+    this.known = rowsOf(campaign);
+    this.longest = this.known.rows.reduce((most, row) => Math.max(most, label(row).length), 0);
     this.selected = null;
     this.firsts = new Set(campaign.told.findings.map((finding) => finding.number));
     this.grid = element("div", { class: "map", role: "grid", tabindex: "0", "aria-label": "Map of plans", "aria-describedby": "map-keys" });
@@ -112,7 +113,7 @@ export class MapView {
   draw() {
     const labels = this.width < NARROW ? 0 : labelWidth(this.longest, this.width);
     const width = Math.max(this.width - labels - SIDES, Math.ceil((this.campaign.plans.length * this.cell ** 2) / this.tall));
-    this.layout = layoutMap(this.campaign, { width, cell: this.cell, closed: this.closed });
+    this.layout = layoutMap(this.campaign, { width, cell: this.cell, closed: this.closed }, this.known);
     this.box.classList.toggle("narrow", labels === 0);
     this.box.style.setProperty("--labels", `${labels}px`);
     this.grid.setAttribute("aria-rowcount", String(this.layout.bands.length + 1));

@@ -1,6 +1,6 @@
 // Draws the page: what came of a campaign, from its document.
 import { descendantsOf, explainCommand, groupByCalls, planWords, wordsOfNumbered } from "./describe.js";
-import { ReadError, campaignOf, filterPlans, levelKeyOf, readDocument } from "./document.js";
+import { ReadError, campaignOf, filterPlans, levelKeyOf, loweredTexts, readDocument } from "./document.js";
 import { drawSome, element, markIcon, preformatted, section } from "./dom.js";
 import { MapView } from "./mapview.js";
 import { markOf } from "./marks.js";
@@ -11,7 +11,7 @@ import { answerWords, counted, grouped, listed, ordinal, sentence, shown } from 
 
 /** @typedef {import("./document.js").Plan} Plan */
 
-const SHOWN_PLANS = 100;
+const SHOWN_PLANS = 50;
 const SHOWN_CAUSES = 10;
 const KEYS = "Arrow keys lead from plan to plan, Home and End along a line, Page Up and Page Down further; Enter tells more of a plan.";
 
@@ -425,6 +425,7 @@ export function start() {
   try {
     const campaign = campaignOf(readDocument(document.getElementById("document").textContent));
     drawPage(campaign);
+    requestIdleCallback(() => loweredTexts(campaign));
     document.title = shown(`${campaign.told.label} \u2013 Paklour`);
     document.getElementById("brief").open = false;
   } catch (error) {

@@ -252,23 +252,25 @@ describe("in Chromium", { skip: program === null ? "Chromium isn't installed, so
     assert.equal(await browser.evaluate("document.querySelector('#brief pre').checkVisibility()"), false);
   });
 
-  test("65,536 plans are shown, and filtered", async (context) => {
+  test("65,536 plans are shown in two seconds, and filtered in a tenth of one, of the page's thread", async (context) => {
     for (const depth of [2, 8]) {
       await open(largestDocument(depth).document);
-      const shownAfter = await browser.evaluate("performance.getEntriesByType('navigation')[0].loadEventEnd");
-      const filtered = await browser.evaluate(`(() => {
-        const text = document.getElementById("by-text");
-        document.getElementById("by-verdict").value = "";
-        const timed = (input, value) => {
-          input.value = value;
-          const begin = performance.now();
+      const shownAfter = await browser.busy();
+      const filtered = [];
+      const filters = [["by-verdict", ""], ["by-text", "fsync=1"], ["by-text", "no such text"], ["by-text", ""], ["by-point", "libc::fsync"], ["by-level", "2"]];
+      for (const [id, value] of filters) {
+        const before = await browser.busy();
+        await browser.evaluate(`(async () => {
+          const input = document.getElementById("${id}");
+          input.value = "${value}";
           input.dispatchEvent(new Event("input"));
-          return Math.round(performance.now() - begin);
-        };
-        const times = ["fsync=1", "fsync=12", "", "no such text", ""].map((value) => timed(text, value));
-        return [...times, timed(document.getElementById("by-point"), "libc::fsync"), timed(document.getElementById("by-level"), "2")];
-      })()`);
-      context.diagnostic(`depth ${depth}: shown after ${Math.round(shownAfter)} ms, filtered in ${filtered.join(", ")} ms`);
+          await new Promise((resolve) => requestAnimationFrame(() => setTimeout(resolve)));
+        })()`);
+        filtered.push(await browser.busy() - before);
+      }
+      context.diagnostic(`depth ${depth}: shown after ${shownAfter} ms, filtered in ${filtered.join(", ")} ms`);
+      assert.ok(shownAfter < 2000, `shown after ${shownAfter} ms`);
+      assert.ok(filtered.sort((one, other) => one - other)[3] < 100, `filtered in ${filtered.join(", ")} ms`);
       await browser.evaluate("dispatchEvent(new Event('beforeprint'))");
       assert.ok(await widest() <= PRINTED, `${await widest()} of ${PRINTED}, printed`);
     }

@@ -201,10 +201,15 @@ export function hostileDocument() {
   return { ...made, document: { ...document, about } };
 }
 
-/** As many plans as a campaign has at most. @param {number} depth */
+const largest = new Map();
+
+/** As many plans as a campaign has at most; made once, as it takes a second. @param {number} depth */
 export function largestDocument(depth) {
-  return makeDocument({
-    ...drawn(3), draw: numbers(3), depth, longest: depth === 2 ? 256 : 14, most: MOST - 200, points: POINTS, codes: CODES.slice(0, 4), failing: 3,
-    kinds: false, storms: 0, listed: 0, told_by: "target",
-  });
+  if (!largest.has(depth)) {
+    largest.set(depth, makeDocument({
+      ...drawn(3), draw: numbers(3), depth, longest: depth === 2 ? 256 : 14, most: MOST - 200, points: POINTS, codes: CODES.slice(0, 4), failing: 3,
+      kinds: false, storms: 0, listed: 0, told_by: "target",
+    }));
+  }
+  return largest.get(depth);
 }

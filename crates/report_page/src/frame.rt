@@ -7,7 +7,7 @@ pub const BEFORE: &str = r###"<!doctype html>
 <meta charset="utf-8">
 <meta name="viewport" content="width=device-width, initial-scale=1">
 <meta name="color-scheme" content="light dark">
-<meta http-equiv="Content-Security-Policy" content="default-src 'none'; style-src 'sha256-9XUKVvW3GMnCjUGrM4mFQTXiOxoE1PcW35fiChkVAWk='; script-src 'sha256-TYjIWAfbLtkjSBi6feUWyrqo6s2Q2tmvhNvChfUzkkU='; base-uri 'none'; form-action 'none'">
+<meta http-equiv="Content-Security-Policy" content="default-src 'none'; style-src 'sha256-9XUKVvW3GMnCjUGrM4mFQTXiOxoE1PcW35fiChkVAWk='; script-src 'sha256-1LPb9klnknTWTnRuhr/xNIiBYVtv9OFcbfZzAivd8fE='; base-uri 'none'; form-action 'none'">
 <title>Paklour report</title>
 <style>
 :root {
@@ -1182,12 +1182,18 @@ function levelKeyOf(plan) {
 function filterPlans(campaign, { verdict = "", point = "", level = "", text = "" }) {
   const wanted = text.trim().toLowerCase();
   const place = campaign.names.indexOf(point);
-  if (wanted !== "") campaign.lowered ??= campaign.plans.map((plan) => plan.text.toLowerCase());
+  const lowered = wanted === "" ? [] : loweredTexts(campaign);
   return campaign.plans.filter((plan) =>
     (verdict === "" || verdict === plan.verdict || (plan.code !== null && verdict === `${plan.verdict} ${plan.code}`))
     && (level === "" || level === levelKeyOf(plan))
     && (point === "" || hasFaultAt(campaign, plan, point, place))
-    && (wanted === "" || campaign.lowered[plan.number].includes(wanted) || String(plan.number).includes(wanted)));
+    && (wanted === "" || lowered[plan.number].includes(wanted) || String(plan.number).includes(wanted)));
+}
+
+/** The scenarios of all plans, in small letters. They are made once: a page asks for them before anybody filters. @param {any} campaign @returns {string[]} */
+function loweredTexts(campaign) {
+  campaign.lowered ??= campaign.plans.map((plan) => plan.text.toLowerCase());
+  return campaign.lowered;
 }
 
 /** Whether a plan has a fault at this point. @param {any} campaign @param {Plan} plan @param {string} point @param {number} place */
@@ -1425,21 +1431,22 @@ const FEWEST_SLOTS = 4;
 function rowsOf(campaign) {
   const rows = [];
   const indexes = new Map();
-  const rowOf = new Map();
+  /** @type {number[]} */
+  const rowOf = [];
   const add = (key, row) => {
     if (!indexes.has(key)) indexes.set(key, rows.push(row) - 1);
     return indexes.get(key);
   };
-  for (const plan of campaign.plans) rowOf.set(plan.number, rowOfPlan(plan, campaign, rowOf, add));
+  for (const plan of campaign.plans) rowOf.push(rowOfPlan(plan, campaign, rowOf, add));
   return { rows, rowOf };
 }
 
-/** @param {Plan} plan @param {{names: string[]}} campaign @param {Map<number, number>} rowOf @param {(key: string, row: Row) => number} add */
+/** @param {Plan} plan @param {{names: string[]}} campaign @param {number[]} rowOf @param {(key: string, row: Row) => number} add */
 function rowOfPlan(plan, { names }, rowOf, add) {
   const { name, level } = plan.part;
   if (name === "storms" || name === "listed") return add(name, { kind: "wide", point: null, hit: 0, name });
   if (level === 0 && name !== "onward") return add("none", { kind: "none", point: null, hit: 0, name: null });
-  if (plan.parent) return rowOf.get(plan.parent);
+  if (plan.parent) return rowOf[plan.parent];
   const { point, hit } = plan.fault;
   return add(`${hit} ${point}`, { kind: "site", point: names[point], hit, name: null });
 }
@@ -1472,12 +1479,12 @@ function shareSlots(columns, room) {
  * The strips of each row: for each column, or across all of them, the numbers of the plans.
  * @param {{plans: Plan[]}} campaign
  * @param {Row[]} rows
- * @param {Map<number, number>} rowOf
+ * @param {number[]} rowOf
  */
 function gather(campaign, rows, rowOf) {
   const strips = rows.map(() => new Map());
   for (const plan of campaign.plans) {
-    const row = rowOf.get(plan.number);
+    const row = rowOf[plan.number];
     const key = rows[row].kind === "wide" ? null : levelKeyOf(plan);
     const numbers = strips[row].get(key);
     if (numbers) numbers.push(plan.number);
@@ -1543,10 +1550,10 @@ function bandsOf(strips, row, columns, { width, cell }) {
  * The map of a campaign, `width` wide where its levels find room in that, with cells of this size. Plans of closed levels have no place.
  * @param {any} campaign
  * @param {{width: number, cell: number, closed?: Set<string>}} options
+ * @param {{rows: Row[], rowOf: number[]}} [known] the rows, where they are known
  * @returns {Layout}
  */
-function layoutMap(campaign, { width, cell, closed = new Set() }) {
-  const { rows, rowOf } = rowsOf(campaign);
+function layoutMap(campaign, { width, cell, closed = new Set() }, { rows, rowOf } = rowsOf(campaign)) {
   const strips = gather(campaign, rows, rowOf);
   const columns = columnsOf(campaign, strips, { width, cell, closed });
   const whole = Math.max(width, ...columns.map((column) => column.left + column.width));
@@ -1555,7 +1562,15 @@ function layoutMap(campaign, { width, cell, closed = new Set() }) {
   const bands = stack(unstacked, cell, gap);
   const lineBands = bands.flatMap((band, index) => Array.from({ length: band.lines }, () => index));
   const height = bands.reduce((sum, band) => sum + band.height + gap, 0);
-  return { cell, gap, width: whole, height, rows, columns, bands, lineBands, places: placesOf(bands) };
+  let places = null;
+  return {
+    cell, gap, width: whole, height, rows, columns, bands, lineBands,
+    // Only keys and a plan that is chosen ask for it.
+    get places() {
+      places ??= placesOf(bands);
+      return places;
+    },
+  };
 }
 
 /** One band below the other. @param {{lines: number}[]} bands @param {number} cell @param {number} gap @returns {Band[]} */
@@ -1859,7 +1874,8 @@ class MapView {
     Object.assign(this, { campaign, label, tell, chosen });
     this.closed = new Set();
     this.cell = cellFor(campaign.plans.length);
-    this.longest = Math.max(0, ...rowsOf(campaign).rows.map((row) => label(row).length));
+    this.known = rowsOf(campaign);
+    this.longest = this.known.rows.reduce((most, row) => Math.max(most, label(row).length), 0);
     this.selected = null;
     this.firsts = new Set(campaign.told.findings.map((finding) => finding.number));
     this.grid = element("div", { class: "map", role: "grid", tabindex: "0", "aria-label": "Map of plans", "aria-describedby": "map-keys" });
@@ -1909,7 +1925,7 @@ class MapView {
   draw() {
     const labels = this.width < NARROW ? 0 : labelWidth(this.longest, this.width);
     const width = Math.max(this.width - labels - SIDES, Math.ceil((this.campaign.plans.length * this.cell ** 2) / this.tall));
-    this.layout = layoutMap(this.campaign, { width, cell: this.cell, closed: this.closed });
+    this.layout = layoutMap(this.campaign, { width, cell: this.cell, closed: this.closed }, this.known);
     this.box.classList.toggle("narrow", labels === 0);
     this.box.style.setProperty("--labels", `${labels}px`);
     this.grid.setAttribute("aria-rowcount", String(this.layout.bands.length + 1));
@@ -2074,7 +2090,7 @@ class MapView {
 
 /** @typedef {import("./document.js").Plan} Plan */
 
-const SHOWN_PLANS = 100;
+const SHOWN_PLANS = 50;
 const SHOWN_CAUSES = 10;
 const KEYS = "Arrow keys lead from plan to plan, Home and End along a line, Page Up and Page Down further; Enter tells more of a plan.";
 
@@ -2488,6 +2504,7 @@ function start() {
   try {
     const campaign = campaignOf(readDocument(document.getElementById("document").textContent));
     drawPage(campaign);
+    requestIdleCallback(() => loweredTexts(campaign));
     document.title = shown(`${campaign.told.label} \u2013 Paklour`);
     document.getElementById("brief").open = false;
   } catch (error) {
