@@ -155,7 +155,7 @@ export class MapView {
     const words = this.label(row);
     const label = element("div", { role: "rowheader", class: "map-label", title: row.point }, band.part === 0 ? words : `${words}, further`);
     const strips = element("div", { class: "map-strips", role: "presentation" }, ...band.strips.map((strip, at) => this.drawStrip(band, strip, index, at)));
-    label.style.lineHeight = `${this.cell}px`;
+    label.style.lineHeight = this.width < NARROW ? null : `${this.cell}px`;
     strips.style.height = `${band.height}px`;
     const made = element("div", { role: "row", class: row.kind === "wide" ? "map-band wide" : "map-band", "aria-rowindex": String(index + 2) }, label, strips);
     made.style.marginBottom = `${this.layout.gap}px`;

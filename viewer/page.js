@@ -247,7 +247,7 @@ function drawMap(campaign, chosen) {
 /** What the map shows. Only of plans that grew it is known which fault acts first. @param {any} campaign */
 function mapWords({ told }) {
   const down = told.growth ? "acts first, in the order of the run without faults" : "its scenario names first";
-  const onward = told.growth?.onward > 0 ? " Under \u201con\u201d the last fault goes on from then on." : "";
+  const onward = told.growth?.onward > 0 ? " In the last column the last fault goes on from then on." : "";
   return `Each mark is a plan. Down stands the fault that ${down}; across, how many faults it has.${onward} In a row the marks stand in the order of their `
     + "plans\u2019 numbers. A column closes and opens by its head.";
 }

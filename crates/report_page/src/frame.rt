@@ -7,7 +7,7 @@ pub const BEFORE: &str = r###"<!doctype html>
 <meta charset="utf-8">
 <meta name="viewport" content="width=device-width, initial-scale=1">
 <meta name="color-scheme" content="light dark">
-<meta http-equiv="Content-Security-Policy" content="default-src 'none'; style-src 'sha256-9XUKVvW3GMnCjUGrM4mFQTXiOxoE1PcW35fiChkVAWk='; script-src 'sha256-1LPb9klnknTWTnRuhr/xNIiBYVtv9OFcbfZzAivd8fE='; base-uri 'none'; form-action 'none'">
+<meta http-equiv="Content-Security-Policy" content="default-src 'none'; style-src 'sha256-L87Oq7Nc/HEjekxG72nxbkfBHH+HF6asMliwfq9vORQ='; script-src 'sha256-MNwGryMnN18QUgamCBYrW0cNeHwtPSUpGXQWlz2ooDc='; base-uri 'none'; form-action 'none'">
 <title>Paklour report</title>
 <style>
 :root {
@@ -171,7 +171,7 @@ label { min-width: 0; max-width: 100%; }
 .map-head .map-strips { height: 22px; }
 .wide { border-top: 1px dashed var(--line); padding-top: 8px; }
 .narrow .map-band { display: block; }
-.narrow .map-band .map-label { width: max-content; max-width: 20rem; }
+.narrow .map-band .map-label { width: max-content; max-width: 20rem; line-height: 18px; }
 .narrow .map-head .map-label { display: none; }
 .map-column { position: absolute; top: 0; }
 .map-column button { width: 100%; height: 22px; padding: 0; font-size: 0.78rem; line-height: 20px; overflow: hidden; white-space: nowrap; }
@@ -1967,7 +1967,7 @@ class MapView {
     const words = this.label(row);
     const label = element("div", { role: "rowheader", class: "map-label", title: row.point }, band.part === 0 ? words : `${words}, further`);
     const strips = element("div", { class: "map-strips", role: "presentation" }, ...band.strips.map((strip, at) => this.drawStrip(band, strip, index, at)));
-    label.style.lineHeight = `${this.cell}px`;
+    label.style.lineHeight = this.width < NARROW ? null : `${this.cell}px`;
     strips.style.height = `${band.height}px`;
     const made = element("div", { role: "row", class: row.kind === "wide" ? "map-band wide" : "map-band", "aria-rowindex": String(index + 2) }, label, strips);
     made.style.marginBottom = `${this.layout.gap}px`;
@@ -2326,7 +2326,7 @@ function drawMap(campaign, chosen) {
 /** What the map shows. Only of plans that grew it is known which fault acts first. @param {any} campaign */
 function mapWords({ told }) {
   const down = told.growth ? "acts first, in the order of the run without faults" : "its scenario names first";
-  const onward = told.growth?.onward > 0 ? " Under \u201con\u201d the last fault goes on from then on." : "";
+  const onward = told.growth?.onward > 0 ? " In the last column the last fault goes on from then on." : "";
   return `Each mark is a plan. Down stands the fault that ${down}; across, how many faults it has.${onward} In a row the marks stand in the order of their `
     + "plans\u2019 numbers. A column closes and opens by its head.";
 }
