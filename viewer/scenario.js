@@ -143,7 +143,7 @@ export function spellWith(shares, fault, names) {
   let text = "";
   let isIn = false;
   for (const share of shares) {
-    if (!isIn && share.point >= fault.point) {
+    if (!isIn && share.point > fault.point) {
       text += text === "" ? added : `;${added}`;
       isIn = true;
     }

@@ -96,6 +96,9 @@ test("a run stands beside its parent's, where that is told", () => {
   assert.deepEqual(runs.of(2, "a=1*return"), other, "the parent's run is told, too");
   runs.add(4, "a=1*return;b=1*return", two(null), "a=1*return");
   assert.equal(runs.beside(runs.of(4, "a=1*return;b=1*return")), other, "a cause that is told again");
+  const long = runsOf(NONE);
+  long.add(4, "a=1*return;b=1*return", { ...two("verdict pass\nhit 1 a 1 return\n"), left_out: 5 }, "a=1*return");
+  assert.equal(long.beside(long.of(4, "a=1*return;b=1*return")).scenario, "a=1*return", "its parent is told, though not all hits are");
   const lacking = runsOf(NONE);
   lacking.add(4, "a=1*return;b=1*return", two(null), "a=1*return");
   lacking.add(5, "c=1*return", null);

@@ -41,6 +41,7 @@ const SENTENCES = {
   "libc::fsync=2*off->return": "each fsync from the 3rd on fails",
   "libc::write=1*return(ENOSPC)": "the 1st write fails with ENOSPC",
   "libc::write=1*off->1*return(HALF)": "the 2nd write does its first half alone",
+  "one::send=1*return(HALF)": "the 1st one::send fails with the text \u201cHALF\u201d",
   "sys::send=1*return(DROP)": "the 1st sys::send answers that all is done, and does nothing",
   "one::send=1*return(DROP)": "the 1st one::send fails with the text \u201cDROP\u201d",
   "two::send=1*return(no)": "the 1st two::send fails with the text \u201cno\u201d",

@@ -7,7 +7,7 @@ pub const BEFORE: &str = r###"<!doctype html>
 <meta charset="utf-8">
 <meta name="viewport" content="width=device-width, initial-scale=1">
 <meta name="color-scheme" content="light dark">
-<meta http-equiv="Content-Security-Policy" content="default-src 'none'; style-src 'sha256-L87Oq7Nc/HEjekxG72nxbkfBHH+HF6asMliwfq9vORQ='; script-src 'sha256-MNwGryMnN18QUgamCBYrW0cNeHwtPSUpGXQWlz2ooDc='; base-uri 'none'; form-action 'none'">
+<meta http-equiv="Content-Security-Policy" content="default-src 'none'; style-src 'sha256-L87Oq7Nc/HEjekxG72nxbkfBHH+HF6asMliwfq9vORQ='; script-src 'sha256-zhCXZIzP7CnPiYUy2ucl45zL4FZpZufU2VxXKSvcf1I='; base-uri 'none'; form-action 'none'">
 <title>Paklour report</title>
 <style>
 :root {
@@ -451,7 +451,7 @@ function spellWith(shares, fault, names) {
   let text = "";
   let isIn = false;
   for (const share of shares) {
-    if (!isIn && share.point >= fault.point) {
+    if (!isIn && share.point > fault.point) {
       text += text === "" ? added : `;${added}`;
       isIn = true;
     }
