@@ -365,8 +365,9 @@ function drawAgain({ told: { seed, about } }) {
   const items = [["seed", seed], ["program", `paklour ${about.program_version}`], ["command", about.command]];
   const rows = items.map(([name, value]) =>
     element("tr", {}, element("th", { scope: "row" }, name), element("td", {}, element("code", {}, value))));
-  return section("Made again", "again",
+  return section("Make it again", "again",
     element("table", {}, element("tbody", {}, ...rows)),
+    element("p", { class: "muted" }, "Settings, as they stand in FILE:"),
     preformatted(about.settings));
 }
 

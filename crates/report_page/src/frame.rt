@@ -7,7 +7,7 @@ pub const BEFORE: &str = r###"<!doctype html>
 <meta charset="utf-8">
 <meta name="viewport" content="width=device-width, initial-scale=1">
 <meta name="color-scheme" content="light dark">
-<meta http-equiv="Content-Security-Policy" content="default-src 'none'; style-src 'sha256-L87Oq7Nc/HEjekxG72nxbkfBHH+HF6asMliwfq9vORQ='; script-src 'sha256-zhCXZIzP7CnPiYUy2ucl45zL4FZpZufU2VxXKSvcf1I='; base-uri 'none'; form-action 'none'">
+<meta http-equiv="Content-Security-Policy" content="default-src 'none'; style-src 'sha256-L87Oq7Nc/HEjekxG72nxbkfBHH+HF6asMliwfq9vORQ='; script-src 'sha256-+afs94hEHrqHodtnDpaw4Vg7ohOwObOwHo5Zh/aII9Y='; base-uri 'none'; form-action 'none'">
 <title>Paklour report</title>
 <style>
 :root {
@@ -2444,8 +2444,9 @@ function drawAgain({ told: { seed, about } }) {
   const items = [["seed", seed], ["program", `paklour ${about.program_version}`], ["command", about.command]];
   const rows = items.map(([name, value]) =>
     element("tr", {}, element("th", { scope: "row" }, name), element("td", {}, element("code", {}, value))));
-  return section("Made again", "again",
+  return section("Make it again", "again",
     element("table", {}, element("tbody", {}, ...rows)),
+    element("p", { class: "muted" }, "Settings, as they stand in FILE:"),
     preformatted(about.settings));
 }
 
