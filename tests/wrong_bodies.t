@@ -71,6 +71,23 @@ the list says fails, and so does a line without an edit.
   2 passed, 2 failed
   [1]
 
+Of a public constant with a text of more than 4,096 bytes its name counts, and not what the text is; a shorter text counts, and so does one that isn't public.
+
+  $ constant() { printf '%s WHOLE: &str = r###"%s"###;\n\npub const LAST: &str = r###"z"###;\n' "$1" "$(head -c "$2" /dev/zero | tr '\0' "$3")" > crates/toy/src/text.rt; }
+  $ digest() { bodies --all > told; cut -f 2 must-fail.tsv | head -n 1; }
+  $ same() { [ "$(digest)" = "$last" ] && echo same || { last=$(digest); echo another; }; }
+  $ constant 'pub const' 4097 a; same; constant 'pub const' 9000 b; same
+  another
+  same
+  $ sed -i 's/WHOLE/OTHER/' crates/toy/src/text.rt; same; sed -i 's/"z"/"y"/' crates/toy/src/text.rt; same
+  another
+  another
+  $ constant 'pub const' 4096 a; same; constant 'pub const' 4096 b; same; constant const 9000 a; same; constant const 9000 b; same; rm crates/toy/src/text.rt
+  another
+  another
+  another
+  another
+
 Of more than 20, those of a promise and those that have changed are tried in any case. A change of the crate's sources changes all; a body of a crate below, or another
 letter of the kit, none.
 

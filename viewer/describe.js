@@ -11,7 +11,7 @@ export function planWords(campaign, plan) {
   if (!plan.fault) return wordsOfScenario(plan.text, call);
   const clauses = faultsOf(campaign, plan).map(({ point, hit, kind }) =>
     ({ point: names[point], term: parseTerm(kind), first: hit, last: kind.startsWith("1*") ? hit : Infinity }));
-  return wordsOfClauses(clauses, call);
+  return wordsOfClauses(clauses, call, true);
 }
 
 /**
@@ -21,7 +21,7 @@ export function planWords(campaign, plan) {
  * @param {string} scenario
  */
 export function wordsOfNumbered(campaign, number, scenario) {
-  const plan = campaign.byNumber.get(number);
+  const plan = campaign.plans[number];
   return plan.text === scenario ? planWords(campaign, plan) : wordsOfScenario(scenario, campaign.call);
 }
 

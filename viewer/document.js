@@ -1,7 +1,7 @@
 // Reads the report's document, checks it against what docs/report.schema.json says, and makes of it the campaign that the page shows.
 import { rowsOfPlans } from "./grown.js";
-import { readRun, runKey } from "./run.js";
-import { clausesOf, spell } from "./scenario.js";
+import { Runs } from "./run.js";
+import { clausesOf, sharesOf, spellWith } from "./scenario.js";
 import { callsOf } from "./words.js";
 
 /** @typedef {"pass"|"fail"|"unresolved"} Verdict */
@@ -39,9 +39,12 @@ const digits = is("a text of digits", (value) => typeof value === "string" && /^
 const verdict = is("a verdict", (value) => VERDICTS.includes(value));
 const orNull = (check) => (value, path) => (value === null ? [] : check(value, path));
 
-/** @param {Check} check @returns {Check} */
-const list = (check) => (value, path) =>
-  Array.isArray(value) ? value.flatMap((item, index) => check(item, `${path}[${index}]`)) : [`${path} isn't a list`];
+/** Its items are checked once more where one is wrong: most lists are right, and may be long. @param {Check} check @returns {Check} */
+const list = (check) => (value, path) => {
+  if (!Array.isArray(value)) return [`${path} isn't a list`];
+  if (value.every((item) => check(item, path).length === 0)) return [];
+  return value.flatMap((item, index) => check(item, `${path}[${index}]`));
+};
 
 /** @param {Record<string, Check>} needed @param {Record<string, Check>} [optional] @returns {Check} */
 const members = (needed, optional = {}) => (value, path) => {
@@ -61,10 +64,12 @@ const growth = members(
   },
   { unseen: count },
 );
-const run = members({ explained: text }, { left_out: count });
+const runAlone = { explained: text };
+const run = members(runAlone, { left_out: count, parent: members(runAlone, { left_out: count }) });
 const about = members({
   program_version: text, told_by: is("target or answers", (value) => value === "target" || value === "answers"), command: text, settings: text,
-  storms: list(text), listed: list(text), grown: list(text), clean_run: orNull(run), finding_runs: list(run), cause_runs: list(run),
+  storms: list(text), listed: list(text), grown: list(text), clean_run: orNull(run), finding_runs: list(orNull(run)),
+  cause_runs: list(orNull(run)),
 });
 const report = members(
   {
@@ -148,26 +153,41 @@ function numbered(sizes) {
 
 /** @param {any} told @param {Part[]} parts @returns {Plan[]} */
 function plansOf(told, parts) {
-  const notPassed = new Map(told.not_passed.map((item) => [item.number, item]));
   const rows = rowsOfPlans(told);
   if (rows.length !== told.counts.plans) throw new ReadError(["the plans that are told aren't as many as are counted"]);
   if (rows.includes(null)) throw new ReadError([`about.grown[${rows.indexOf(null)}] isn't a plan that grew`]);
-  const planAt = (number, part) => {
-    const item = notPassed.get(number);
-    const { parent, fault, text } = rows[number];
-    return { number, part, verdict: item?.verdict ?? "pass", code: item?.code ?? null, parent, fault, text: item?.scenario ?? text };
-  };
-  return parts.flatMap((part) => Array.from({ length: part.count }, (_, index) => planAt(part.first + index, part)));
+  const plans = [];
+  for (const part of parts) {
+    for (let number = part.first; number < part.first + part.count; number += 1) {
+      const { parent, fault, text } = rows[number];
+      plans.push({ number, part, verdict: "pass", code: null, parent, fault, text });
+    }
+  }
+  for (const { number, verdict, code, scenario } of told.not_passed) Object.assign(plans[number], { verdict, code, text: scenario });
+  return plans;
 }
 
-/** The runs that a document tells, by their keys. @param {any} told @param {string[]} names */
-function runsOf({ findings, growth, about }, names) {
-  const told = [
-    ...(about.clean_run ? [[0, "", about.clean_run]] : []),
-    ...about.finding_runs.map((run, index) => [findings[index].number, findings[index].reduced, run]),
-    ...about.cause_runs.map((run, index) => [growth.causes[index].number, growth.causes[index].scenario, run]),
-  ];
-  return new Map(told.map(([number, scenario, run]) => [runKey(number, scenario), readRun(scenario, run, names)]));
+/** Spells the plans that grew. Those with the same parent follow each other mostly, so its scenario is made once. @param {Plan[]} plans @param {string[]} names */
+function spellPlans(plans, names) {
+  let [parent, shares] = [-1, []];
+  for (const plan of plans) {
+    if (plan.text !== null) continue;
+    if (plan.parent !== parent) [parent, shares] = [plan.parent, sharesOf(faultsOf({ plans }, plans[plan.parent]), names)];
+    plan.text = spellWith(shares, plan.fault, names);
+  }
+}
+
+/** The runs that a document tells. @param {any} campaign */
+function runsOf({ told: { findings, growth, about }, plans, names }) {
+  const runs = new Runs(names);
+  runs.add(0, "", about.clean_run);
+  const add = (number, scenario, run) => {
+    const { text, parent } = plans[number];
+    runs.add(number, scenario, run, text === scenario && parent !== null ? plans[parent].text : null);
+  };
+  about.finding_runs.forEach((run, index) => add(findings[index].number, findings[index].reduced, run));
+  about.cause_runs.forEach((run, index) => add(growth.causes[index].number, growth.causes[index].scenario, run));
+  return runs;
 }
 
 /**
@@ -177,28 +197,26 @@ function runsOf({ findings, growth, about }, names) {
 export function campaignOf(told) {
   const parts = partsOf(told);
   const plans = plansOf(told, parts);
-  const byNumber = new Map(plans.map((plan) => [plan.number, plan]));
   const codes = [...new Set(told.findings.map((finding) => finding.code))];
   const reached = told.growth && new Map(told.growth.reached.map((item) => [item.point, item.hits]));
   const names = told.census.map((item) => item.point);
   const campaign = {
-    told, parts, plans, byNumber, codes, names, call: callsOf(names),
+    told, parts, plans, codes, names, call: callsOf(names),
     points: told.census.map(({ point, hits }) => ({ point, clean: hits, reached: reached ? reached.get(point) ?? null : null })),
-    runs: runsOf(told, names),
   };
-  for (const plan of plans) plan.text ??= spell(faultsOf(campaign, plan), names);
-  return campaign;
+  spellPlans(plans, names);
+  return { ...campaign, runs: runsOf(campaign) };
 }
 
 /**
  * The faults of a plan that grew from others, in the order of time; none of any other plan.
- * @param {{byNumber: Map<number, Plan>}} campaign
+ * @param {{plans: Plan[]}} campaign
  * @param {Plan} plan
  * @returns {Fault[]}
  */
 export function faultsOf(campaign, plan) {
   const faults = [];
-  for (let one = plan; one?.fault; one = campaign.byNumber.get(one.parent)) faults.push(one.fault);
+  for (let one = plan; one?.fault; one = campaign.plans[one.parent]) faults.push(one.fault);
   return faults.reverse();
 }
 
@@ -210,23 +228,30 @@ export function levelKeyOf(plan) {
 
 /**
  * The plans that a filter lets through; a member that is empty lets all.
- * @param {{plans: Plan[], byNumber: Map<number, Plan>, names: string[]}} campaign
+ * @param {{plans: Plan[], names: string[]}} campaign
  * @param {{verdict?: string, point?: string, level?: string, text?: string}} filter `verdict` is a verdict, or `fail` and a code behind a blank; `text` stands
  *   in the scenario, small or large, or in the number
  */
 export function filterPlans(campaign, { verdict = "", point = "", level = "", text = "" }) {
-  const wanted = text.trim();
-  const pattern = new RegExp(wanted.replace(/[\\^$.*+?()[\]{}|]/g, "\\$&"), "i");
+  const wanted = text.trim().toLowerCase();
+  const place = campaign.names.indexOf(point);
+  const lowered = wanted === "" ? [] : loweredTexts(campaign);
   return campaign.plans.filter((plan) =>
     (verdict === "" || verdict === plan.verdict || (plan.code !== null && verdict === `${plan.verdict} ${plan.code}`))
     && (level === "" || level === levelKeyOf(plan))
-    && (point === "" || hasFaultAt(campaign, plan, point))
-    && (wanted === "" || pattern.test(plan.text) || String(plan.number).includes(wanted)));
+    && (point === "" || hasFaultAt(campaign, plan, point, place))
+    && (wanted === "" || lowered[plan.number].includes(wanted) || String(plan.number).includes(wanted)));
 }
 
-/** Whether a plan has a fault at this point. @param {any} campaign @param {Plan} plan @param {string} point */
-function hasFaultAt({ byNumber, names }, plan, point) {
+/** The scenarios of all plans, in small letters. They are made once: a page asks for them before anybody filters. @param {any} campaign @returns {string[]} */
+export function loweredTexts(campaign) {
+  campaign.lowered ??= campaign.plans.map((plan) => plan.text.toLowerCase());
+  return campaign.lowered;
+}
+
+/** Whether a plan has a fault at this point. @param {any} campaign @param {Plan} plan @param {string} point @param {number} place */
+function hasFaultAt({ plans }, plan, point, place) {
   if (!plan.fault) return (clausesOf(plan.text) ?? []).some((clause) => clause.point === point);
-  for (let one = plan; one?.fault; one = byNumber.get(one.parent)) if (names[one.fault.point] === point) return true;
+  for (let one = plan; one?.fault; one = plans[one.parent]) if (one.fault.point === place) return true;
   return false;
 }

@@ -12,21 +12,34 @@ const BETWEEN_FAULTS = "; ";
 const FAULT = /^(\d+) (\d+) (1\*panic|(?:1\*)?return(?:\(.*\))?)$/s;
 
 /**
- * The plans that grew: each is an earlier one's text with one fault more. Null stands where a text isn't that.
+ * The plans that grew: each is an earlier one's text with one fault more. Null stands where a text isn't that. Many
+ * plans have the same fault, which is read once, and the same parent as the one before.
  * @param {any} told
  * @returns {(Row|null)[]}
  */
 function grownRows({ census, about }) {
   const numbers = new Map();
+  const faults = new Map();
+  const faultOf = (text) => {
+    if (!faults.has(text)) faults.set(text, readFault(text, census.length));
+    return faults.get(text);
+  };
+  let [before, parent] = ["", 0];
   return about.grown.map((text, number) => {
     numbers.set(text, number);
     if (number === 0) return text === "" ? WITHOUT_FAULTS : null;
     const cut = text.lastIndexOf(BETWEEN_FAULTS);
-    const parent = numbers.get(text.slice(0, Math.max(cut, 0)));
-    const match = FAULT.exec(cut < 0 ? text : text.slice(cut + BETWEEN_FAULTS.length));
-    if (parent === undefined || !match || Number(match[1]) >= census.length) return null;
-    return { parent, fault: { point: Number(match[1]), hit: Number(match[2]), kind: match[3] }, text: null };
+    const isOfSame = before.length === Math.max(cut, 0) && text.startsWith(before);
+    if (!isOfSame) [before, parent] = [text.slice(0, Math.max(cut, 0)), numbers.get(text.slice(0, Math.max(cut, 0)))];
+    const fault = faultOf(cut < 0 ? text : text.slice(cut + BETWEEN_FAULTS.length));
+    return parent === undefined || fault === null ? null : { parent, fault, text: null };
   });
+}
+
+/** @param {string} text @param {number} points how many there are @returns {Fault|null} */
+function readFault(text, points) {
+  const match = FAULT.exec(text);
+  return match && Number(match[1]) < points ? { point: Number(match[1]), hit: Number(match[2]), kind: match[3] } : null;
 }
 
 /** The plans at hits of the run without faults: each fails once, from then on, and panics. @param {any} told @returns {Row[]} */

@@ -24,26 +24,27 @@ const FEWEST_SLOTS = 4;
 
 /**
  * The rows of the map, and the row of each plan: the run without faults; a first fault's hit; a list that didn't grow (storms and the like).
- * @param {{plans: Plan[], byNumber: Map<number, Plan>, names: string[]}} campaign
+ * @param {{plans: Plan[], names: string[]}} campaign
  */
 export function rowsOf(campaign) {
   const rows = [];
   const indexes = new Map();
-  const rowOf = new Map();
+  /** @type {number[]} */
+  const rowOf = [];
   const add = (key, row) => {
     if (!indexes.has(key)) indexes.set(key, rows.push(row) - 1);
     return indexes.get(key);
   };
-  for (const plan of campaign.plans) rowOf.set(plan.number, rowOfPlan(plan, campaign, rowOf, add));
+  for (const plan of campaign.plans) rowOf.push(rowOfPlan(plan, campaign, rowOf, add));
   return { rows, rowOf };
 }
 
-/** @param {Plan} plan @param {{names: string[]}} campaign @param {Map<number, number>} rowOf @param {(key: string, row: Row) => number} add */
+/** @param {Plan} plan @param {{names: string[]}} campaign @param {number[]} rowOf @param {(key: string, row: Row) => number} add */
 function rowOfPlan(plan, { names }, rowOf, add) {
   const { name, level } = plan.part;
   if (name === "storms" || name === "listed") return add(name, { kind: "wide", point: null, hit: 0, name });
   if (level === 0 && name !== "onward") return add("none", { kind: "none", point: null, hit: 0, name: null });
-  if (plan.parent) return rowOf.get(plan.parent);
+  if (plan.parent) return rowOf[plan.parent];
   const { point, hit } = plan.fault;
   return add(`${hit} ${point}`, { kind: "site", point: names[point], hit, name: null });
 }
@@ -76,12 +77,12 @@ export function shareSlots(columns, room) {
  * The strips of each row: for each column, or across all of them, the numbers of the plans.
  * @param {{plans: Plan[]}} campaign
  * @param {Row[]} rows
- * @param {Map<number, number>} rowOf
+ * @param {number[]} rowOf
  */
 function gather(campaign, rows, rowOf) {
   const strips = rows.map(() => new Map());
   for (const plan of campaign.plans) {
-    const row = rowOf.get(plan.number);
+    const row = rowOf[plan.number];
     const key = rows[row].kind === "wide" ? null : levelKeyOf(plan);
     const numbers = strips[row].get(key);
     if (numbers) numbers.push(plan.number);
@@ -147,10 +148,10 @@ function bandsOf(strips, row, columns, { width, cell }) {
  * The map of a campaign, `width` wide where its levels find room in that, with cells of this size. Plans of closed levels have no place.
  * @param {any} campaign
  * @param {{width: number, cell: number, closed?: Set<string>}} options
+ * @param {{rows: Row[], rowOf: number[]}} [known] the rows, where they are known
  * @returns {Layout}
  */
-export function layoutMap(campaign, { width, cell, closed = new Set() }) {
-  const { rows, rowOf } = rowsOf(campaign);
+export function layoutMap(campaign, { width, cell, closed = new Set() }, { rows, rowOf } = rowsOf(campaign)) {
   const strips = gather(campaign, rows, rowOf);
   const columns = columnsOf(campaign, strips, { width, cell, closed });
   const whole = Math.max(width, ...columns.map((column) => column.left + column.width));
@@ -159,7 +160,15 @@ export function layoutMap(campaign, { width, cell, closed = new Set() }) {
   const bands = stack(unstacked, cell, gap);
   const lineBands = bands.flatMap((band, index) => Array.from({ length: band.lines }, () => index));
   const height = bands.reduce((sum, band) => sum + band.height + gap, 0);
-  return { cell, gap, width: whole, height, rows, columns, bands, lineBands, places: placesOf(bands) };
+  let places = null;
+  return {
+    cell, gap, width: whole, height, rows, columns, bands, lineBands,
+    // Only keys and a plan that is chosen ask for it.
+    get places() {
+      places ??= placesOf(bands);
+      return places;
+    },
+  };
 }
 
 /** One band below the other. @param {{lines: number}[]} bands @param {number} cell @param {number} gap @returns {Band[]} */

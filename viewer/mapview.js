@@ -1,6 +1,6 @@
 // Draws the map, and leads pointer and keys to its plans.
 import { element, svgElement } from "./dom.js";
-import { layoutMap, placeOf, planBeside, planIn } from "./map.js";
+import { layoutMap, placeOf, planBeside, planIn, rowsOf } from "./map.js";
 import { framePath, markClass, markOf, markPath } from "./marks.js";
 import { partWords } from "./verdict.js";
 import { counted, grouped } from "./words.js";
@@ -10,7 +10,8 @@ import { counted, grouped } from "./words.js";
 /** @typedef {import("./map.js").Strip} Strip */
 
 const NARROW = 640;
-const LABEL_WIDTH = 168;
+/** The room of a label: by its characters, between these, and of a share of the map at most. */
+const LABEL = { character: 6.9, least: 120, most: 340, share: 0.36 };
 /** What a printed page has room for. */
 const PRINTED_WIDTH = 700;
 /** What the map's box has left and right of it. */
@@ -29,11 +30,16 @@ export function cellFor(plans) {
   return CELLS.find(({ most }) => plans <= most)?.size ?? SMALLEST;
 }
 
+/** The room for labels of which the longest has so many characters, in a map of this width. @param {number} characters @param {number} width */
+export function labelWidth(characters, width) {
+  return Math.round(Math.max(LABEL.least, Math.min(characters * LABEL.character + 12, LABEL.most, width * LABEL.share)));
+}
+
 /** The marks of a strip, one path for each that it has. @param {any} campaign @param {Strip} strip @param {number} cell */
 export function stripPaths(campaign, strip, cell) {
   const paths = new Map();
   strip.numbers.forEach((number, index) => {
-    const mark = markOf(campaign.byNumber.get(number), campaign.codes);
+    const mark = markOf(campaign.plans[number], campaign.codes);
     const path = markPath(mark, (index % strip.slots) * cell, Math.floor(index / strip.slots) * cell, cell);
     paths.set(mark, (paths.get(mark) ?? "") + path);
   });
@@ -42,7 +48,7 @@ export function stripPaths(campaign, strip, cell) {
 
 /** How many plans a strip has, and how many fail. @param {any} campaign @param {Strip} strip */
 function stripWords(campaign, strip) {
-  const fail = strip.numbers.filter((number) => campaign.byNumber.get(number).verdict === "fail").length;
+  const fail = strip.numbers.filter((number) => campaign.plans[number].verdict === "fail").length;
   return `${counted(strip.numbers.length, "plan")}${fail > 0 ? `, ${grouped(fail)} ${fail === 1 ? "fails" : "fail"}` : ""}`;
 }
 
@@ -56,6 +62,8 @@ export class MapView {
     Object.assign(this, { campaign, label, tell, chosen });
     this.closed = new Set();
     this.cell = cellFor(campaign.plans.length);
+    this.known = rowsOf(campaign);
+    this.longest = this.known.rows.reduce((most, row) => Math.max(most, label(row).length), 0);
     this.selected = null;
     this.firsts = new Set(campaign.told.findings.map((finding) => finding.number));
     this.grid = element("div", { class: "map", role: "grid", tabindex: "0", "aria-label": "Map of plans", "aria-describedby": "map-keys" });
@@ -103,10 +111,11 @@ export class MapView {
   }
 
   draw() {
-    const labels = this.width < NARROW ? 0 : LABEL_WIDTH;
+    const labels = this.width < NARROW ? 0 : labelWidth(this.longest, this.width);
     const width = Math.max(this.width - labels - SIDES, Math.ceil((this.campaign.plans.length * this.cell ** 2) / this.tall));
-    this.layout = layoutMap(this.campaign, { width, cell: this.cell, closed: this.closed });
+    this.layout = layoutMap(this.campaign, { width, cell: this.cell, closed: this.closed }, this.known);
     this.box.classList.toggle("narrow", labels === 0);
+    this.box.style.setProperty("--labels", `${labels}px`);
     this.grid.setAttribute("aria-rowcount", String(this.layout.bands.length + 1));
     this.grid.setAttribute("aria-colcount", String(this.layout.columns.length + 1));
     this.grid.replaceChildren(this.drawHead(), ...this.layout.bands.map((band, index) => this.drawBand(band, index)));
@@ -146,7 +155,7 @@ export class MapView {
     const words = this.label(row);
     const label = element("div", { role: "rowheader", class: "map-label", title: row.point }, band.part === 0 ? words : `${words}, further`);
     const strips = element("div", { class: "map-strips", role: "presentation" }, ...band.strips.map((strip, at) => this.drawStrip(band, strip, index, at)));
-    label.style.lineHeight = `${this.cell}px`;
+    label.style.lineHeight = this.width < NARROW ? null : `${this.cell}px`;
     strips.style.height = `${band.height}px`;
     const made = element("div", { role: "row", class: row.kind === "wide" ? "map-band wide" : "map-band", "aria-rowindex": String(index + 2) }, label, strips);
     made.style.marginBottom = `${this.layout.gap}px`;
@@ -229,11 +238,11 @@ export class MapView {
     for (const old of this.grid.querySelectorAll(".frame-selected, .frame-before, #map-current")) old.remove();
     this.grid.removeAttribute("aria-activedescendant");
     if (this.selected === null) return;
-    let plan = this.campaign.byNumber.get(this.selected);
+    let plan = this.campaign.plans[this.selected];
     this.frame(this.selected, "frame-selected");
     while (plan?.parent !== null && plan !== undefined) {
       this.frame(plan.parent, "frame-before");
-      plan = this.campaign.byNumber.get(plan.parent);
+      plan = this.campaign.plans[plan.parent];
     }
     this.drawCurrent(this.selected);
   }

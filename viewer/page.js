@@ -1,17 +1,17 @@
 // Draws the page: what came of a campaign, from its document.
 import { descendantsOf, explainCommand, groupByCalls, planWords, wordsOfNumbered } from "./describe.js";
-import { ReadError, campaignOf, filterPlans, levelKeyOf, readDocument } from "./document.js";
+import { ReadError, campaignOf, filterPlans, levelKeyOf, loweredTexts, readDocument } from "./document.js";
 import { drawSome, element, markIcon, preformatted, section } from "./dom.js";
 import { MapView } from "./mapview.js";
 import { markOf } from "./marks.js";
-import { foldLines, isFault, linesOf, runBeside, runKey } from "./run.js";
-import { KEEP, clausesOf } from "./scenario.js";
+import { filesOfFaults, foldLines, isFault, linesOf } from "./run.js";
+import { KEEP, TEAR, clausesOf } from "./scenario.js";
 import { failuresByCode, headline, limits, partWords, rowWords, tried, wholeness } from "./verdict.js";
-import { counted, grouped, listed, ordinal, sentence, shown } from "./words.js";
+import { answerWords, counted, grouped, listed, ordinal, sentence, shown } from "./words.js";
 
 /** @typedef {import("./document.js").Plan} Plan */
 
-const SHOWN_PLANS = 100;
+const SHOWN_PLANS = 50;
 const SHOWN_CAUSES = 10;
 const KEYS = "Arrow keys lead from plan to plan, Home and End along a line, Page Up and Page Down further; Enter tells more of a plan.";
 
@@ -41,62 +41,104 @@ function scenarioCode(text) {
 function drawHeader(campaign) {
   const { told } = campaign;
   const { sentences, whole } = wholeness(campaign);
+  const { fail, unresolved } = told.counts;
   const ways = failuresByCode(campaign).map(([code, count]) =>
     element("li", {}, markIcon(markOf({ verdict: "fail", code }, campaign.codes)), `${code}: ${counted(count, "plan")}`));
   return element("header", {},
     element("p", { class: "kind" }, "Paklour report"),
     element("h1", {}, told.label),
-    element("p", { class: "headline" }, headline(campaign)),
-    ways.length > 0 ? element("ul", { class: "ways" }, ...ways) : null,
-    element("p", {}, tried(campaign).join(" ")),
+    element("div", { class: `outcome ${fail > 0 ? "fails" : unresolved > 0 ? "ended" : "passes"}` },
+      element("p", { class: "headline" }, headline(campaign)),
+      ways.length > 0 ? element("ul", { class: "ways" }, ...ways) : null),
+    element("p", {}, ["A plan is one run of the program, with its faults.", ...tried(campaign)].join(" ")),
     element("p", { class: whole ? "whole" : "open" }, sentences.join(" ")),
     element("p", { class: "muted" }, limits(campaign).join(" ")));
+}
+
+/** Links to the sections that there are. @param {HTMLElement[]} sections */
+function drawContents(sections) {
+  const links = sections.map((one) => element("li", {}, element("a", { href: `#${one.id}` }, one.querySelector("h2").textContent)));
+  return element("nav", { "aria-label": "Contents" }, element("ul", {}, ...links));
 }
 
 // ---- runs
 
 /** @param {(point: string) => string} call @param {import("./run.js").Hit|null} hit */
 function drawHit(call, hit) {
-  if (hit === null) return [element("span", { class: "muted" }, "\u2013")];
-  const keeps = hit.point === KEEP;
-  const name = keeps ? `${ordinal(hit.ordinal)} pending change` : `${ordinal(hit.ordinal)} ${call(hit.point)}`;
-  if (hit.answer === null) return [name];
-  return [name, " ", element("b", { class: isFault(hit.answer) ? "fault" : null }, keeps && hit.answer === "return" ? "kept" : hit.answer)];
+  if (hit === null) return element("div", { class: "hit muted" }, "\u2013");
+  const answer = answerWords(hit.point, hit.answer);
+  const name = element("span", {}, `${ordinal(hit.ordinal)} ${call(hit.point)}`);
+  return element("div", { class: hit.near ? "hit near" : "hit" }, name, ...(answer === null ? [] : [" ", element(isFault(hit.answer) ? "b" : "span", {}, answer)]));
 }
 
 /** @param {(point: string) => string} call @param {import("./run.js").Line} line @param {boolean} beside */
 function drawLine(call, { here, there, same, fault }, beside) {
-  const number = element("td", { class: "number" }, String((here ?? there).number));
-  const cell = (hit, columns) => element("td", { colspan: columns }, element("div", { class: "hit" }, ...drawHit(call, hit)));
-  const cells = beside && !same ? [cell(here, null), cell(there, null)] : [cell(here, beside ? "2" : null)];
-  return element("tr", { class: fault ? "fault-line" : same || !beside ? null : "differs" }, number, ...cells);
+  const cells = (hit, isAlone) => [
+    element("td", { class: "number" }, hit === null ? "" : String(hit.number)),
+    element("td", { class: isAlone ? "alone" : null }, drawHit(call, hit)),
+  ];
+  const isAlone = (hit, other) => beside && hit !== null && hit.point !== other?.point;
+  const kind = fault ? "fault-line" : same || !beside ? "same" : null;
+  return element("tr", { class: kind }, ...cells(here, isAlone(here, there)), ...(beside ? cells(there, isAlone(there, here)) : []));
 }
 
 /** @param {(point: string) => string} call @param {{lines: any[]}} piece @param {boolean} beside */
 function drawFold(call, { lines }, beside) {
   const button = element("button", { type: "button", class: "more" }, `${lines.length} hits go on, the same${beside ? " in both" : ""}`);
-  const row = element("tr", { class: "fold" }, element("td", { class: "number" }, "\u22ee"), element("td", { colspan: beside ? "2" : null }, button));
+  const row = element("tr", { class: "fold" }, element("td", { class: "number" }, "\u22ee"), element("td", { colspan: beside ? "3" : null }, button));
   button.addEventListener("click", () => row.replaceWith(...lines.map((line) => drawLine(call, line, beside))));
   return row;
 }
 
-/** A run hit by hit, beside another one. @param {any} campaign @param {{number: number, scenario: string}} plan @param {boolean} open */
-function drawRun({ runs, names, call }, { number, scenario }, open) {
-  const run = runs.get(runKey(number, scenario));
-  if (!run) return null;
-  const other = runBeside(runs, run, names);
+/** What came of two runs, below their hits. @param {any} campaign @param {import("./run.js").Run} run @param {import("./run.js").Run|null} other */
+function drawEnds(campaign, run, other) {
+  const cells = ({ verdict }) => {
+    const [word, code = null] = verdict.startsWith("fail ") ? ["fail", verdict.slice("fail ".length)] : [verdict];
+    return [element("td"), element("td", {}, verdictMark(campaign, { verdict: word, code }))];
+  };
+  return element("tr", { class: "ends" }, ...cells(run), ...(other ? cells(other) : []));
+}
+
+/** @param {import("./run.js").Run} other */
+function besideWords({ scenario }) {
+  return `the run ${scenario === "" ? "without faults" : "without its last fault"}`;
+}
+
+/** @param {any} campaign @param {import("./run.js").Run} run @param {import("./run.js").Run|null} other */
+function drawHits(campaign, run, other) {
+  const { names, call } = campaign;
   const beside = other !== null;
   const lines = linesOf(run, other, names);
   const pieces = foldLines(beside ? lines : lines.map((line) => ({ ...line, same: true })));
   const rows = pieces.map((piece) => (piece.fold ? drawFold(call, piece, beside) : drawLine(call, piece.line, beside)));
-  const otherWords = other && `the run ${other.scenario === "" ? "without faults" : "without its last fault"}`;
-  const heads = [element("th", { class: "number" }, "hit"), element("th", {}, "this run"), beside ? element("th", {}, otherWords) : null];
-  const head = element("thead", {}, element("tr", {}, ...heads));
-  const notes = [run.more > 0 ? `${counted(run.more, "further hit")} of this run ${run.more === 1 ? "isn\u2019t" : "aren\u2019t"} told.` : null, endWords(run)];
-  return element("details", { class: "run", open },
-    element("summary", {}, `The run, hit by hit${beside ? `, beside ${otherWords}` : ""}`),
-    element("div", { class: "scroll" }, element("table", { class: "hits" }, head, element("tbody", {}, ...rows))),
-    ...notes.filter((note) => note !== null).map((note) => element("p", { class: "muted" }, note)));
+  const head = (words) => [element("th", { class: "number" }, "hit"), element("th", {}, words)];
+  const heads = element("thead", {}, element("tr", {}, ...head("this run"), ...(other ? head(besideWords(other)) : [])));
+  const files = [...filesOfFaults(lines)];
+  const notes = [
+    files.length > 0 ? `In bold: hits of the same file as ${files.length === 1 ? "the fault\u2019s" : "a fault\u2019s"}, ${listed(files)}.` : null,
+    lines.some(({ here, there }) => here?.point === KEEP || there?.point === KEEP)
+      ? "A pending change is one that no sync has made last. A power cut may keep any of them." : null,
+    run.more > 0 ? `${counted(run.more, "further hit")} of this run ${run.more === 1 ? "isn\u2019t" : "aren\u2019t"} told.` : null,
+    endWords(run),
+  ];
+  return [
+    element("div", { class: "scroll" }, element("table", { class: beside ? "hits two" : "hits" }, heads, element("tbody", {}, ...rows, drawEnds(campaign, run, other)))),
+    ...notes.filter((note) => note !== null).map((note) => element("p", { class: "muted" }, note)),
+  ];
+}
+
+/** A run hit by hit, beside another one, read and drawn when it is opened. @param {any} campaign @param {{number: number, scenario: string}} plan @param {boolean} open */
+function drawRun(campaign, { number, scenario }, open) {
+  const { runs } = campaign;
+  if (!runs.has(number, scenario)) return null;
+  const made = element("details", { class: "run", open }, element("summary", {}, "The run, hit by hit"));
+  const draw = () => {
+    const run = runs.of(number, scenario);
+    made.append(...drawHits(campaign, run, runs.beside(run)));
+  };
+  if (open) draw();
+  else made.addEventListener("toggle", draw, { once: true });
+  return made;
 }
 
 /** @param {{end: string|null}} run */
@@ -113,7 +155,7 @@ function drawFinding(campaign, finding, index) {
   const planned = finding.reduced === finding.scenario ? null
     : element("p", { class: "muted" }, `Reduced, in ${counted(finding.tests, "test")}, from `, scenarioCode(finding.scenario));
   return element("article", { id: `first-${finding.number}`, class: "finding" },
-    element("h3", {}, verdictMark(campaign, { verdict: "fail", code: finding.code }), " ", planLink(finding.number)),
+    element("h3", {}, verdictMark(campaign, { verdict: "fail", code: finding.code }), ", ", planLink(finding.number)),
     element("p", { class: "words" }, sentence(wordsOfNumbered(campaign, finding.number, finding.reduced))),
     element("p", {}, scenarioCode(finding.reduced)),
     planned,
@@ -134,15 +176,15 @@ function drawFindings(campaign) {
 function drawCause(campaign, cause) {
   const mark = verdictMark(campaign, { verdict: "fail", code: cause.code });
   return element("li", { id: `cause-${cause.number}` },
-    element("p", {}, mark, " ", planLink(cause.number), ": ", sentence(wordsOfNumbered(campaign, cause.number, cause.scenario))),
+    element("p", {}, mark, ", ", planLink(cause.number), ": ", sentence(wordsOfNumbered(campaign, cause.number, cause.scenario))),
     scenarioCode(cause.scenario),
     drawRun(campaign, cause, false));
 }
 
 /** @param {any} campaign @param {string[]} points */
 function groupWords({ call }, points) {
-  const calls = points.filter((point) => point !== KEEP).map(call);
-  const kept = points.includes(KEEP) ? "what the power cut keeps" : null;
+  const calls = points.filter((point) => point !== KEEP && point !== TEAR).map(call);
+  const kept = points.includes(KEEP) || points.includes(TEAR) ? "what the power cut keeps" : null;
   return listed([...calls, ...(kept ? [kept] : [])]) || "no fault";
 }
 
@@ -172,7 +214,7 @@ function drawCauses(campaign) {
 
 /** @param {any} campaign @param {number} number */
 function tellPlan(campaign, number) {
-  const plan = campaign.byNumber.get(number);
+  const plan = campaign.plans[number];
   return `plan ${number}, ${verdictWords(plan)}: ${planWords(campaign, plan)}`;
 }
 
@@ -205,13 +247,14 @@ function drawMap(campaign, chosen) {
 /** What the map shows. Only of plans that grew it is known which fault acts first. @param {any} campaign */
 function mapWords({ told }) {
   const down = told.growth ? "acts first, in the order of the run without faults" : "its scenario names first";
-  return `Each mark is a plan. Down stands the fault that ${down}; across, how many faults it has. In a row the marks stand in the order of their plans\u2019 `
-    + "numbers. A column closes and opens by its head.";
+  const onward = told.growth?.onward > 0 ? " In the last column the last fault goes on from then on." : "";
+  return `Each mark is a plan. Down stands the fault that ${down}; across, how many faults it has.${onward} In a row the marks stand in the order of their `
+    + "plans\u2019 numbers. A column closes and opens by its head.";
 }
 
 /** What is told of the plan that was chosen. @param {any} campaign @param {number} number */
 function drawChosen(campaign, number) {
-  const plan = campaign.byNumber.get(number);
+  const plan = campaign.plans[number];
   if (!plan) return [element("p", {}, `Plan ${number} isn\u2019t in this campaign.`)];
   return [
     element("h3", {}, `Plan ${number} `, verdictMark(campaign, plan)),
@@ -322,8 +365,9 @@ function drawAgain({ told: { seed, about } }) {
   const items = [["seed", seed], ["program", `paklour ${about.program_version}`], ["command", about.command]];
   const rows = items.map(([name, value]) =>
     element("tr", {}, element("th", { scope: "row" }, name), element("td", {}, element("code", {}, value))));
-  return section("Again", "again",
+  return section("Make it again", "again",
     element("table", {}, element("tbody", {}, ...rows)),
+    element("p", { class: "muted" }, "Settings, as they stand in FILE:"),
     preformatted(about.settings));
 }
 
@@ -338,8 +382,9 @@ function drawPage(campaign) {
   };
   const { made, view } = drawMap(campaign, choose);
   made.append(chosen);
-  const parts = [drawHeader(campaign), drawFindings(campaign), drawCauses(campaign), made, drawPoints(campaign), drawPlans(campaign), drawAgain(campaign)];
-  document.getElementById("page").replaceChildren(...parts.filter((part) => part !== null));
+  const parts = [drawFindings(campaign), drawCauses(campaign), made, drawPoints(campaign), drawPlans(campaign), drawAgain(campaign)];
+  const sections = parts.filter((part) => part !== null);
+  document.getElementById("page").replaceChildren(drawHeader(campaign), drawContents(sections), ...sections);
   view.fit(view.box.clientWidth);
   followHash(view, choose, chosen);
 }
@@ -355,7 +400,7 @@ function followHash(view, choose, chosen) {
     const match = /^#plan-(\d+)$/.exec(location.hash);
     if (!match) return;
     const number = Number(match[1]);
-    view.select(view.campaign.byNumber.has(number) ? number : null);
+    view.select(number < view.campaign.plans.length ? number : null);
     choose(number);
     chosen.scrollIntoView({ block: "center" });
   };
@@ -381,6 +426,7 @@ export function start() {
   try {
     const campaign = campaignOf(readDocument(document.getElementById("document").textContent));
     drawPage(campaign);
+    requestIdleCallback(() => loweredTexts(campaign));
     document.title = shown(`${campaign.told.label} \u2013 Paklour`);
     document.getElementById("brief").open = false;
   } catch (error) {

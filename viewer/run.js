@@ -2,10 +2,11 @@
 import { clausesOf, spell } from "./scenario.js";
 
 /** @typedef {{point: number, answer: string|null}} Step */
-/** @typedef {{scenario: string, steps: Step[], more: number, end: string|null}} Run */
-/** @typedef {{number: number, point: string, ordinal: number, answer: string|null}} Hit */
+/** @typedef {{scenario: string, verdict: string, steps: Step[], more: number, end: string|null}} Run */
+/** @typedef {{number: number, point: string, ordinal: number, answer: string|null, near?: boolean}} Hit */
+/** A run as a document tells it. @typedef {{explained: string, left_out?: number, parent?: {explained: string, left_out?: number}}} Told */
 /**
- * A line of two runs side by side. `same` is where both hit the same and are answered the same.
+ * A line of two runs side by side. `same` is where both hit the same point and are answered the same. Near is a hit of a file at whose hits a fault acts.
  * @typedef {{here: Hit|null, there: Hit|null, same: boolean, fault: boolean}} Line
  */
 /** @typedef {{fold: false, line: Line}|{fold: true, lines: Line[]}} Piece */
@@ -59,7 +60,8 @@ export function readRun(scenario, { explained, left_out: more = 0 }, names) {
   const steps = [];
   const lines = explained.split(BEFORE_HIT);
   const [last, ...behind] = lines.pop().split(BEHIND_HITS);
-  for (const line of [...lines, last]) {
+  const [first, ...hitLines] = [...lines, last];
+  for (const line of hitLines) {
     const head = `hit ${steps.length + 1} `;
     const step = line.startsWith(head) ? readHit(line.slice(head.length), places, hits) : null;
     if (step) {
@@ -68,7 +70,66 @@ export function readRun(scenario, { explained, left_out: more = 0 }, names) {
     } else if (steps.length > 0) steps[steps.length - 1].answer = `${steps[steps.length - 1].answer ?? "go"}\n${line}`;
   }
   const stopped = behind.find((line) => line.startsWith("stopped "));
-  return { scenario, steps, more, end: stopped ? stopped.slice("stopped ".length) : null };
+  return { scenario, verdict: first.replace(/^verdict /, ""), steps, more, end: stopped ? stopped.slice("stopped ".length) : null };
+}
+
+/** The runs that a document tells. Each may have a thousand hits, so one is read where it is asked for. */
+export class Runs {
+  /** @param {string[]} names */
+  constructor(names) {
+    this.names = names;
+    /** @type {Map<string, {scenario: string, told: Told, before: string|null}>} */
+    this.told = new Map();
+    /** @type {Map<string, Run>} */
+    this.read = new Map();
+  }
+
+  /**
+   * @param {number} number
+   * @param {string} scenario
+   * @param {Told|null} told null where nobody told this run
+   * @param {string|null} [parent] the scenario of the plan that this one grew from
+   */
+  add(number, scenario, told, parent = null) {
+    if (told === null) return;
+    const before = told.parent ? parent : null;
+    const key = runKey(number, scenario);
+    if (before !== null || !this.told.has(key)) this.told.set(key, { scenario, told, before });
+    if (before !== null && !this.told.has(before)) this.told.set(before, { scenario: before, told: told.parent, before: null });
+  }
+
+  /** Whether a run is told. @param {number} number @param {string} scenario */
+  has(number, scenario) {
+    return this.told.has(runKey(number, scenario));
+  }
+
+  /** @param {number} number @param {string} scenario @returns {Run|null} */
+  of(number, scenario) {
+    return this.get(runKey(number, scenario));
+  }
+
+  /** @param {string} key @returns {Run|null} */
+  get(key) {
+    const known = this.told.get(key);
+    if (known && !this.read.has(key)) this.read.set(key, readRun(known.scenario, known.told, this.names));
+    return this.read.get(key) ?? null;
+  }
+
+  /**
+   * The run to look at beside another one: its parent's; where that isn't told, that without the fault which acted last, else that without faults.
+   * @param {Run} run
+   * @returns {Run|null}
+   */
+  beside(run) {
+    if (run.scenario === "") return null;
+    const { before = null } = this.told.get(run.scenario) ?? {};
+    if (before !== null) return this.get(before);
+    const faults = run.more > 0 ? [] : singleFaults(run.scenario, this.names);
+    const acted = hitsOf(run, this.names).flatMap((hit) => faults.filter((fault) => fault.hit === hit.ordinal && this.names[fault.point] === hit.point));
+    const last = acted[acted.length - 1];
+    const less = last && this.get(spell(faults.filter((fault) => fault !== last), this.names));
+    return less ?? this.get("");
+  }
 }
 
 /**
@@ -90,11 +151,6 @@ export function isFault(answer) {
   return answer !== null && /^(return|panic|pause)/.test(answer);
 }
 
-/** @param {Hit|null} one @param {Hit|null} other */
-function isSame(one, other) {
-  return one !== null && other !== null && one.point === other.point && one.answer === other.answer;
-}
-
 /**
  * The faults of a scenario of which each acts at one hit, or from there on; none of any other scenario.
  * @param {string} scenario
@@ -111,23 +167,37 @@ function singleFaults(scenario, names) {
 }
 
 /**
- * The run to look at beside another one: that without the fault which acted last, where it is told, else that without faults.
- * @param {Map<string, Run>} runs
- * @param {Run} run
- * @param {string[]} names
- * @returns {Run|null}
+ * Which hits of two runs stand beside each other: as many as there can be at the same points in the same order, after those with which both begin.
+ * @param {Hit[]} here
+ * @param {Hit[]} there
+ * @returns {[number, number][]}
  */
-export function runBeside(runs, run, names) {
-  if (run.scenario === "") return null;
-  const faults = run.more > 0 ? [] : singleFaults(run.scenario, names);
-  const acted = hitsOf(run, names).flatMap((hit) => faults.filter((fault) => fault.hit === hit.ordinal && names[fault.point] === hit.point));
-  const last = acted[acted.length - 1];
-  const before = last && runs.get(spell(faults.filter((fault) => fault !== last), names));
-  return before ?? runs.get("") ?? null;
+function pairsOf(here, there) {
+  const isPair = (one, other) => here[one].point === there[other].point;
+  const most = Math.min(here.length, there.length);
+  let begin = 0;
+  while (begin < most && isPair(begin, begin)) begin += 1;
+  const pairs = Array.from({ length: begin }, (_, at) => /** @type {[number, number]} */ ([at, at]));
+  const width = there.length + 1;
+  // How many pairs there are at most from a hit of each on.
+  const counts = new Uint16Array((here.length + 1) * width);
+  for (let one = here.length - 1; one >= begin; one -= 1) {
+    for (let other = there.length - 1; other >= begin; other -= 1) {
+      const at = one * width + other;
+      counts[at] = isPair(one, other) ? counts[at + width + 1] + 1 : Math.max(counts[at + width], counts[at + 1]);
+    }
+  }
+  for (let one = begin, other = begin; one < here.length && other < there.length;) {
+    const at = one * width + other;
+    if (isPair(one, other)) pairs.push([one++, other++]);
+    else if (counts[at + width] >= counts[at + 1]) one += 1;
+    else other += 1;
+  }
+  return pairs;
 }
 
 /**
- * Two runs, line by line; `beside` is null where none is told.
+ * Two runs, line by line; `beside` is null where none is told. Hits of one run alone stand beside those of the other alone, as they come.
  * @param {Run} run
  * @param {Run|null} beside
  * @param {string[]} names
@@ -136,15 +206,37 @@ export function runBeside(runs, run, names) {
 export function linesOf(run, beside, names) {
   const here = hitsOf(run, names);
   const there = beside ? hitsOf(beside, names) : [];
-  return Array.from({ length: Math.max(here.length, there.length) }, (_, index) => {
-    const one = here[index] ?? null;
-    const other = there[index] ?? null;
-    return { here: one, there: other, same: isSame(one, other), fault: isFault(one?.answer ?? null) };
-  });
+  const lines = [];
+  const add = (one, other) => {
+    const same = one !== null && other !== null && one.point === other.point && one.answer === other.answer;
+    lines.push({ here: one, there: other, same, fault: isFault(one?.answer ?? null) });
+  };
+  let [nextHere, nextThere] = [0, 0];
+  for (const [one, other] of [...pairsOf(here, there), [here.length, there.length]]) {
+    const [alone, lacking] = [here.slice(nextHere, one), there.slice(nextThere, other)];
+    for (let at = 0; at < Math.max(alone.length, lacking.length); at += 1) add(alone[at] ?? null, lacking[at] ?? null);
+    if (one < here.length || other < there.length) add(here[one], there[other]);
+    [nextHere, nextThere] = [one + 1, other + 1];
+  }
+  const files = filesOfFaults(lines);
+  for (const hit of [...here, ...there]) hit.near = files.has(fileOf(hit.point));
+  return lines;
+}
+
+/** The file that a point names; null where it names none. @param {string} point */
+function fileOf(point) {
+  const at = point.indexOf("@");
+  return at < 0 ? null : point.slice(at + 1);
+}
+
+/** The files at whose hits a fault acts, of a run whose points name files. @param {Line[]} lines @returns {Set<string>} */
+export function filesOfFaults(lines) {
+  const files = lines.filter(({ fault }) => fault).map(({ here }) => fileOf(here.point));
+  return new Set(files.filter((file) => file !== null));
 }
 
 /**
- * Long stretches without a fault, that are the same in both runs, folded.
+ * Long stretches that are the same in both runs, folded. What a fault may have to do with stays.
  * @param {Line[]} lines
  * @returns {Piece[]}
  */
@@ -152,7 +244,7 @@ export function foldLines(lines) {
   const pieces = [];
   let begin = 0;
   for (let at = 0; at <= lines.length; at += 1) {
-    if (at < lines.length && lines[at].same && !lines[at].fault) continue;
+    if (at < lines.length && lines[at].same && !lines[at].fault && !lines[at].here.near) continue;
     const stretch = lines.slice(begin, at);
     const folded = stretch.length >= FOLDED ? stretch.length - KEPT_BEFORE : 0;
     if (folded > 0) pieces.push({ fold: true, lines: stretch.slice(0, folded) });

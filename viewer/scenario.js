@@ -10,6 +10,10 @@
 
 /** The point at which a power cut asks for each pending change whether it is kept. */
 export const KEEP = "power::keep";
+/** The point at which it asks whether of a write that is kept the first half alone is there. */
+export const TEAR = "power::tear";
+/** The point of the order of threads: a return lets the next one go first. */
+export const NEXT = "order::next";
 
 const TASKS = new Set(["off", "yield", "print", "sleep", "delay", "return", "panic", "pause"]);
 const PASSING = new Set(["off", "yield"]);
@@ -102,18 +106,49 @@ function chainOf(faults) {
   return terms.join("->");
 }
 
+/** @typedef {{point: number, hit: number, kind: string}} SingleFault */
+/** What a scenario says of one point. @typedef {{point: number, faults: SingleFault[], text: string}} Share */
+
+/** @param {number} point @param {SingleFault[]} faults by their hits @param {string[]} names @returns {Share} */
+function shareOf(point, faults, names) {
+  return { point, faults, text: `${names[point]}=${chainOf(faults)}` };
+}
+
 /**
- * The scenario of faults that each act at one hit, or from there on: as the program spells it, points in the order of the catalogue.
- * @param {{point: number, hit: number, kind: string}[]} faults
- * @param {string[]} points
+ * What the scenario of faults that each act at one hit, or from there on, says of each point, in the order of the catalogue.
+ * @param {SingleFault[]} faults
+ * @param {string[]} names
+ * @returns {Share[]}
  */
-export function spell(faults, points) {
-  const sorted = [...faults].sort((one, other) => one.point - other.point || one.hit - other.hit);
+export function sharesOf(faults, names) {
+  const points = [...new Set(faults.map(({ point }) => point))].sort((one, other) => one - other);
+  return points.map((point) =>
+    shareOf(point, faults.filter((fault) => fault.point === point).sort((one, other) => one.hit - other.hit), names));
+}
+
+/** The scenario of faults, as the program spells it. @param {SingleFault[]} faults @param {string[]} names */
+export function spell(faults, names) {
+  return sharesOf(faults, names).map(({ text }) => text).join(";");
+}
+
+/**
+ * A scenario with one fault more, of which what it says of other points stays.
+ * @param {Share[]} shares
+ * @param {SingleFault} fault
+ * @param {string[]} names
+ */
+export function spellWith(shares, fault, names) {
+  const own = shares.find(({ point }) => point === fault.point);
+  const [{ text: added }] = own ? sharesOf([...own.faults, fault], names) : [shareOf(fault.point, [fault], names)];
   let text = "";
-  for (let begin = 0, end = 0; begin < sorted.length; begin = end) {
-    const { point } = sorted[begin];
-    while (end < sorted.length && sorted[end].point === point) end += 1;
-    text += `${begin > 0 ? ";" : ""}${points[point]}=${chainOf(sorted.slice(begin, end))}`;
+  let isIn = false;
+  for (const share of shares) {
+    if (!isIn && share.point > fault.point) {
+      text += text === "" ? added : `;${added}`;
+      isIn = true;
+    }
+    if (share !== own) text += text === "" ? share.text : `;${share.text}`;
   }
-  return text;
+  if (isIn) return text;
+  return text === "" ? added : `${text};${added}`;
 }

@@ -1,5 +1,5 @@
 // What was tried, exactly, and what came of it, in sentences.
-import { KEEP } from "./scenario.js";
+import { KEEP, TEAR } from "./scenario.js";
 import { counted, grouped, listed, ordinal, wordsOfKind } from "./words.js";
 
 /** How many plans fail with each code, in the order of the codes. @param {any} campaign @returns {[string, number][]} */
@@ -33,8 +33,8 @@ function kindsByPoint({ plans, names }) {
 function pointsByKinds(kinds, { call }) {
   const groups = new Map();
   for (const [point, tried] of kinds) {
-    if (point === KEEP) continue;
-    const words = listed(tried.map(wordsOfKind), "or");
+    if (point === KEEP || point === TEAR) continue;
+    const words = listed(tried.map((kind) => wordsOfKind(point, kind)), "or");
     groups.set(words, [...(groups.get(words) ?? []), call(point)]);
   }
   return [...groups].sort((one, other) => one[1].length - other[1].length);
@@ -46,14 +46,10 @@ function faultsWords(campaign) {
   const groups = pointsByKinds(kinds, campaign);
   const parts = groups.map(([words, points], index) =>
     `${words} at ${index < groups.length - 1 ? listed(points) : groups.length > 1 ? "each other point that is hit" : "any point that is hit"}`);
-  if (kinds.has(KEEP)) parts.push(keptKindsWords(kinds.get(KEEP)));
-  return parts.join(", or ");
-}
-
-/** @param {string[]} kinds */
-function keptKindsWords(kinds) {
-  const parts = kinds.map((kind) => (kind === "return" ? "a pending change" : kind === "return(HALF)" ? "the first half of one" : `${kind} of one`));
-  return `${listed(parts, "or")} that the power cut keeps`;
+  const isTried = (point) => (kinds.get(point) ?? []).some((kind) => kind.startsWith("return"));
+  if (isTried(KEEP)) parts.push("a pending change that the power cut keeps");
+  if (isTried(TEAR)) parts.push("a write of which it keeps the first half alone");
+  return parts.length > 2 ? `${parts.slice(0, -1).join("; ")}; or ${parts[parts.length - 1]}` : parts.join(", or ");
 }
 
 /** @param {any} campaign */
@@ -71,8 +67,8 @@ function triedAtHits({ parts }) {
   const size = (name) => parts.find((part) => part.name === name)?.count ?? 0;
   const hits = size("hits") / 3;
   if (hits === 0) return ["Tried was the run without faults."];
-  const sentences = [`Tried was one fault at each of ${counted(hits, "hit")} of the run without faults: a return, a return from then on, and a panic.`];
-  if (size("pairs") > 0) sentences.push(`In ${counted(size("pairs"), "plan")} more two of these hits have a fault: both a return, or the second a panic.`);
+  const sentences = [`Tried was one fault at each of ${counted(hits, "hit")} of the run without faults: a failure, failures from then on, and the end of the program.`];
+  if (size("pairs") > 0) sentences.push(`In ${counted(size("pairs"), "plan")} more two of these hits have a fault: both fail, or the program ends at the second.`);
   return sentences;
 }
 
@@ -137,5 +133,5 @@ export function partWords({ name, level }) {
 export function rowWords({ kind, point, hit, name }, call) {
   if (kind === "none") return "no fault";
   if (kind === "wide") return partWords({ name, level: null });
-  return `${ordinal(hit)} ${point === KEEP ? "pending change" : call(point)}`;
+  return `${ordinal(hit)} ${call(point)}`;
 }

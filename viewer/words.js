@@ -1,5 +1,5 @@
 // Scenarios, runs and what was tried, in words.
-import { KEEP, clausesOf } from "./scenario.js";
+import { KEEP, NEXT, TEAR, clausesOf, parseTerm } from "./scenario.js";
 
 /** @typedef {import("./scenario.js").Clause} Clause */
 /** How a point is called. @typedef {(point: string) => string} Call */
@@ -42,18 +42,30 @@ export function sentence(text) {
   return `${text.charAt(0).toUpperCase()}${text.slice(1)}.`;
 }
 
+/** The points of calls of the system, as the supervisor of outside/ names them. */
+const IS_CALL = /^(?:sys|libc)::/;
+
+/** The points that a power cut asks. */
+const IN_CUT = new Set([KEEP, TEAR]);
+
+/** What is hit at points that aren't a program's calls. */
+const NAMED = new Map([[KEEP, "pending change"], [TEAR, "write that is kept"], [NEXT, "choice between threads"]]);
+
 /**
- * How points are called: by what stands behind the last `::`, where no other point is called so; `libc::write@a.db` is `write of a.db`.
+ * How points are called: by what stands behind the last `::`, where no other point is called so; `sys::write@a.db` is `write of a.db`. Files are told from
+ * the root folder on, which is `.` itself.
  * @param {string[]} points
  * @returns {(point: string) => string}
  */
 export function callsOf(points) {
   const short = points.map(lastOf);
-  const calls = new Map();
+  const calls = new Map(NAMED);
   points.forEach((point, index) => {
+    if (NAMED.has(point)) return;
     const alone = short.filter((name) => name === short[index]).length === 1;
     const [name, ...file] = (alone ? short[index] : point).split("@");
-    calls.set(point, file.length > 0 && name !== "" ? `${name} of ${file.join("@")}` : name || point);
+    const named = file.join("@") === "." && IS_CALL.test(point) ? "the root folder" : file.join("@");
+    calls.set(point, file.length > 0 && name !== "" ? `${name} of ${named}` : name || point);
   });
   return (point) => calls.get(point) ?? point;
 }
@@ -74,21 +86,28 @@ function hitWords({ point, first, last }, call) {
   return `the ${ordinal(first)} ${name}`;
 }
 
-/** @param {string|null} argument */
-function failureWords(argument) {
+/**
+ * What a call comes to that a return answers. To points of a program's own an argument is a text, of which the program makes what it likes.
+ * @param {string} point
+ * @param {string|null} argument
+ */
+function failureWords(point, argument) {
   if (argument === null) return "fails";
   if (/^E[A-Z0-9]+$/.test(argument)) return `fails with ${argument}`;
-  if (argument === "HALF") return "does its first half alone";
-  if (argument === "DROP") return "answers that all is done, and does nothing";
+  if (argument === "HALF" && IS_CALL.test(point)) return "does its first half alone";
+  if (argument === "DROP" && IS_CALL.test(point)) return "answers that all is done, and does nothing";
   return `fails with the text \u201c${argument}\u201d`;
 }
 
 /** @param {Clause} clause @param {Call} call */
 function actWords(clause, call) {
   const hit = hitWords(clause, call);
-  const { task, argument } = clause.term;
+  const { point, term: { task, argument } } = clause;
+  if (point === KEEP && (task === "return" || task === "panic")) return `${hit} is ${task === "return" ? "kept" : "lost all the same"}`;
+  if (point === TEAR && (task === "return" || task === "panic")) return task === "return" ? `of ${hit} the first half alone is there` : `${hit} is whole all the same`;
+  if (point === NEXT && task === "return") return `at ${hit} the next one goes first`;
   switch (task) {
-    case "return": return `${hit} ${failureWords(argument)}`;
+    case "return": return `${hit} ${failureWords(point, argument)}`;
     case "panic": return `the program ends at ${hit}`;
     case "pause": return `the run is ended at ${hit}`;
     case "print": return `a note is taken at ${hit}`;
@@ -97,17 +116,55 @@ function actWords(clause, call) {
   }
 }
 
-/** @param {Clause} clause */
-function keptWords({ first, last, term }) {
-  const half = term.argument === null ? "" : term.argument === "HALF" ? "the first half of " : `(${term.argument}) `;
-  if (last === Infinity) return half + (first === 1 ? "each pending change" : `each pending change from the ${ordinal(first)} on`);
-  if (last > first) return `${half}pending changes ${first} to ${last}`;
-  return `${half}the ${ordinal(first)} pending change`;
+/**
+ * What an answer comes to at a hit of a run.
+ * @param {string} point
+ * @param {string|null} answer null where the hit goes on
+ * @returns {string|null}
+ */
+export function answerWords(point, answer) {
+  const term = answer === null ? null : parseTerm(answer);
+  const isReturn = term?.task === "return";
+  if (point === KEEP) return isReturn ? "is kept" : "isn\u2019t kept";
+  if (point === TEAR) return isReturn ? "its first half alone" : "whole";
+  if (term === null) return answer;
+  if (isReturn) return point === NEXT ? "the next one goes first" : failureWords(point, term.argument);
+  return term.task === "panic" ? "the program ends here" : answer;
+}
+
+/** Whether a power cut keeps something by this clause, or keeps half of it. @param {Clause} clause */
+function isOfCut(clause) {
+  return IN_CUT.has(clause.point) && clause.term.task === "return" && clause.term.percent === null;
 }
 
 /** @param {Clause} clause */
-function isKept(clause) {
-  return clause.point === KEEP && clause.term.task === "return" && clause.term.percent === null;
+function keptWords({ first, last }) {
+  if (last === Infinity) return first === 1 ? "each pending change" : `each pending change from the ${ordinal(first)} on`;
+  return last > first ? `pending changes ${first} to ${last}` : `the ${ordinal(first)} pending change`;
+}
+
+/**
+ * What a power cut keeps. It is asked for the half of a write right behind the hit that keeps it, so in the order of time a tear is of the change before
+ * it. Of a scenario that has no order that is certain of the only one.
+ * @param {Clause[]} clauses
+ * @param {Call} call
+ * @param {boolean} inOrder
+ */
+function cutWords(clauses, call, inOrder) {
+  const isOne = ({ first, last }) => first === last;
+  const kept = [];
+  const torn = [];
+  clauses.forEach((clause, index) => {
+    const before = clauses[index - 1];
+    const isCertain = inOrder || (clauses.length === 2 && clause.first === 1);
+    if (clause.point === KEEP) kept.push(keptWords(clause));
+    else if (isCertain && before?.point === KEEP && isOne(before) && isOne(clause)) kept.push(`the first half of ${kept.pop()}`);
+    else torn.push(hitWords(clause, call));
+  });
+  return [
+    ...(kept.length > 0 ? [`the power cut keeps ${listed(kept)}`] : []),
+    ...torn.map((hit) => `of ${hit} the first half alone is there`),
+  ];
 }
 
 /** @param {Clause} clause @param {Call} call */
@@ -121,15 +178,24 @@ function clauseWords(clause, call) {
 }
 
 /**
- * What happens where these clauses act. What the power cut keeps stands last, as the cut comes at the end.
+ * What happens where these clauses act. Where they aren't in the order of time, what the power cut keeps stands last.
  * @param {Clause[]} clauses
  * @param {Call} call
+ * @param {boolean} [inOrder]
  */
-export function wordsOfClauses(clauses, call) {
+export function wordsOfClauses(clauses, call, inOrder = false) {
   if (clauses.length === 0) return "no fault";
-  const kept = clauses.filter(isKept);
-  const parts = clauses.filter((clause) => !isKept(clause)).map((clause) => clauseWords(clause, call));
-  if (kept.length > 0) parts.push(`the power cut keeps ${listed(kept.map(keptWords))}`);
+  const ordered = inOrder ? clauses : [...clauses.filter((clause) => !isOfCut(clause)), ...clauses.filter(isOfCut)];
+  const parts = [];
+  for (let begin = 0, end = 0; begin < ordered.length; begin = end) {
+    end = begin + 1;
+    if (!isOfCut(ordered[begin])) {
+      parts.push(clauseWords(ordered[begin], call));
+      continue;
+    }
+    while (end < ordered.length && isOfCut(ordered[end])) end += 1;
+    parts.push(...cutWords(ordered.slice(begin, end), call, inOrder));
+  }
   return parts.join("; ");
 }
 
@@ -144,10 +210,17 @@ export function wordsOfScenario(scenario, call) {
 
 /**
  * A kind of fault, as `return(ENOSPC)`, in words.
+ * @param {string} point
  * @param {string} kind
  */
-export function wordsOfKind(kind) {
-  return kind === "return" || kind === "panic" ? `a ${kind}` : kind;
+export function wordsOfKind(point, kind) {
+  const { task, argument } = parseTerm(kind) ?? { task: kind, argument: null };
+  if (task === "panic") return "the end of the program";
+  if (point === NEXT) return "that the next one goes first";
+  if (argument === null) return "a failure";
+  if (argument === "HALF" && IS_CALL.test(point)) return "its first half alone";
+  if (argument === "DROP" && IS_CALL.test(point)) return "a loss that nobody is told";
+  return /^E[A-Z0-9]+$/.test(argument) ? argument : `a failure with the text \u201c${argument}\u201d`;
 }
 
 /**

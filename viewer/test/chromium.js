@@ -70,6 +70,7 @@ export class Browser {
     const { sessionId } = await this.send("Target.attachToTarget", { targetId, flatten: true });
     this.session = sessionId;
     await Promise.all(["Page", "Runtime", "Network"].map((domain) => this.send(`${domain}.enable`)));
+    await this.send("Performance.enable", { timeDomain: "threadTicks" });
     await this.send("Emulation.setDeviceMetricsOverride", { width, height, deviceScaleFactor: 1, mobile: false });
     await this.send("Emulation.setEmulatedMedia", { features: [{ name: "prefers-color-scheme", value: dark ? "dark" : "light" }] });
     await this.send("Emulation.setScriptExecutionDisabled", { value: !scripts });
@@ -86,6 +87,12 @@ export class Browser {
     return result.value;
   }
 
+  /** The processor time that the page's main thread has taken, in milliseconds: how long it takes where nothing else is running. */
+  async busy() {
+    const { metrics } = await this.send("Performance.getMetrics");
+    return Math.round(1000 * metrics.find(({ name }) => name === "TaskDuration").value);
+  }
+
   /** @param {string} key */
   async press(key) {
     const params = { key, code: key, windowsVirtualKeyCode: KEYS[key], text: key === "Enter" ? "\r" : undefined };
@@ -100,9 +107,9 @@ export class Browser {
     }
   }
 
-  /** @param {string} file @param {boolean} whole */
-  async screenshot(file, whole) {
-    const { data } = await this.send("Page.captureScreenshot", { captureBeyondViewport: whole });
+  /** A picture of a part of the page, beyond the window too. @param {string} file @param {{x: number, y: number, width: number, height: number, scale: number}} clip */
+  async screenshot(file, clip) {
+    const { data } = await this.send("Page.captureScreenshot", { captureBeyondViewport: true, clip });
     writeFileSync(file, Buffer.from(data, "base64"));
   }
 

@@ -3,14 +3,15 @@ import { readFileSync } from "node:fs";
 import { test } from "node:test";
 import { ReadError, campaignOf, faultsOf, filterPlans, levelKeyOf, readDocument } from "../document.js";
 import { drawn, makeDocument, numbers } from "./made.js";
-import { reports, savedReport } from "./reports.js";
+import { explainedReport, keptReport, reports } from "./reports.js";
 import { breaches } from "./schema.js";
 
 const schema = JSON.parse(readFileSync(new URL("../../docs/report.schema.json", import.meta.url), "utf8"));
 const whole = () => makeDocument({ ...drawn(4), depth: 3, most: 400, longest: 6, told_by: "target" }).document;
 
 test("each document keeps the schema, and is read", () => {
-  for (const { name, json } of [...reports(), { name: "save", json: savedReport() }]) {
+  const kept = ["save", "leveldb"].flatMap((name) => [keptReport(name), explainedReport(name)].map((json) => ({ name, json })));
+  for (const { name, json } of [...reports(), ...kept]) {
     const document = JSON.parse(json);
     assert.deepEqual(breaches(schema, document), [], name);
     readDocument(json);
@@ -57,6 +58,39 @@ test("a document that lacks something, or contradicts itself, is refused with wh
   assert.throws(() => readDocument("[]"), ReadError);
 });
 
+test("runs are the document's, null where nobody told one, each beside its parent's where that is told", () => {
+  const looked = { told: 0, lacking: 0, beside: 0 };
+  for (const { name, json } of reports()) {
+    const { told: { findings, growth, about }, runs, plans } = campaignOf(readDocument(json));
+    const items = [...findings.map(({ number, reduced }, at) => [number, reduced, about.finding_runs[at]]),
+      ...(growth?.causes ?? []).map(({ number, scenario }, at) => [number, scenario, about.cause_runs[at]])].filter(([, , run]) => run !== undefined);
+    for (const [number, scenario, run] of items) {
+      if (run === null) looked.lacking += 1;
+      else {
+        assert.equal(runs.of(number, scenario).verdict, run.explained.split("\n")[0].slice("verdict ".length), name);
+        looked.told += 1;
+      }
+      if (!run?.parent) continue;
+      assert.equal(runs.beside(runs.of(number, scenario)).scenario, plans[plans[number].parent].text, name);
+      looked.beside += 1;
+    }
+  }
+  assert.ok(looked.told > 100 && looked.lacking > 5 && looked.beside > 20, JSON.stringify(looked));
+});
+
+test("a run that isn't one is refused, and so is a parent that isn't", () => {
+  const refused = (run, problem) => {
+    const document = whole();
+    document.about.finding_runs[0] = run;
+    assert.throws(() => readDocument(JSON.stringify(document)), (error) => error.problems.includes(`document.about.finding_runs[0]${problem}`), problem);
+  };
+  refused({}, ".explained lacks");
+  refused("hit 1", " isn't an object");
+  refused({ explained: "", left_out: -1 }, ".left_out isn't a whole number from 0");
+  refused({ explained: "", parent: null }, ".parent isn't an object");
+  refused({ explained: "", parent: { explained: 1 } }, ".parent.explained isn't a text");
+});
+
 test("verdicts, counts, levels and parents are the document's", () => {
   for (const { name, json, texts } of reports()) {
     const document = JSON.parse(json);
@@ -80,7 +114,7 @@ test("a plan has its parent's faults and one more, and its level tells how many"
     const campaign = campaignOf(readDocument(json));
     for (const plan of campaign.plans.filter((one) => one.fault)) {
       const faults = faultsOf(campaign, plan);
-      assert.deepEqual(faultsOf(campaign, campaign.byNumber.get(plan.parent)), faults.slice(0, -1), name);
+      assert.deepEqual(faultsOf(campaign, campaign.plans[plan.parent]), faults.slice(0, -1), name);
       assert.equal(faults.length, plan.part.level, `${name} ${plan.number}`);
     }
   }
@@ -108,7 +142,7 @@ test("filters give what a straightforward search gives", () => {
         const verdict = told.get(number) ?? "pass";
         return (filter.verdict === "" || verdict === filter.verdict || verdict.split(" ")[0] === filter.verdict)
           && (filter.point === "" || names(texts[number], filter.point))
-          && (filter.level === "" || filter.level === levelKeyOf(campaign.byNumber.get(number)))
+          && (filter.level === "" || filter.level === levelKeyOf(campaign.plans[number]))
           && [String(number), texts[number].toLowerCase()].some((one) => one.includes(filter.text.toLowerCase()));
       });
       assert.deepEqual(filterPlans(campaign, filter).map((plan) => plan.number), wanted, `${name} ${JSON.stringify(filter)}`);

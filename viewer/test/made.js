@@ -131,11 +131,20 @@ function runOf(points, plans, number) {
   return explained(points, run, (place, ordinal) => faults.find((fault) => fault.point === place && acts(fault, ordinal))?.kind.replace("1*", ""));
 }
 
-/** What a document tells of its runs: those of findings and causes are the same. @param {any} options @param {any[]} plans @param {any[]} findings */
-function runsTold({ points, depth, told_by }, plans, findings) {
-  if (told_by === "answers") return { clean_run: null, finding_runs: [], cause_runs: [] };
-  const runs = findings.map(({ number }) => runOf(points, plans, number));
-  return { clean_run: runOf(points, plans, 0), finding_runs: runs, cause_runs: depth === null ? [] : runs };
+/** A run as a document tells it: beside that of its parent, where its plan has two faults or more. @param {any} options @param {any[]} plans @param {number} number */
+function runBesideParent({ points, depth }, plans, number) {
+  const run = runOf(points, plans, number);
+  const isDeep = depth !== null && number < plans.length && faultsBefore(plans, number).length > 1;
+  return isDeep ? { ...run, parent: runOf(points, plans, plans[number].parent) } : run;
+}
+
+/** What a document tells of its runs: those of findings and causes are the same. Answers may tell hits or not. @param {any} options @param {any[]} plans @param {any[]} findings */
+function runsTold(options, plans, findings) {
+  const { draw, depth, told_by } = options;
+  const tell = (run) => (told_by === "answers" && draw.below(4) === 0 ? null : run);
+  const less = ({ parent, ...run }) => (told_by === "answers" && draw.below(4) === 0 ? run : { ...run, ...(parent && { parent }) });
+  const runs = findings.map(({ number }) => tell(less(runBesideParent(options, plans, number))));
+  return { clean_run: tell(runOf(options.points, plans, 0)), finding_runs: runs, cause_runs: depth === null ? [] : runs };
 }
 
 /**
@@ -192,10 +201,15 @@ export function hostileDocument() {
   return { ...made, document: { ...document, about } };
 }
 
-/** As many plans as a campaign has at most. @param {number} depth */
+const largest = new Map();
+
+/** As many plans as a campaign has at most; made once, as it takes a second. @param {number} depth */
 export function largestDocument(depth) {
-  return makeDocument({
-    ...drawn(3), draw: numbers(3), depth, longest: depth === 2 ? 256 : 14, most: MOST - 200, points: POINTS, codes: CODES.slice(0, 4), failing: 3,
-    kinds: false, storms: 0, listed: 0, told_by: "target",
-  });
+  if (!largest.has(depth)) {
+    largest.set(depth, makeDocument({
+      ...drawn(3), draw: numbers(3), depth, longest: depth === 2 ? 256 : 14, most: MOST - 200, points: POINTS, codes: CODES.slice(0, 4), failing: 3,
+      kinds: false, storms: 0, listed: 0, told_by: "target",
+    }));
+  }
+  return largest.get(depth);
 }

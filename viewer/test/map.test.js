@@ -63,7 +63,7 @@ test("a row holds what begins with its fault, a column what has as many faults",
       const { band, strip } = layout.places.get(plan.number);
       const row = layout.rows[layout.bands[band].row];
       let first = plan;
-      while (campaign.byNumber.get(first.parent).fault) first = campaign.byNumber.get(first.parent);
+      while (campaign.plans[first.parent].fault) first = campaign.plans[first.parent];
       assert.deepEqual([row.point, row.hit], [campaign.names[first.fault.point], first.fault.hit], `made ${seed}`);
       assert.equal(layout.columns[layout.bands[band].strips[strip].column].key, levels[plan.number], `made ${seed}`);
     }

@@ -4,6 +4,7 @@ import { mkdtempSync, readFileSync, readdirSync, rmSync } from "node:fs";
 import { tmpdir } from "node:os";
 import { basename, join } from "node:path";
 import { fileURLToPath } from "node:url";
+import { campaignOf } from "../document.js";
 import { drawn, makeDocument } from "./made.js";
 
 export const TOP = fileURLToPath(new URL("../..", import.meta.url));
@@ -63,10 +64,41 @@ export function reports() {
   return known;
 }
 
-/** The tutorial's program, of a user's own. */
-export function savedReport() {
-  const save = (name) => fileURLToPath(new URL(`save/${name}`, import.meta.url));
-  return told(["report", "--json", save("save.toml")], { input: readFileSync(save("answers")) });
+/**
+ * A campaign on a program outside, from answers that are kept: `save`, the program of docs/OUTSIDE.md with its file renamed before the sync, and `leveldb`.
+ * @param {string} name
+ */
+function kept(name) {
+  const path = (file) => fileURLToPath(new URL(`${name}/${file}`, import.meta.url));
+  return { settings: path("settings.toml"), input: readFileSync(path("answers")) };
+}
+
+/** The report of a kept campaign, as the program tells it. @param {string} name */
+export function keptReport(name) {
+  const { settings, input } = kept(name);
+  return told(["report", "--json", settings], { input });
+}
+
+/** The brief report of a kept campaign. @param {string} name */
+export function keptBrief(name) {
+  const { settings, input } = kept(name);
+  return told(["report", "--brief", settings], { input });
+}
+
+/** The report of a kept campaign with its runs and those of their parents, as `report --explain` tells each. @param {string} name */
+export function explainedReport(name) {
+  const { settings, input } = kept(name);
+  const document = JSON.parse(keptReport(name));
+  const { plans } = campaignOf(document);
+  const explain = (scenario) => ({ explained: told(["report", "--explain", scenario === "" ? "none" : scenario, settings], { input }) });
+  const runOf = (number, scenario) => {
+    const { parent } = plans[number];
+    return parent ? { ...explain(scenario), parent: explain(plans[parent].text) } : explain(scenario);
+  };
+  document.about.clean_run = explain("");
+  document.about.finding_runs = document.findings.map(({ number, reduced }) => runOf(number, reduced));
+  document.about.cause_runs = (document.growth?.causes ?? []).slice(0, 100).map(({ number, scenario }) => runOf(number, scenario));
+  return JSON.stringify(document);
 }
 
 /** Settings of examples/, by the program. @param {string} name */

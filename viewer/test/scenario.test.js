@@ -1,7 +1,8 @@
 import assert from "node:assert/strict";
 import { test } from "node:test";
 import { campaignOf, readDocument } from "../document.js";
-import { clausesOf, parseScenario, parseTerm, spell } from "../scenario.js";
+import { clausesOf, parseScenario, parseTerm, sharesOf, spell, spellWith } from "../scenario.js";
+import { numbers } from "./made.js";
 import { reports } from "./reports.js";
 
 test("a term has a percentage, a count, a task and an argument", () => {
@@ -29,6 +30,24 @@ test("faults are spelled with the hits between them, points in the catalogue's o
   const faults = [{ point: 1, hit: 2, kind: "1*return" }, { point: 0, hit: 5, kind: "return" }, { point: 0, hit: 1, kind: "1*panic" }];
   assert.equal(spell(faults, ["a", "b"]), "a=1*panic->3*off->return;b=1*off->1*return");
   assert.equal(spell([], ["a"]), "");
+});
+
+test("one fault more, and the faults together, are spelled the same", () => {
+  const draw = numbers(7);
+  const names = ["a", "b", "c", "d"];
+  for (let round = 0; round < 400; round += 1) {
+    const hits = new Map();
+    const fault = () => {
+      const point = draw.below(names.length);
+      hits.set(point, (hits.get(point) ?? 0) + 1 + draw.below(3));
+      return { point, hit: hits.get(point), kind: draw.among(["1*return", "1*panic", "return"]) };
+    };
+    const faults = Array.from({ length: 1 + draw.below(6) }, fault);
+    for (let at = 0; at < faults.length; at += 1) {
+      const [added, ...others] = [faults[at], ...faults.filter((_, index) => index !== at)];
+      assert.equal(spellWith(sharesOf(others, names), added, names), spell(faults, names), JSON.stringify(faults));
+    }
+  }
 });
 
 test("each plan of each report is spelled as the program lists it", () => {

@@ -2,7 +2,7 @@ import assert from "node:assert/strict";
 import { test } from "node:test";
 import { campaignOf, readDocument } from "../document.js";
 import { failuresByCode, headline, limits, tried, wholeness } from "../verdict.js";
-import { reports, savedReport } from "./reports.js";
+import { reports, keptReport } from "./reports.js";
 
 const CENSUS = [{ point: "libc::write", hits: 2 }, { point: "libc::fsync", hits: 1 }, { point: "power::keep", hits: 0 }];
 const FAIL = { number: 2, verdict: "fail", code: "lost", scenario: "libc::write=1*return" };
@@ -44,7 +44,7 @@ test("the headline", () => {
 test("what was tried, with a depth", () => {
   const first = "Tried was each behaviour in which at most 2 faults act.";
   assert.deepEqual(tried(campaign({})),
-    [`${first} A fault is a return or a panic at any point that is hit, or a pending change that the power cut keeps.`]);
+    [`${first} A fault is a failure or the end of the program at any point that is hit, or a pending change that the power cut keeps.`]);
   const further = { storms: ["x=return"], listed: ["x=panic", "x=pause"], grown: [...LEVELS, ...ONWARD] };
   assert.deepEqual(tried(campaign({ counts: { plans: 28, pass: 28, fail: 0, unresolved: 0 } }, { onward: 5 }, further)).slice(1), [
     "In 5 plans more the last of 2 faults goes on from then on.", "1 storm has faults that were drawn by the seed.",
@@ -55,22 +55,23 @@ test("what was tried, with a depth", () => {
 });
 
 test("the kinds that were tried follow from the plans that grew", () => {
-  const census = [...CENSUS, { point: "libc::open", hits: 1 }, { point: "libc::link", hits: 0 }];
+  const census = [...CENSUS, { point: "libc::open", hits: 1 }, { point: "libc::link", hits: 0 }, { point: "power::tear", hits: 0 }];
   const at = (place, ...kinds) => kinds.map((kind) => `${place} 1 ${kind}`);
   const grown = ["", ...at(0, "1*return(ENOSPC)", "1*return(HALF)", "1*panic"), ...at(1, "1*return", "1*panic"), ...at(3, "1*return", "1*panic"),
-    ...at(2, "1*return", "1*return(HALF)"), "1 1 return(EIO)"];
+    ...at(2, "1*return"), ...at(5, "1*return"), "1 1 return(EIO)"];
   const counts = { plans: 11, pass: 11, fail: 0, unresolved: 0 };
   assert.deepEqual(tried(campaign({ census, counts }, { depth: 1, levels: [1, 9], onward: 1 }, { grown })), [
-    "Tried was each behaviour in which at most one fault acts. A fault is return(ENOSPC), return(HALF) or a panic at write, "
-      + "or a return or a panic at each other point that is hit, or a pending change or the first half of one that the power cut keeps.",
+    "Tried was each behaviour in which at most one fault acts. A fault is ENOSPC, its first half alone or the end of the program at write; "
+      + "a failure or the end of the program at each other point that is hit; a pending change that the power cut keeps; "
+      + "or a write of which it keeps the first half alone.",
     "In 1 plan more the fault goes on from then on."]);
 });
 
 test("what was tried, without a depth", () => {
   const counts = { plans: 22, pass: 22, fail: 0, unresolved: 0 };
   assert.deepEqual(tried(campaign({ counts }, null, { storms: Array(4).fill("x=return"), listed: ["x=panic", "x=pause"] })), [
-    "Tried was one fault at each of 3 hits of the run without faults: a return, a return from then on, and a panic.",
-    "In 6 plans more two of these hits have a fault: both a return, or the second a panic.",
+    "Tried was one fault at each of 3 hits of the run without faults: a failure, failures from then on, and the end of the program.",
+    "In 6 plans more two of these hits have a fault: both fail, or the program ends at the second.",
     "4 storms have faults that were drawn by the seed.", "2 scenarios were listed by the settings."]);
 });
 
@@ -110,7 +111,7 @@ test("each number of the headline is the document's", () => {
 });
 
 test("a program of one's own is told by answers", () => {
-  assert.deepEqual(limits(campaignOf(readDocument(savedReport()))), [
+  assert.deepEqual(limits(campaignOf(readDocument(keptReport("save")))), [
     "This was told by answers: it holds of a program that does the same whenever it is answered the same.",
     "Never in it: threads, time, other kinds of faults, other workloads."]);
   assert.equal(limits(campaign({})).length, 1);

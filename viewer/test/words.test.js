@@ -1,13 +1,16 @@
 import assert from "node:assert/strict";
 import { test } from "node:test";
-import { KEEP } from "../scenario.js";
-import { callsOf, counted, listed, ordinal, quoted, shown, wordsOfKind, wordsOfScenario } from "../words.js";
+import { KEEP, NEXT, TEAR, clausesOf } from "../scenario.js";
+import { answerWords, callsOf, counted, listed, ordinal, quoted, shown, wordsOfClauses, wordsOfKind, wordsOfScenario } from "../words.js";
 
-const call = callsOf(["libc::write", "libc::fsync", "libc::write@a.db", "one::send", "two::send", KEEP]);
+const call = callsOf(["libc::write", "libc::fsync", "libc::write@a.db", "one::send", "two::send", "sys::send", "sys::fsync@note.new", "sys::fsync@.", KEEP, TEAR, NEXT]);
 
 test("a point is called by its last part where that says which", () => {
   assert.equal(call("libc::fsync"), "fsync");
   assert.equal(call("libc::write@a.db"), "write of a.db");
+  assert.equal(call("sys::fsync@note.new"), "fsync of note.new");
+  assert.equal(call("sys::fsync@."), "fsync of the root folder");
+  assert.deepEqual([KEEP, TEAR, NEXT].map(call), ["pending change", "write that is kept", "choice between threads"]);
   assert.equal(call("one::send"), "one::send");
   assert.equal(call("elsewhere"), "elsewhere");
 });
@@ -21,11 +24,26 @@ const SENTENCES = {
     "the program ends at each fsync; the power cut keeps the 1st pending change and the 3rd pending change",
   [`${KEEP}=return`]: "the power cut keeps each pending change",
   [`${KEEP}=1*off->return`]: "the power cut keeps each pending change from the 2nd on",
-  [`${KEEP}=1*return(HALF)`]: "the power cut keeps the first half of the 1st pending change",
+  [`${KEEP}=1*return(HALF)`]: "the power cut keeps the 1st pending change",
+  [`${KEEP}=1*off->1*return;${TEAR}=1*return`]: "the power cut keeps the first half of the 2nd pending change",
+  [`${KEEP}=1*return->1*off->1*return;${TEAR}=1*return`]:
+    "the power cut keeps the 1st pending change and the 3rd pending change; of the 1st write that is kept the first half alone is there",
+  [`${KEEP}=return;${TEAR}=1*off->1*return`]:
+    "the power cut keeps each pending change; of the 2nd write that is kept the first half alone is there",
+  [`${KEEP}=2*return;${TEAR}=return`]: "the power cut keeps pending changes 1 to 2; of each write that is kept the first half alone is there",
+  [`${KEEP}=1*panic`]: "the 1st pending change is lost all the same",
+  [`${TEAR}=1*panic`]: "the 1st write that is kept is whole all the same",
+  [`${KEEP}=50%return`]: "each pending change is kept by chance, in 50 of 100",
+  [`${TEAR}=50%return`]: "of each write that is kept the first half alone is there by chance, in 50 of 100",
+  [`${NEXT}=1*off->1*return`]: "at the 2nd choice between threads the next one goes first",
+  [`${NEXT}=1*panic`]: "the program ends at the 1st choice between threads",
+  "sys::fsync@note.new=1*off->1*return": "the 2nd fsync of note.new fails",
   "libc::fsync=2*off->return": "each fsync from the 3rd on fails",
   "libc::write=1*return(ENOSPC)": "the 1st write fails with ENOSPC",
   "libc::write=1*off->1*return(HALF)": "the 2nd write does its first half alone",
-  "one::send=1*return(DROP)": "the 1st one::send answers that all is done, and does nothing",
+  "one::send=1*return(HALF)": "the 1st one::send fails with the text \u201cHALF\u201d",
+  "sys::send=1*return(DROP)": "the 1st sys::send answers that all is done, and does nothing",
+  "one::send=1*return(DROP)": "the 1st one::send fails with the text \u201cDROP\u201d",
   "two::send=1*return(no)": "the 1st two::send fails with the text \u201cno\u201d",
   "libc::write=3*return": "each write from the 1st to the 3rd fails",
   "libc::fsync=20%return": "each fsync fails by chance, in 20 of 100",
@@ -40,13 +58,36 @@ test("a scenario in words", () => {
   for (const [scenario, words] of Object.entries(SENTENCES)) assert.equal(wordsOfScenario(scenario, call), words, scenario);
 });
 
+test("of what a cut keeps, in the order of time, a tear is of the change before it", () => {
+  const words = (...texts) => wordsOfClauses(texts.flatMap(clausesOf), call, true);
+  const [first, third] = [`${KEEP}=1*return`, `${KEEP}=2*off->1*return`];
+  assert.equal(words(first, third, `${TEAR}=1*return`), "the power cut keeps the 1st pending change and the first half of the 3rd pending change");
+  assert.equal(words(first, `${TEAR}=1*return`, third), "the power cut keeps the first half of the 1st pending change and the 3rd pending change");
+  assert.equal(words(first, `${TEAR}=1*return`, "libc::fsync=1*return", third),
+    "the power cut keeps the first half of the 1st pending change; the 1st fsync fails; the power cut keeps the 3rd pending change");
+});
+
+test("an answer in words", () => {
+  const told = [
+    ["libc::fsync", "return", "fails"], ["libc::write", "return(ENOSPC)", "fails with ENOSPC"], ["libc::write", "return(HALF)", "does its first half alone"],
+    ["libc::write", "panic", "the program ends here"], ["libc::write", null, null], ["libc::write", "print(x)", "print(x)"],
+    ["one::send", "return(<b>)", "fails with the text \u201c<b>\u201d"], [KEEP, "return", "is kept"], [KEEP, null, "isn\u2019t kept"],
+    [KEEP, "panic", "isn\u2019t kept"], [TEAR, "return", "its first half alone"], [TEAR, null, "whole"], [NEXT, "return", "the next one goes first"],
+    [NEXT, null, null]];
+  for (const [point, answer, words] of told) assert.equal(answerWords(point, answer), words, `${point} ${answer}`);
+});
+
 test("numbers and lists in words", () => {
   assert.deepEqual([1, 2, 3, 4, 11, 12, 13].map(ordinal), ["1st", "2nd", "3rd", "4th", "11th", "12th", "13th"]);
   assert.deepEqual([21, 102, 111, 1003].map(ordinal), ["21st", "102nd", "111th", "1\u202f003rd"]);
   assert.equal(counted(65536, "plan"), "65\u202f536 plans");
   assert.equal(counted(1, "plan"), "1 plan");
   assert.equal(listed(["a", "b", "c"]), "a, b and c");
-  assert.deepEqual(["return(ENOSPC)", "return", "panic"].map(wordsOfKind), ["return(ENOSPC)", "a return", "a panic"]);
+  const kinds = (point, ...texts) => texts.map((kind) => wordsOfKind(point, kind));
+  assert.deepEqual(kinds("libc::write", "return(ENOSPC)", "return(HALF)", "return", "panic"),
+    ["ENOSPC", "its first half alone", "a failure", "the end of the program"]);
+  assert.deepEqual([...kinds("one::send", "return(HALF)", "panic"), ...kinds("sys::send", "return(DROP)"), ...kinds(NEXT, "return")],
+    ["a failure with the text \u201cHALF\u201d", "the end of the program", "a loss that nobody is told", "that the next one goes first"]);
 });
 
 test("characters that hide or turn a text stand as their numbers", () => {

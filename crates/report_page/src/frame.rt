@@ -7,7 +7,7 @@ pub const BEFORE: &str = r###"<!doctype html>
 <meta charset="utf-8">
 <meta name="viewport" content="width=device-width, initial-scale=1">
 <meta name="color-scheme" content="light dark">
-<meta http-equiv="Content-Security-Policy" content="default-src 'none'; style-src 'sha256-F21hftB0O+VWy9EyNdqxxLozEMqY0zlpsrJI3FTWd3A='; script-src 'sha256-XjPtzdQgb+Z+dRi1+kA2H+qTabx2xQNedMHAu+qPfdU='; base-uri 'none'; form-action 'none'">
+<meta http-equiv="Content-Security-Policy" content="default-src 'none'; style-src 'sha256-L87Oq7Nc/HEjekxG72nxbkfBHH+HF6asMliwfq9vORQ='; script-src 'sha256-+afs94hEHrqHodtnDpaw4Vg7ohOwObOwHo5Zh/aII9Y='; base-uri 'none'; form-action 'none'">
 <title>Paklour report</title>
 <style>
 :root {
@@ -75,7 +75,12 @@ code { unicode-bidi: isolate; }
 :focus-visible { outline: 2px solid var(--accent); outline-offset: 2px; }
 header p, section > p { max-width: 48rem; }
 .kind { margin: 0; color: var(--muted); }
+.outcome { margin: 0.8rem 0 1rem; padding: 0.7rem 1rem 0.6rem; max-width: 48rem; background: var(--raised); border-left: 6px solid var(--muted); border-radius: 4px; }
+.outcome.fails { border-left-color: var(--code-0); }
+.outcome.passes { border-left-color: var(--code-4); }
+.outcome p, .outcome ul { margin: 0; }
 .headline { font-size: 1.25rem; font-weight: 600; }
+nav ul { display: flex; flex-wrap: wrap; gap: 0.2rem 1.2rem; margin: 1.2rem 0 0; padding: 0; list-style: none; }
 .ways, .legend { display: flex; flex-wrap: wrap; gap: 0.2rem 1.4rem; padding: 0; list-style: none; }
 .muted { color: var(--muted); font-size: 0.92rem; }
 h1, .words, .scenario, p code, li, summary { overflow-wrap: anywhere; }
@@ -120,18 +125,23 @@ th[scope="row"] { white-space: nowrap; }
 td code, .verdict, td { overflow-wrap: anywhere; }
 .plans td:nth-child(2) { width: 9rem; min-width: 7rem; }
 .plans td:first-child { width: 4rem; }
-.hits td { min-width: 6rem; }
-.hits .number, .plans .number { min-width: 3rem; }
+.plans .number { min-width: 3rem; }
 .points td:first-child { min-width: 12rem; }
 .number { text-align: right; font-variant-numeric: tabular-nums; white-space: nowrap; }
 th.number { white-space: normal; }
-.hits { margin: 0.4rem 0; }
-.hits td, .hits th { border: 0; padding: 0.05rem 1rem 0.05rem 0; }
-.hits .number { color: var(--muted); }
-.hits td[colspan] { color: var(--muted); }
-.hits .fault-line td { background: var(--fault); color: var(--ink); }
+.hits { margin: 0.4rem 0; min-width: min(100%, 24rem); }
+.hits.two { width: 100%; }
+.hits td, .hits th { border: 0; padding: 0.08rem 0.6rem; }
+.hits.two td:nth-child(2), .hits.two td:nth-child(4) { width: 50%; }
+.hits.two td:nth-child(3) { border-left: 1px solid var(--line); }
+.hits .number { color: var(--muted); padding: 0.08rem 0.2rem; }
+.hits .same td { color: var(--muted); }
+.hits .near > span:first-child { font-weight: 600; color: var(--ink); }
+.hits .alone { background: var(--raised); }
+.hits .fault-line td { background: var(--fault); }
 .hits .fault-line td:first-child::before { content: "\25b6\a0"; }
-.fault { text-decoration: underline; text-underline-offset: 3px; }
+.hits .fault-line b { text-decoration: underline; text-underline-offset: 3px; }
+.hits .ends td { padding-top: 0.35rem; }
 .plans { width: 100%; }
 .plans .words { min-width: 11rem; }
 label { min-width: 0; max-width: 100%; }
@@ -139,7 +149,7 @@ label { min-width: 0; max-width: 100%; }
 
 /* the map */
 .map-box { position: relative; border: 1px solid var(--line); border-radius: 8px; }
-.map { max-height: min(80vh, 60rem); overflow: auto; padding: 0 10px 8px; border-bottom: 1px solid var(--line); scroll-padding: 3rem 1rem 1rem; }
+.map { max-height: min(85vh, 70rem); overflow: auto; padding: 0 10px 8px; border-bottom: 1px solid var(--line); scroll-padding: 3rem 1rem 1rem; }
 .map-head, .map-band { display: flex; min-width: max-content; }
 .map-head { position: sticky; top: 0; z-index: 2; padding: 8px 0 4px; background: var(--ground); border-bottom: 1px solid var(--line); margin-bottom: 8px; }
 .map-label {
@@ -147,7 +157,7 @@ label { min-width: 0; max-width: 100%; }
   left: 0;
   z-index: 1;
   flex: none;
-  width: 168px;
+  width: var(--labels);
   padding-right: 10px;
   overflow: hidden;
   background: var(--ground);
@@ -161,7 +171,7 @@ label { min-width: 0; max-width: 100%; }
 .map-head .map-strips { height: 22px; }
 .wide { border-top: 1px dashed var(--line); padding-top: 8px; }
 .narrow .map-band { display: block; }
-.narrow .map-band .map-label { width: max-content; max-width: 20rem; }
+.narrow .map-band .map-label { width: max-content; max-width: 20rem; line-height: 18px; }
 .narrow .map-head .map-label { display: none; }
 .map-column { position: absolute; top: 0; }
 .map-column button { width: 100%; height: 22px; padding: 0; font-size: 0.78rem; line-height: 20px; overflow: hidden; white-space: nowrap; }
@@ -190,7 +200,9 @@ label { min-width: 0; max-width: 100%; }
 
 @media (max-width: 640px) {
   body { padding: 1rem 0.7rem 3rem; }
-  .hits td, .hits th { padding-right: 0.5rem; }
+  .hits td, .hits th { padding: 0.08rem 0.25rem; }
+  .hits.two td:nth-child(3), .hits.two th:nth-child(3) { display: none; }
+  .hits.two td:nth-child(4) { border-left: 1px solid var(--line); }
 }
 
 @media print {
@@ -200,9 +212,9 @@ label { min-width: 0; max-width: 100%; }
   .map-band, tr, .causes li { break-inside: avoid; }
   h2, h3, summary { break-after: avoid; }
   .run:not([open]) { display: none; }
-  .controls, .filters, .pointed, .more, #brief { display: none; }
+  nav, .controls, .filters, .pointed, .more, #brief { display: none; }
   .fold .more { display: inline; border: 0; padding: 0; background: none; }
-  .mark-pass, .mark-unresolved, svg path, .hits .fault-line td { print-color-adjust: exact; }
+  .outcome, svg path, .hits td { print-color-adjust: exact; }
 }
 </style>
 </head>
@@ -236,21 +248,34 @@ const BETWEEN_FAULTS = "; ";
 const FAULT = /^(\d+) (\d+) (1\*panic|(?:1\*)?return(?:\(.*\))?)$/s;
 
 /**
- * The plans that grew: each is an earlier one's text with one fault more. Null stands where a text isn't that.
+ * The plans that grew: each is an earlier one's text with one fault more. Null stands where a text isn't that. Many
+ * plans have the same fault, which is read once, and the same parent as the one before.
  * @param {any} told
  * @returns {(Row|null)[]}
  */
 function grownRows({ census, about }) {
   const numbers = new Map();
+  const faults = new Map();
+  const faultOf = (text) => {
+    if (!faults.has(text)) faults.set(text, readFault(text, census.length));
+    return faults.get(text);
+  };
+  let [before, parent] = ["", 0];
   return about.grown.map((text, number) => {
     numbers.set(text, number);
     if (number === 0) return text === "" ? WITHOUT_FAULTS : null;
     const cut = text.lastIndexOf(BETWEEN_FAULTS);
-    const parent = numbers.get(text.slice(0, Math.max(cut, 0)));
-    const match = FAULT.exec(cut < 0 ? text : text.slice(cut + BETWEEN_FAULTS.length));
-    if (parent === undefined || !match || Number(match[1]) >= census.length) return null;
-    return { parent, fault: { point: Number(match[1]), hit: Number(match[2]), kind: match[3] }, text: null };
+    const isOfSame = before.length === Math.max(cut, 0) && text.startsWith(before);
+    if (!isOfSame) [before, parent] = [text.slice(0, Math.max(cut, 0)), numbers.get(text.slice(0, Math.max(cut, 0)))];
+    const fault = faultOf(cut < 0 ? text : text.slice(cut + BETWEEN_FAULTS.length));
+    return parent === undefined || fault === null ? null : { parent, fault, text: null };
   });
+}
+
+/** @param {string} text @param {number} points how many there are @returns {Fault|null} */
+function readFault(text, points) {
+  const match = FAULT.exec(text);
+  return match && Number(match[1]) < points ? { point: Number(match[1]), hit: Number(match[2]), kind: match[3] } : null;
 }
 
 /** The plans at hits of the run without faults: each fails once, from then on, and panics. @param {any} told @returns {Row[]} */
@@ -293,6 +318,10 @@ function rowsOfPlans(told) {
 
 /** The point at which a power cut asks for each pending change whether it is kept. */
 const KEEP = "power::keep";
+/** The point at which it asks whether of a write that is kept the first half alone is there. */
+const TEAR = "power::tear";
+/** The point of the order of threads: a return lets the next one go first. */
+const NEXT = "order::next";
 
 const TASKS = new Set(["off", "yield", "print", "sleep", "delay", "return", "panic", "pause"]);
 const PASSING = new Set(["off", "yield"]);
@@ -385,29 +414,61 @@ function chainOf(faults) {
   return terms.join("->");
 }
 
+/** @typedef {{point: number, hit: number, kind: string}} SingleFault */
+/** What a scenario says of one point. @typedef {{point: number, faults: SingleFault[], text: string}} Share */
+
+/** @param {number} point @param {SingleFault[]} faults by their hits @param {string[]} names @returns {Share} */
+function shareOf(point, faults, names) {
+  return { point, faults, text: `${names[point]}=${chainOf(faults)}` };
+}
+
 /**
- * The scenario of faults that each act at one hit, or from there on: as the program spells it, points in the order of the catalogue.
- * @param {{point: number, hit: number, kind: string}[]} faults
- * @param {string[]} points
+ * What the scenario of faults that each act at one hit, or from there on, says of each point, in the order of the catalogue.
+ * @param {SingleFault[]} faults
+ * @param {string[]} names
+ * @returns {Share[]}
  */
-function spell(faults, points) {
-  const sorted = [...faults].sort((one, other) => one.point - other.point || one.hit - other.hit);
+function sharesOf(faults, names) {
+  const points = [...new Set(faults.map(({ point }) => point))].sort((one, other) => one - other);
+  return points.map((point) =>
+    shareOf(point, faults.filter((fault) => fault.point === point).sort((one, other) => one.hit - other.hit), names));
+}
+
+/** The scenario of faults, as the program spells it. @param {SingleFault[]} faults @param {string[]} names */
+function spell(faults, names) {
+  return sharesOf(faults, names).map(({ text }) => text).join(";");
+}
+
+/**
+ * A scenario with one fault more, of which what it says of other points stays.
+ * @param {Share[]} shares
+ * @param {SingleFault} fault
+ * @param {string[]} names
+ */
+function spellWith(shares, fault, names) {
+  const own = shares.find(({ point }) => point === fault.point);
+  const [{ text: added }] = own ? sharesOf([...own.faults, fault], names) : [shareOf(fault.point, [fault], names)];
   let text = "";
-  for (let begin = 0, end = 0; begin < sorted.length; begin = end) {
-    const { point } = sorted[begin];
-    while (end < sorted.length && sorted[end].point === point) end += 1;
-    text += `${begin > 0 ? ";" : ""}${points[point]}=${chainOf(sorted.slice(begin, end))}`;
+  let isIn = false;
+  for (const share of shares) {
+    if (!isIn && share.point > fault.point) {
+      text += text === "" ? added : `;${added}`;
+      isIn = true;
+    }
+    if (share !== own) text += text === "" ? share.text : `;${share.text}`;
   }
-  return text;
+  if (isIn) return text;
+  return text === "" ? added : `${text};${added}`;
 }
 
 // A run hit by hit, beside another one.
 
 /** @typedef {{point: number, answer: string|null}} Step */
-/** @typedef {{scenario: string, steps: Step[], more: number, end: string|null}} Run */
-/** @typedef {{number: number, point: string, ordinal: number, answer: string|null}} Hit */
+/** @typedef {{scenario: string, verdict: string, steps: Step[], more: number, end: string|null}} Run */
+/** @typedef {{number: number, point: string, ordinal: number, answer: string|null, near?: boolean}} Hit */
+/** A run as a document tells it. @typedef {{explained: string, left_out?: number, parent?: {explained: string, left_out?: number}}} Told */
 /**
- * A line of two runs side by side. `same` is where both hit the same and are answered the same.
+ * A line of two runs side by side. `same` is where both hit the same point and are answered the same. Near is a hit of a file at whose hits a fault acts.
  * @typedef {{here: Hit|null, there: Hit|null, same: boolean, fault: boolean}} Line
  */
 /** @typedef {{fold: false, line: Line}|{fold: true, lines: Line[]}} Piece */
@@ -461,7 +522,8 @@ function readRun(scenario, { explained, left_out: more = 0 }, names) {
   const steps = [];
   const lines = explained.split(BEFORE_HIT);
   const [last, ...behind] = lines.pop().split(BEHIND_HITS);
-  for (const line of [...lines, last]) {
+  const [first, ...hitLines] = [...lines, last];
+  for (const line of hitLines) {
     const head = `hit ${steps.length + 1} `;
     const step = line.startsWith(head) ? readHit(line.slice(head.length), places, hits) : null;
     if (step) {
@@ -470,7 +532,66 @@ function readRun(scenario, { explained, left_out: more = 0 }, names) {
     } else if (steps.length > 0) steps[steps.length - 1].answer = `${steps[steps.length - 1].answer ?? "go"}\n${line}`;
   }
   const stopped = behind.find((line) => line.startsWith("stopped "));
-  return { scenario, steps, more, end: stopped ? stopped.slice("stopped ".length) : null };
+  return { scenario, verdict: first.replace(/^verdict /, ""), steps, more, end: stopped ? stopped.slice("stopped ".length) : null };
+}
+
+/** The runs that a document tells. Each may have a thousand hits, so one is read where it is asked for. */
+class Runs {
+  /** @param {string[]} names */
+  constructor(names) {
+    this.names = names;
+    /** @type {Map<string, {scenario: string, told: Told, before: string|null}>} */
+    this.told = new Map();
+    /** @type {Map<string, Run>} */
+    this.read = new Map();
+  }
+
+  /**
+   * @param {number} number
+   * @param {string} scenario
+   * @param {Told|null} told null where nobody told this run
+   * @param {string|null} [parent] the scenario of the plan that this one grew from
+   */
+  add(number, scenario, told, parent = null) {
+    if (told === null) return;
+    const before = told.parent ? parent : null;
+    const key = runKey(number, scenario);
+    if (before !== null || !this.told.has(key)) this.told.set(key, { scenario, told, before });
+    if (before !== null && !this.told.has(before)) this.told.set(before, { scenario: before, told: told.parent, before: null });
+  }
+
+  /** Whether a run is told. @param {number} number @param {string} scenario */
+  has(number, scenario) {
+    return this.told.has(runKey(number, scenario));
+  }
+
+  /** @param {number} number @param {string} scenario @returns {Run|null} */
+  of(number, scenario) {
+    return this.get(runKey(number, scenario));
+  }
+
+  /** @param {string} key @returns {Run|null} */
+  get(key) {
+    const known = this.told.get(key);
+    if (known && !this.read.has(key)) this.read.set(key, readRun(known.scenario, known.told, this.names));
+    return this.read.get(key) ?? null;
+  }
+
+  /**
+   * The run to look at beside another one: its parent's; where that isn't told, that without the fault which acted last, else that without faults.
+   * @param {Run} run
+   * @returns {Run|null}
+   */
+  beside(run) {
+    if (run.scenario === "") return null;
+    const { before = null } = this.told.get(run.scenario) ?? {};
+    if (before !== null) return this.get(before);
+    const faults = run.more > 0 ? [] : singleFaults(run.scenario, this.names);
+    const acted = hitsOf(run, this.names).flatMap((hit) => faults.filter((fault) => fault.hit === hit.ordinal && this.names[fault.point] === hit.point));
+    const last = acted[acted.length - 1];
+    const less = last && this.get(spell(faults.filter((fault) => fault !== last), this.names));
+    return less ?? this.get("");
+  }
 }
 
 /**
@@ -492,11 +613,6 @@ function isFault(answer) {
   return answer !== null && /^(return|panic|pause)/.test(answer);
 }
 
-/** @param {Hit|null} one @param {Hit|null} other */
-function isSame(one, other) {
-  return one !== null && other !== null && one.point === other.point && one.answer === other.answer;
-}
-
 /**
  * The faults of a scenario of which each acts at one hit, or from there on; none of any other scenario.
  * @param {string} scenario
@@ -513,23 +629,37 @@ function singleFaults(scenario, names) {
 }
 
 /**
- * The run to look at beside another one: that without the fault which acted last, where it is told, else that without faults.
- * @param {Map<string, Run>} runs
- * @param {Run} run
- * @param {string[]} names
- * @returns {Run|null}
+ * Which hits of two runs stand beside each other: as many as there can be at the same points in the same order, after those with which both begin.
+ * @param {Hit[]} here
+ * @param {Hit[]} there
+ * @returns {[number, number][]}
  */
-function runBeside(runs, run, names) {
-  if (run.scenario === "") return null;
-  const faults = run.more > 0 ? [] : singleFaults(run.scenario, names);
-  const acted = hitsOf(run, names).flatMap((hit) => faults.filter((fault) => fault.hit === hit.ordinal && names[fault.point] === hit.point));
-  const last = acted[acted.length - 1];
-  const before = last && runs.get(spell(faults.filter((fault) => fault !== last), names));
-  return before ?? runs.get("") ?? null;
+function pairsOf(here, there) {
+  const isPair = (one, other) => here[one].point === there[other].point;
+  const most = Math.min(here.length, there.length);
+  let begin = 0;
+  while (begin < most && isPair(begin, begin)) begin += 1;
+  const pairs = Array.from({ length: begin }, (_, at) => /** @type {[number, number]} */ ([at, at]));
+  const width = there.length + 1;
+  // How many pairs there are at most from a hit of each on.
+  const counts = new Uint16Array((here.length + 1) * width);
+  for (let one = here.length - 1; one >= begin; one -= 1) {
+    for (let other = there.length - 1; other >= begin; other -= 1) {
+      const at = one * width + other;
+      counts[at] = isPair(one, other) ? counts[at + width + 1] + 1 : Math.max(counts[at + width], counts[at + 1]);
+    }
+  }
+  for (let one = begin, other = begin; one < here.length && other < there.length;) {
+    const at = one * width + other;
+    if (isPair(one, other)) pairs.push([one++, other++]);
+    else if (counts[at + width] >= counts[at + 1]) one += 1;
+    else other += 1;
+  }
+  return pairs;
 }
 
 /**
- * Two runs, line by line; `beside` is null where none is told.
+ * Two runs, line by line; `beside` is null where none is told. Hits of one run alone stand beside those of the other alone, as they come.
  * @param {Run} run
  * @param {Run|null} beside
  * @param {string[]} names
@@ -538,15 +668,37 @@ function runBeside(runs, run, names) {
 function linesOf(run, beside, names) {
   const here = hitsOf(run, names);
   const there = beside ? hitsOf(beside, names) : [];
-  return Array.from({ length: Math.max(here.length, there.length) }, (_, index) => {
-    const one = here[index] ?? null;
-    const other = there[index] ?? null;
-    return { here: one, there: other, same: isSame(one, other), fault: isFault(one?.answer ?? null) };
-  });
+  const lines = [];
+  const add = (one, other) => {
+    const same = one !== null && other !== null && one.point === other.point && one.answer === other.answer;
+    lines.push({ here: one, there: other, same, fault: isFault(one?.answer ?? null) });
+  };
+  let [nextHere, nextThere] = [0, 0];
+  for (const [one, other] of [...pairsOf(here, there), [here.length, there.length]]) {
+    const [alone, lacking] = [here.slice(nextHere, one), there.slice(nextThere, other)];
+    for (let at = 0; at < Math.max(alone.length, lacking.length); at += 1) add(alone[at] ?? null, lacking[at] ?? null);
+    if (one < here.length || other < there.length) add(here[one], there[other]);
+    [nextHere, nextThere] = [one + 1, other + 1];
+  }
+  const files = filesOfFaults(lines);
+  for (const hit of [...here, ...there]) hit.near = files.has(fileOf(hit.point));
+  return lines;
+}
+
+/** The file that a point names; null where it names none. @param {string} point */
+function fileOf(point) {
+  const at = point.indexOf("@");
+  return at < 0 ? null : point.slice(at + 1);
+}
+
+/** The files at whose hits a fault acts, of a run whose points name files. @param {Line[]} lines @returns {Set<string>} */
+function filesOfFaults(lines) {
+  const files = lines.filter(({ fault }) => fault).map(({ here }) => fileOf(here.point));
+  return new Set(files.filter((file) => file !== null));
 }
 
 /**
- * Long stretches without a fault, that are the same in both runs, folded.
+ * Long stretches that are the same in both runs, folded. What a fault may have to do with stays.
  * @param {Line[]} lines
  * @returns {Piece[]}
  */
@@ -554,7 +706,7 @@ function foldLines(lines) {
   const pieces = [];
   let begin = 0;
   for (let at = 0; at <= lines.length; at += 1) {
-    if (at < lines.length && lines[at].same && !lines[at].fault) continue;
+    if (at < lines.length && lines[at].same && !lines[at].fault && !lines[at].here.near) continue;
     const stretch = lines.slice(begin, at);
     const folded = stretch.length >= FOLDED ? stretch.length - KEPT_BEFORE : 0;
     if (folded > 0) pieces.push({ fold: true, lines: stretch.slice(0, folded) });
@@ -608,18 +760,30 @@ function sentence(text) {
   return `${text.charAt(0).toUpperCase()}${text.slice(1)}.`;
 }
 
+/** The points of calls of the system, as the supervisor of outside/ names them. */
+const IS_CALL = /^(?:sys|libc)::/;
+
+/** The points that a power cut asks. */
+const IN_CUT = new Set([KEEP, TEAR]);
+
+/** What is hit at points that aren't a program's calls. */
+const NAMED = new Map([[KEEP, "pending change"], [TEAR, "write that is kept"], [NEXT, "choice between threads"]]);
+
 /**
- * How points are called: by what stands behind the last `::`, where no other point is called so; `libc::write@a.db` is `write of a.db`.
+ * How points are called: by what stands behind the last `::`, where no other point is called so; `sys::write@a.db` is `write of a.db`. Files are told from
+ * the root folder on, which is `.` itself.
  * @param {string[]} points
  * @returns {(point: string) => string}
  */
 function callsOf(points) {
   const short = points.map(lastOf);
-  const calls = new Map();
+  const calls = new Map(NAMED);
   points.forEach((point, index) => {
+    if (NAMED.has(point)) return;
     const alone = short.filter((name) => name === short[index]).length === 1;
     const [name, ...file] = (alone ? short[index] : point).split("@");
-    calls.set(point, file.length > 0 && name !== "" ? `${name} of ${file.join("@")}` : name || point);
+    const named = file.join("@") === "." && IS_CALL.test(point) ? "the root folder" : file.join("@");
+    calls.set(point, file.length > 0 && name !== "" ? `${name} of ${named}` : name || point);
   });
   return (point) => calls.get(point) ?? point;
 }
@@ -640,21 +804,28 @@ function hitWords({ point, first, last }, call) {
   return `the ${ordinal(first)} ${name}`;
 }
 
-/** @param {string|null} argument */
-function failureWords(argument) {
+/**
+ * What a call comes to that a return answers. To points of a program's own an argument is a text, of which the program makes what it likes.
+ * @param {string} point
+ * @param {string|null} argument
+ */
+function failureWords(point, argument) {
   if (argument === null) return "fails";
   if (/^E[A-Z0-9]+$/.test(argument)) return `fails with ${argument}`;
-  if (argument === "HALF") return "does its first half alone";
-  if (argument === "DROP") return "answers that all is done, and does nothing";
+  if (argument === "HALF" && IS_CALL.test(point)) return "does its first half alone";
+  if (argument === "DROP" && IS_CALL.test(point)) return "answers that all is done, and does nothing";
   return `fails with the text \u201c${argument}\u201d`;
 }
 
 /** @param {Clause} clause @param {Call} call */
 function actWords(clause, call) {
   const hit = hitWords(clause, call);
-  const { task, argument } = clause.term;
+  const { point, term: { task, argument } } = clause;
+  if (point === KEEP && (task === "return" || task === "panic")) return `${hit} is ${task === "return" ? "kept" : "lost all the same"}`;
+  if (point === TEAR && (task === "return" || task === "panic")) return task === "return" ? `of ${hit} the first half alone is there` : `${hit} is whole all the same`;
+  if (point === NEXT && task === "return") return `at ${hit} the next one goes first`;
   switch (task) {
-    case "return": return `${hit} ${failureWords(argument)}`;
+    case "return": return `${hit} ${failureWords(point, argument)}`;
     case "panic": return `the program ends at ${hit}`;
     case "pause": return `the run is ended at ${hit}`;
     case "print": return `a note is taken at ${hit}`;
@@ -663,17 +834,55 @@ function actWords(clause, call) {
   }
 }
 
-/** @param {Clause} clause */
-function keptWords({ first, last, term }) {
-  const half = term.argument === null ? "" : term.argument === "HALF" ? "the first half of " : `(${term.argument}) `;
-  if (last === Infinity) return half + (first === 1 ? "each pending change" : `each pending change from the ${ordinal(first)} on`);
-  if (last > first) return `${half}pending changes ${first} to ${last}`;
-  return `${half}the ${ordinal(first)} pending change`;
+/**
+ * What an answer comes to at a hit of a run.
+ * @param {string} point
+ * @param {string|null} answer null where the hit goes on
+ * @returns {string|null}
+ */
+function answerWords(point, answer) {
+  const term = answer === null ? null : parseTerm(answer);
+  const isReturn = term?.task === "return";
+  if (point === KEEP) return isReturn ? "is kept" : "isn\u2019t kept";
+  if (point === TEAR) return isReturn ? "its first half alone" : "whole";
+  if (term === null) return answer;
+  if (isReturn) return point === NEXT ? "the next one goes first" : failureWords(point, term.argument);
+  return term.task === "panic" ? "the program ends here" : answer;
+}
+
+/** Whether a power cut keeps something by this clause, or keeps half of it. @param {Clause} clause */
+function isOfCut(clause) {
+  return IN_CUT.has(clause.point) && clause.term.task === "return" && clause.term.percent === null;
 }
 
 /** @param {Clause} clause */
-function isKept(clause) {
-  return clause.point === KEEP && clause.term.task === "return" && clause.term.percent === null;
+function keptWords({ first, last }) {
+  if (last === Infinity) return first === 1 ? "each pending change" : `each pending change from the ${ordinal(first)} on`;
+  return last > first ? `pending changes ${first} to ${last}` : `the ${ordinal(first)} pending change`;
+}
+
+/**
+ * What a power cut keeps. It is asked for the half of a write right behind the hit that keeps it, so in the order of time a tear is of the change before
+ * it. Of a scenario that has no order that is certain of the only one.
+ * @param {Clause[]} clauses
+ * @param {Call} call
+ * @param {boolean} inOrder
+ */
+function cutWords(clauses, call, inOrder) {
+  const isOne = ({ first, last }) => first === last;
+  const kept = [];
+  const torn = [];
+  clauses.forEach((clause, index) => {
+    const before = clauses[index - 1];
+    const isCertain = inOrder || (clauses.length === 2 && clause.first === 1);
+    if (clause.point === KEEP) kept.push(keptWords(clause));
+    else if (isCertain && before?.point === KEEP && isOne(before) && isOne(clause)) kept.push(`the first half of ${kept.pop()}`);
+    else torn.push(hitWords(clause, call));
+  });
+  return [
+    ...(kept.length > 0 ? [`the power cut keeps ${listed(kept)}`] : []),
+    ...torn.map((hit) => `of ${hit} the first half alone is there`),
+  ];
 }
 
 /** @param {Clause} clause @param {Call} call */
@@ -687,15 +896,24 @@ function clauseWords(clause, call) {
 }
 
 /**
- * What happens where these clauses act. What the power cut keeps stands last, as the cut comes at the end.
+ * What happens where these clauses act. Where they aren't in the order of time, what the power cut keeps stands last.
  * @param {Clause[]} clauses
  * @param {Call} call
+ * @param {boolean} [inOrder]
  */
-function wordsOfClauses(clauses, call) {
+function wordsOfClauses(clauses, call, inOrder = false) {
   if (clauses.length === 0) return "no fault";
-  const kept = clauses.filter(isKept);
-  const parts = clauses.filter((clause) => !isKept(clause)).map((clause) => clauseWords(clause, call));
-  if (kept.length > 0) parts.push(`the power cut keeps ${listed(kept.map(keptWords))}`);
+  const ordered = inOrder ? clauses : [...clauses.filter((clause) => !isOfCut(clause)), ...clauses.filter(isOfCut)];
+  const parts = [];
+  for (let begin = 0, end = 0; begin < ordered.length; begin = end) {
+    end = begin + 1;
+    if (!isOfCut(ordered[begin])) {
+      parts.push(clauseWords(ordered[begin], call));
+      continue;
+    }
+    while (end < ordered.length && isOfCut(ordered[end])) end += 1;
+    parts.push(...cutWords(ordered.slice(begin, end), call, inOrder));
+  }
   return parts.join("; ");
 }
 
@@ -710,10 +928,17 @@ function wordsOfScenario(scenario, call) {
 
 /**
  * A kind of fault, as `return(ENOSPC)`, in words.
+ * @param {string} point
  * @param {string} kind
  */
-function wordsOfKind(kind) {
-  return kind === "return" || kind === "panic" ? `a ${kind}` : kind;
+function wordsOfKind(point, kind) {
+  const { task, argument } = parseTerm(kind) ?? { task: kind, argument: null };
+  if (task === "panic") return "the end of the program";
+  if (point === NEXT) return "that the next one goes first";
+  if (argument === null) return "a failure";
+  if (argument === "HALF" && IS_CALL.test(point)) return "its first half alone";
+  if (argument === "DROP" && IS_CALL.test(point)) return "a loss that nobody is told";
+  return /^E[A-Z0-9]+$/.test(argument) ? argument : `a failure with the text \u201c${argument}\u201d`;
 }
 
 /**
@@ -761,9 +986,12 @@ const digits = is("a text of digits", (value) => typeof value === "string" && /^
 const verdict = is("a verdict", (value) => VERDICTS.includes(value));
 const orNull = (check) => (value, path) => (value === null ? [] : check(value, path));
 
-/** @param {Check} check @returns {Check} */
-const list = (check) => (value, path) =>
-  Array.isArray(value) ? value.flatMap((item, index) => check(item, `${path}[${index}]`)) : [`${path} isn't a list`];
+/** Its items are checked once more where one is wrong: most lists are right, and may be long. @param {Check} check @returns {Check} */
+const list = (check) => (value, path) => {
+  if (!Array.isArray(value)) return [`${path} isn't a list`];
+  if (value.every((item) => check(item, path).length === 0)) return [];
+  return value.flatMap((item, index) => check(item, `${path}[${index}]`));
+};
 
 /** @param {Record<string, Check>} needed @param {Record<string, Check>} [optional] @returns {Check} */
 const members = (needed, optional = {}) => (value, path) => {
@@ -783,10 +1011,12 @@ const growth = members(
   },
   { unseen: count },
 );
-const run = members({ explained: text }, { left_out: count });
+const runAlone = { explained: text };
+const run = members(runAlone, { left_out: count, parent: members(runAlone, { left_out: count }) });
 const about = members({
   program_version: text, told_by: is("target or answers", (value) => value === "target" || value === "answers"), command: text, settings: text,
-  storms: list(text), listed: list(text), grown: list(text), clean_run: orNull(run), finding_runs: list(run), cause_runs: list(run),
+  storms: list(text), listed: list(text), grown: list(text), clean_run: orNull(run), finding_runs: list(orNull(run)),
+  cause_runs: list(orNull(run)),
 });
 const report = members(
   {
@@ -870,26 +1100,41 @@ function numbered(sizes) {
 
 /** @param {any} told @param {Part[]} parts @returns {Plan[]} */
 function plansOf(told, parts) {
-  const notPassed = new Map(told.not_passed.map((item) => [item.number, item]));
   const rows = rowsOfPlans(told);
   if (rows.length !== told.counts.plans) throw new ReadError(["the plans that are told aren't as many as are counted"]);
   if (rows.includes(null)) throw new ReadError([`about.grown[${rows.indexOf(null)}] isn't a plan that grew`]);
-  const planAt = (number, part) => {
-    const item = notPassed.get(number);
-    const { parent, fault, text } = rows[number];
-    return { number, part, verdict: item?.verdict ?? "pass", code: item?.code ?? null, parent, fault, text: item?.scenario ?? text };
-  };
-  return parts.flatMap((part) => Array.from({ length: part.count }, (_, index) => planAt(part.first + index, part)));
+  const plans = [];
+  for (const part of parts) {
+    for (let number = part.first; number < part.first + part.count; number += 1) {
+      const { parent, fault, text } = rows[number];
+      plans.push({ number, part, verdict: "pass", code: null, parent, fault, text });
+    }
+  }
+  for (const { number, verdict, code, scenario } of told.not_passed) Object.assign(plans[number], { verdict, code, text: scenario });
+  return plans;
 }
 
-/** The runs that a document tells, by their keys. @param {any} told @param {string[]} names */
-function runsOf({ findings, growth, about }, names) {
-  const told = [
-    ...(about.clean_run ? [[0, "", about.clean_run]] : []),
-    ...about.finding_runs.map((run, index) => [findings[index].number, findings[index].reduced, run]),
-    ...about.cause_runs.map((run, index) => [growth.causes[index].number, growth.causes[index].scenario, run]),
-  ];
-  return new Map(told.map(([number, scenario, run]) => [runKey(number, scenario), readRun(scenario, run, names)]));
+/** Spells the plans that grew. Those with the same parent follow each other mostly, so its scenario is made once. @param {Plan[]} plans @param {string[]} names */
+function spellPlans(plans, names) {
+  let [parent, shares] = [-1, []];
+  for (const plan of plans) {
+    if (plan.text !== null) continue;
+    if (plan.parent !== parent) [parent, shares] = [plan.parent, sharesOf(faultsOf({ plans }, plans[plan.parent]), names)];
+    plan.text = spellWith(shares, plan.fault, names);
+  }
+}
+
+/** The runs that a document tells. @param {any} campaign */
+function runsOf({ told: { findings, growth, about }, plans, names }) {
+  const runs = new Runs(names);
+  runs.add(0, "", about.clean_run);
+  const add = (number, scenario, run) => {
+    const { text, parent } = plans[number];
+    runs.add(number, scenario, run, text === scenario && parent !== null ? plans[parent].text : null);
+  };
+  about.finding_runs.forEach((run, index) => add(findings[index].number, findings[index].reduced, run));
+  about.cause_runs.forEach((run, index) => add(growth.causes[index].number, growth.causes[index].scenario, run));
+  return runs;
 }
 
 /**
@@ -899,28 +1144,26 @@ function runsOf({ findings, growth, about }, names) {
 function campaignOf(told) {
   const parts = partsOf(told);
   const plans = plansOf(told, parts);
-  const byNumber = new Map(plans.map((plan) => [plan.number, plan]));
   const codes = [...new Set(told.findings.map((finding) => finding.code))];
   const reached = told.growth && new Map(told.growth.reached.map((item) => [item.point, item.hits]));
   const names = told.census.map((item) => item.point);
   const campaign = {
-    told, parts, plans, byNumber, codes, names, call: callsOf(names),
+    told, parts, plans, codes, names, call: callsOf(names),
     points: told.census.map(({ point, hits }) => ({ point, clean: hits, reached: reached ? reached.get(point) ?? null : null })),
-    runs: runsOf(told, names),
   };
-  for (const plan of plans) plan.text ??= spell(faultsOf(campaign, plan), names);
-  return campaign;
+  spellPlans(plans, names);
+  return { ...campaign, runs: runsOf(campaign) };
 }
 
 /**
  * The faults of a plan that grew from others, in the order of time; none of any other plan.
- * @param {{byNumber: Map<number, Plan>}} campaign
+ * @param {{plans: Plan[]}} campaign
  * @param {Plan} plan
  * @returns {Fault[]}
  */
 function faultsOf(campaign, plan) {
   const faults = [];
-  for (let one = plan; one?.fault; one = campaign.byNumber.get(one.parent)) faults.push(one.fault);
+  for (let one = plan; one?.fault; one = campaign.plans[one.parent]) faults.push(one.fault);
   return faults.reverse();
 }
 
@@ -932,24 +1175,31 @@ function levelKeyOf(plan) {
 
 /**
  * The plans that a filter lets through; a member that is empty lets all.
- * @param {{plans: Plan[], byNumber: Map<number, Plan>, names: string[]}} campaign
+ * @param {{plans: Plan[], names: string[]}} campaign
  * @param {{verdict?: string, point?: string, level?: string, text?: string}} filter `verdict` is a verdict, or `fail` and a code behind a blank; `text` stands
  *   in the scenario, small or large, or in the number
  */
 function filterPlans(campaign, { verdict = "", point = "", level = "", text = "" }) {
-  const wanted = text.trim();
-  const pattern = new RegExp(wanted.replace(/[\\^$.*+?()[\]{}|]/g, "\\$&"), "i");
+  const wanted = text.trim().toLowerCase();
+  const place = campaign.names.indexOf(point);
+  const lowered = wanted === "" ? [] : loweredTexts(campaign);
   return campaign.plans.filter((plan) =>
     (verdict === "" || verdict === plan.verdict || (plan.code !== null && verdict === `${plan.verdict} ${plan.code}`))
     && (level === "" || level === levelKeyOf(plan))
-    && (point === "" || hasFaultAt(campaign, plan, point))
-    && (wanted === "" || pattern.test(plan.text) || String(plan.number).includes(wanted)));
+    && (point === "" || hasFaultAt(campaign, plan, point, place))
+    && (wanted === "" || lowered[plan.number].includes(wanted) || String(plan.number).includes(wanted)));
 }
 
-/** Whether a plan has a fault at this point. @param {any} campaign @param {Plan} plan @param {string} point */
-function hasFaultAt({ byNumber, names }, plan, point) {
+/** The scenarios of all plans, in small letters. They are made once: a page asks for them before anybody filters. @param {any} campaign @returns {string[]} */
+function loweredTexts(campaign) {
+  campaign.lowered ??= campaign.plans.map((plan) => plan.text.toLowerCase());
+  return campaign.lowered;
+}
+
+/** Whether a plan has a fault at this point. @param {any} campaign @param {Plan} plan @param {string} point @param {number} place */
+function hasFaultAt({ plans }, plan, point, place) {
   if (!plan.fault) return (clausesOf(plan.text) ?? []).some((clause) => clause.point === point);
-  for (let one = plan; one?.fault; one = byNumber.get(one.parent)) if (names[one.fault.point] === point) return true;
+  for (let one = plan; one?.fault; one = plans[one.parent]) if (one.fault.point === place) return true;
   return false;
 }
 
@@ -963,7 +1213,7 @@ function planWords(campaign, plan) {
   if (!plan.fault) return wordsOfScenario(plan.text, call);
   const clauses = faultsOf(campaign, plan).map(({ point, hit, kind }) =>
     ({ point: names[point], term: parseTerm(kind), first: hit, last: kind.startsWith("1*") ? hit : Infinity }));
-  return wordsOfClauses(clauses, call);
+  return wordsOfClauses(clauses, call, true);
 }
 
 /**
@@ -973,7 +1223,7 @@ function planWords(campaign, plan) {
  * @param {string} scenario
  */
 function wordsOfNumbered(campaign, number, scenario) {
-  const plan = campaign.byNumber.get(number);
+  const plan = campaign.plans[number];
   return plan.text === scenario ? planWords(campaign, plan) : wordsOfScenario(scenario, campaign.call);
 }
 
@@ -1176,26 +1426,27 @@ const FEWEST_SLOTS = 4;
 
 /**
  * The rows of the map, and the row of each plan: the run without faults; a first fault's hit; a list that didn't grow (storms and the like).
- * @param {{plans: Plan[], byNumber: Map<number, Plan>, names: string[]}} campaign
+ * @param {{plans: Plan[], names: string[]}} campaign
  */
 function rowsOf(campaign) {
   const rows = [];
   const indexes = new Map();
-  const rowOf = new Map();
+  /** @type {number[]} */
+  const rowOf = [];
   const add = (key, row) => {
     if (!indexes.has(key)) indexes.set(key, rows.push(row) - 1);
     return indexes.get(key);
   };
-  for (const plan of campaign.plans) rowOf.set(plan.number, rowOfPlan(plan, campaign, rowOf, add));
+  for (const plan of campaign.plans) rowOf.push(rowOfPlan(plan, campaign, rowOf, add));
   return { rows, rowOf };
 }
 
-/** @param {Plan} plan @param {{names: string[]}} campaign @param {Map<number, number>} rowOf @param {(key: string, row: Row) => number} add */
+/** @param {Plan} plan @param {{names: string[]}} campaign @param {number[]} rowOf @param {(key: string, row: Row) => number} add */
 function rowOfPlan(plan, { names }, rowOf, add) {
   const { name, level } = plan.part;
   if (name === "storms" || name === "listed") return add(name, { kind: "wide", point: null, hit: 0, name });
   if (level === 0 && name !== "onward") return add("none", { kind: "none", point: null, hit: 0, name: null });
-  if (plan.parent) return rowOf.get(plan.parent);
+  if (plan.parent) return rowOf[plan.parent];
   const { point, hit } = plan.fault;
   return add(`${hit} ${point}`, { kind: "site", point: names[point], hit, name: null });
 }
@@ -1228,12 +1479,12 @@ function shareSlots(columns, room) {
  * The strips of each row: for each column, or across all of them, the numbers of the plans.
  * @param {{plans: Plan[]}} campaign
  * @param {Row[]} rows
- * @param {Map<number, number>} rowOf
+ * @param {number[]} rowOf
  */
 function gather(campaign, rows, rowOf) {
   const strips = rows.map(() => new Map());
   for (const plan of campaign.plans) {
-    const row = rowOf.get(plan.number);
+    const row = rowOf[plan.number];
     const key = rows[row].kind === "wide" ? null : levelKeyOf(plan);
     const numbers = strips[row].get(key);
     if (numbers) numbers.push(plan.number);
@@ -1299,10 +1550,10 @@ function bandsOf(strips, row, columns, { width, cell }) {
  * The map of a campaign, `width` wide where its levels find room in that, with cells of this size. Plans of closed levels have no place.
  * @param {any} campaign
  * @param {{width: number, cell: number, closed?: Set<string>}} options
+ * @param {{rows: Row[], rowOf: number[]}} [known] the rows, where they are known
  * @returns {Layout}
  */
-function layoutMap(campaign, { width, cell, closed = new Set() }) {
-  const { rows, rowOf } = rowsOf(campaign);
+function layoutMap(campaign, { width, cell, closed = new Set() }, { rows, rowOf } = rowsOf(campaign)) {
   const strips = gather(campaign, rows, rowOf);
   const columns = columnsOf(campaign, strips, { width, cell, closed });
   const whole = Math.max(width, ...columns.map((column) => column.left + column.width));
@@ -1311,7 +1562,15 @@ function layoutMap(campaign, { width, cell, closed = new Set() }) {
   const bands = stack(unstacked, cell, gap);
   const lineBands = bands.flatMap((band, index) => Array.from({ length: band.lines }, () => index));
   const height = bands.reduce((sum, band) => sum + band.height + gap, 0);
-  return { cell, gap, width: whole, height, rows, columns, bands, lineBands, places: placesOf(bands) };
+  let places = null;
+  return {
+    cell, gap, width: whole, height, rows, columns, bands, lineBands,
+    // Only keys and a plan that is chosen ask for it.
+    get places() {
+      places ??= placesOf(bands);
+      return places;
+    },
+  };
 }
 
 /** One band below the other. @param {{lines: number}[]} bands @param {number} cell @param {number} gap @returns {Band[]} */
@@ -1453,8 +1712,8 @@ function kindsByPoint({ plans, names }) {
 function pointsByKinds(kinds, { call }) {
   const groups = new Map();
   for (const [point, tried] of kinds) {
-    if (point === KEEP) continue;
-    const words = listed(tried.map(wordsOfKind), "or");
+    if (point === KEEP || point === TEAR) continue;
+    const words = listed(tried.map((kind) => wordsOfKind(point, kind)), "or");
     groups.set(words, [...(groups.get(words) ?? []), call(point)]);
   }
   return [...groups].sort((one, other) => one[1].length - other[1].length);
@@ -1466,14 +1725,10 @@ function faultsWords(campaign) {
   const groups = pointsByKinds(kinds, campaign);
   const parts = groups.map(([words, points], index) =>
     `${words} at ${index < groups.length - 1 ? listed(points) : groups.length > 1 ? "each other point that is hit" : "any point that is hit"}`);
-  if (kinds.has(KEEP)) parts.push(keptKindsWords(kinds.get(KEEP)));
-  return parts.join(", or ");
-}
-
-/** @param {string[]} kinds */
-function keptKindsWords(kinds) {
-  const parts = kinds.map((kind) => (kind === "return" ? "a pending change" : kind === "return(HALF)" ? "the first half of one" : `${kind} of one`));
-  return `${listed(parts, "or")} that the power cut keeps`;
+  const isTried = (point) => (kinds.get(point) ?? []).some((kind) => kind.startsWith("return"));
+  if (isTried(KEEP)) parts.push("a pending change that the power cut keeps");
+  if (isTried(TEAR)) parts.push("a write of which it keeps the first half alone");
+  return parts.length > 2 ? `${parts.slice(0, -1).join("; ")}; or ${parts[parts.length - 1]}` : parts.join(", or ");
 }
 
 /** @param {any} campaign */
@@ -1491,8 +1746,8 @@ function triedAtHits({ parts }) {
   const size = (name) => parts.find((part) => part.name === name)?.count ?? 0;
   const hits = size("hits") / 3;
   if (hits === 0) return ["Tried was the run without faults."];
-  const sentences = [`Tried was one fault at each of ${counted(hits, "hit")} of the run without faults: a return, a return from then on, and a panic.`];
-  if (size("pairs") > 0) sentences.push(`In ${counted(size("pairs"), "plan")} more two of these hits have a fault: both a return, or the second a panic.`);
+  const sentences = [`Tried was one fault at each of ${counted(hits, "hit")} of the run without faults: a failure, failures from then on, and the end of the program.`];
+  if (size("pairs") > 0) sentences.push(`In ${counted(size("pairs"), "plan")} more two of these hits have a fault: both fail, or the program ends at the second.`);
   return sentences;
 }
 
@@ -1557,7 +1812,7 @@ function partWords({ name, level }) {
 function rowWords({ kind, point, hit, name }, call) {
   if (kind === "none") return "no fault";
   if (kind === "wide") return partWords({ name, level: null });
-  return `${ordinal(hit)} ${point === KEEP ? "pending change" : call(point)}`;
+  return `${ordinal(hit)} ${call(point)}`;
 }
 
 // Draws the map, and leads pointer and keys to its plans.
@@ -1567,7 +1822,8 @@ function rowWords({ kind, point, hit, name }, call) {
 /** @typedef {import("./map.js").Strip} Strip */
 
 const NARROW = 640;
-const LABEL_WIDTH = 168;
+/** The room of a label: by its characters, between these, and of a share of the map at most. */
+const LABEL = { character: 6.9, least: 120, most: 340, share: 0.36 };
 /** What a printed page has room for. */
 const PRINTED_WIDTH = 700;
 /** What the map's box has left and right of it. */
@@ -1586,11 +1842,16 @@ function cellFor(plans) {
   return CELLS.find(({ most }) => plans <= most)?.size ?? SMALLEST;
 }
 
+/** The room for labels of which the longest has so many characters, in a map of this width. @param {number} characters @param {number} width */
+function labelWidth(characters, width) {
+  return Math.round(Math.max(LABEL.least, Math.min(characters * LABEL.character + 12, LABEL.most, width * LABEL.share)));
+}
+
 /** The marks of a strip, one path for each that it has. @param {any} campaign @param {Strip} strip @param {number} cell */
 function stripPaths(campaign, strip, cell) {
   const paths = new Map();
   strip.numbers.forEach((number, index) => {
-    const mark = markOf(campaign.byNumber.get(number), campaign.codes);
+    const mark = markOf(campaign.plans[number], campaign.codes);
     const path = markPath(mark, (index % strip.slots) * cell, Math.floor(index / strip.slots) * cell, cell);
     paths.set(mark, (paths.get(mark) ?? "") + path);
   });
@@ -1599,7 +1860,7 @@ function stripPaths(campaign, strip, cell) {
 
 /** How many plans a strip has, and how many fail. @param {any} campaign @param {Strip} strip */
 function stripWords(campaign, strip) {
-  const fail = strip.numbers.filter((number) => campaign.byNumber.get(number).verdict === "fail").length;
+  const fail = strip.numbers.filter((number) => campaign.plans[number].verdict === "fail").length;
   return `${counted(strip.numbers.length, "plan")}${fail > 0 ? `, ${grouped(fail)} ${fail === 1 ? "fails" : "fail"}` : ""}`;
 }
 
@@ -1613,6 +1874,8 @@ class MapView {
     Object.assign(this, { campaign, label, tell, chosen });
     this.closed = new Set();
     this.cell = cellFor(campaign.plans.length);
+    this.known = rowsOf(campaign);
+    this.longest = this.known.rows.reduce((most, row) => Math.max(most, label(row).length), 0);
     this.selected = null;
     this.firsts = new Set(campaign.told.findings.map((finding) => finding.number));
     this.grid = element("div", { class: "map", role: "grid", tabindex: "0", "aria-label": "Map of plans", "aria-describedby": "map-keys" });
@@ -1660,10 +1923,11 @@ class MapView {
   }
 
   draw() {
-    const labels = this.width < NARROW ? 0 : LABEL_WIDTH;
+    const labels = this.width < NARROW ? 0 : labelWidth(this.longest, this.width);
     const width = Math.max(this.width - labels - SIDES, Math.ceil((this.campaign.plans.length * this.cell ** 2) / this.tall));
-    this.layout = layoutMap(this.campaign, { width, cell: this.cell, closed: this.closed });
+    this.layout = layoutMap(this.campaign, { width, cell: this.cell, closed: this.closed }, this.known);
     this.box.classList.toggle("narrow", labels === 0);
+    this.box.style.setProperty("--labels", `${labels}px`);
     this.grid.setAttribute("aria-rowcount", String(this.layout.bands.length + 1));
     this.grid.setAttribute("aria-colcount", String(this.layout.columns.length + 1));
     this.grid.replaceChildren(this.drawHead(), ...this.layout.bands.map((band, index) => this.drawBand(band, index)));
@@ -1703,7 +1967,7 @@ class MapView {
     const words = this.label(row);
     const label = element("div", { role: "rowheader", class: "map-label", title: row.point }, band.part === 0 ? words : `${words}, further`);
     const strips = element("div", { class: "map-strips", role: "presentation" }, ...band.strips.map((strip, at) => this.drawStrip(band, strip, index, at)));
-    label.style.lineHeight = `${this.cell}px`;
+    label.style.lineHeight = this.width < NARROW ? null : `${this.cell}px`;
     strips.style.height = `${band.height}px`;
     const made = element("div", { role: "row", class: row.kind === "wide" ? "map-band wide" : "map-band", "aria-rowindex": String(index + 2) }, label, strips);
     made.style.marginBottom = `${this.layout.gap}px`;
@@ -1786,11 +2050,11 @@ class MapView {
     for (const old of this.grid.querySelectorAll(".frame-selected, .frame-before, #map-current")) old.remove();
     this.grid.removeAttribute("aria-activedescendant");
     if (this.selected === null) return;
-    let plan = this.campaign.byNumber.get(this.selected);
+    let plan = this.campaign.plans[this.selected];
     this.frame(this.selected, "frame-selected");
     while (plan?.parent !== null && plan !== undefined) {
       this.frame(plan.parent, "frame-before");
-      plan = this.campaign.byNumber.get(plan.parent);
+      plan = this.campaign.plans[plan.parent];
     }
     this.drawCurrent(this.selected);
   }
@@ -1826,7 +2090,7 @@ class MapView {
 
 /** @typedef {import("./document.js").Plan} Plan */
 
-const SHOWN_PLANS = 100;
+const SHOWN_PLANS = 50;
 const SHOWN_CAUSES = 10;
 const KEYS = "Arrow keys lead from plan to plan, Home and End along a line, Page Up and Page Down further; Enter tells more of a plan.";
 
@@ -1856,62 +2120,104 @@ function scenarioCode(text) {
 function drawHeader(campaign) {
   const { told } = campaign;
   const { sentences, whole } = wholeness(campaign);
+  const { fail, unresolved } = told.counts;
   const ways = failuresByCode(campaign).map(([code, count]) =>
     element("li", {}, markIcon(markOf({ verdict: "fail", code }, campaign.codes)), `${code}: ${counted(count, "plan")}`));
   return element("header", {},
     element("p", { class: "kind" }, "Paklour report"),
     element("h1", {}, told.label),
-    element("p", { class: "headline" }, headline(campaign)),
-    ways.length > 0 ? element("ul", { class: "ways" }, ...ways) : null,
-    element("p", {}, tried(campaign).join(" ")),
+    element("div", { class: `outcome ${fail > 0 ? "fails" : unresolved > 0 ? "ended" : "passes"}` },
+      element("p", { class: "headline" }, headline(campaign)),
+      ways.length > 0 ? element("ul", { class: "ways" }, ...ways) : null),
+    element("p", {}, ["A plan is one run of the program, with its faults.", ...tried(campaign)].join(" ")),
     element("p", { class: whole ? "whole" : "open" }, sentences.join(" ")),
     element("p", { class: "muted" }, limits(campaign).join(" ")));
+}
+
+/** Links to the sections that there are. @param {HTMLElement[]} sections */
+function drawContents(sections) {
+  const links = sections.map((one) => element("li", {}, element("a", { href: `#${one.id}` }, one.querySelector("h2").textContent)));
+  return element("nav", { "aria-label": "Contents" }, element("ul", {}, ...links));
 }
 
 // ---- runs
 
 /** @param {(point: string) => string} call @param {import("./run.js").Hit|null} hit */
 function drawHit(call, hit) {
-  if (hit === null) return [element("span", { class: "muted" }, "\u2013")];
-  const keeps = hit.point === KEEP;
-  const name = keeps ? `${ordinal(hit.ordinal)} pending change` : `${ordinal(hit.ordinal)} ${call(hit.point)}`;
-  if (hit.answer === null) return [name];
-  return [name, " ", element("b", { class: isFault(hit.answer) ? "fault" : null }, keeps && hit.answer === "return" ? "kept" : hit.answer)];
+  if (hit === null) return element("div", { class: "hit muted" }, "\u2013");
+  const answer = answerWords(hit.point, hit.answer);
+  const name = element("span", {}, `${ordinal(hit.ordinal)} ${call(hit.point)}`);
+  return element("div", { class: hit.near ? "hit near" : "hit" }, name, ...(answer === null ? [] : [" ", element(isFault(hit.answer) ? "b" : "span", {}, answer)]));
 }
 
 /** @param {(point: string) => string} call @param {import("./run.js").Line} line @param {boolean} beside */
 function drawLine(call, { here, there, same, fault }, beside) {
-  const number = element("td", { class: "number" }, String((here ?? there).number));
-  const cell = (hit, columns) => element("td", { colspan: columns }, element("div", { class: "hit" }, ...drawHit(call, hit)));
-  const cells = beside && !same ? [cell(here, null), cell(there, null)] : [cell(here, beside ? "2" : null)];
-  return element("tr", { class: fault ? "fault-line" : same || !beside ? null : "differs" }, number, ...cells);
+  const cells = (hit, isAlone) => [
+    element("td", { class: "number" }, hit === null ? "" : String(hit.number)),
+    element("td", { class: isAlone ? "alone" : null }, drawHit(call, hit)),
+  ];
+  const isAlone = (hit, other) => beside && hit !== null && hit.point !== other?.point;
+  const kind = fault ? "fault-line" : same || !beside ? "same" : null;
+  return element("tr", { class: kind }, ...cells(here, isAlone(here, there)), ...(beside ? cells(there, isAlone(there, here)) : []));
 }
 
 /** @param {(point: string) => string} call @param {{lines: any[]}} piece @param {boolean} beside */
 function drawFold(call, { lines }, beside) {
   const button = element("button", { type: "button", class: "more" }, `${lines.length} hits go on, the same${beside ? " in both" : ""}`);
-  const row = element("tr", { class: "fold" }, element("td", { class: "number" }, "\u22ee"), element("td", { colspan: beside ? "2" : null }, button));
+  const row = element("tr", { class: "fold" }, element("td", { class: "number" }, "\u22ee"), element("td", { colspan: beside ? "3" : null }, button));
   button.addEventListener("click", () => row.replaceWith(...lines.map((line) => drawLine(call, line, beside))));
   return row;
 }
 
-/** A run hit by hit, beside another one. @param {any} campaign @param {{number: number, scenario: string}} plan @param {boolean} open */
-function drawRun({ runs, names, call }, { number, scenario }, open) {
-  const run = runs.get(runKey(number, scenario));
-  if (!run) return null;
-  const other = runBeside(runs, run, names);
+/** What came of two runs, below their hits. @param {any} campaign @param {import("./run.js").Run} run @param {import("./run.js").Run|null} other */
+function drawEnds(campaign, run, other) {
+  const cells = ({ verdict }) => {
+    const [word, code = null] = verdict.startsWith("fail ") ? ["fail", verdict.slice("fail ".length)] : [verdict];
+    return [element("td"), element("td", {}, verdictMark(campaign, { verdict: word, code }))];
+  };
+  return element("tr", { class: "ends" }, ...cells(run), ...(other ? cells(other) : []));
+}
+
+/** @param {import("./run.js").Run} other */
+function besideWords({ scenario }) {
+  return `the run ${scenario === "" ? "without faults" : "without its last fault"}`;
+}
+
+/** @param {any} campaign @param {import("./run.js").Run} run @param {import("./run.js").Run|null} other */
+function drawHits(campaign, run, other) {
+  const { names, call } = campaign;
   const beside = other !== null;
   const lines = linesOf(run, other, names);
   const pieces = foldLines(beside ? lines : lines.map((line) => ({ ...line, same: true })));
   const rows = pieces.map((piece) => (piece.fold ? drawFold(call, piece, beside) : drawLine(call, piece.line, beside)));
-  const otherWords = other && `the run ${other.scenario === "" ? "without faults" : "without its last fault"}`;
-  const heads = [element("th", { class: "number" }, "hit"), element("th", {}, "this run"), beside ? element("th", {}, otherWords) : null];
-  const head = element("thead", {}, element("tr", {}, ...heads));
-  const notes = [run.more > 0 ? `${counted(run.more, "further hit")} of this run ${run.more === 1 ? "isn\u2019t" : "aren\u2019t"} told.` : null, endWords(run)];
-  return element("details", { class: "run", open },
-    element("summary", {}, `The run, hit by hit${beside ? `, beside ${otherWords}` : ""}`),
-    element("div", { class: "scroll" }, element("table", { class: "hits" }, head, element("tbody", {}, ...rows))),
-    ...notes.filter((note) => note !== null).map((note) => element("p", { class: "muted" }, note)));
+  const head = (words) => [element("th", { class: "number" }, "hit"), element("th", {}, words)];
+  const heads = element("thead", {}, element("tr", {}, ...head("this run"), ...(other ? head(besideWords(other)) : [])));
+  const files = [...filesOfFaults(lines)];
+  const notes = [
+    files.length > 0 ? `In bold: hits of the same file as ${files.length === 1 ? "the fault\u2019s" : "a fault\u2019s"}, ${listed(files)}.` : null,
+    lines.some(({ here, there }) => here?.point === KEEP || there?.point === KEEP)
+      ? "A pending change is one that no sync has made last. A power cut may keep any of them." : null,
+    run.more > 0 ? `${counted(run.more, "further hit")} of this run ${run.more === 1 ? "isn\u2019t" : "aren\u2019t"} told.` : null,
+    endWords(run),
+  ];
+  return [
+    element("div", { class: "scroll" }, element("table", { class: beside ? "hits two" : "hits" }, heads, element("tbody", {}, ...rows, drawEnds(campaign, run, other)))),
+    ...notes.filter((note) => note !== null).map((note) => element("p", { class: "muted" }, note)),
+  ];
+}
+
+/** A run hit by hit, beside another one, read and drawn when it is opened. @param {any} campaign @param {{number: number, scenario: string}} plan @param {boolean} open */
+function drawRun(campaign, { number, scenario }, open) {
+  const { runs } = campaign;
+  if (!runs.has(number, scenario)) return null;
+  const made = element("details", { class: "run", open }, element("summary", {}, "The run, hit by hit"));
+  const draw = () => {
+    const run = runs.of(number, scenario);
+    made.append(...drawHits(campaign, run, runs.beside(run)));
+  };
+  if (open) draw();
+  else made.addEventListener("toggle", draw, { once: true });
+  return made;
 }
 
 /** @param {{end: string|null}} run */
@@ -1928,7 +2234,7 @@ function drawFinding(campaign, finding, index) {
   const planned = finding.reduced === finding.scenario ? null
     : element("p", { class: "muted" }, `Reduced, in ${counted(finding.tests, "test")}, from `, scenarioCode(finding.scenario));
   return element("article", { id: `first-${finding.number}`, class: "finding" },
-    element("h3", {}, verdictMark(campaign, { verdict: "fail", code: finding.code }), " ", planLink(finding.number)),
+    element("h3", {}, verdictMark(campaign, { verdict: "fail", code: finding.code }), ", ", planLink(finding.number)),
     element("p", { class: "words" }, sentence(wordsOfNumbered(campaign, finding.number, finding.reduced))),
     element("p", {}, scenarioCode(finding.reduced)),
     planned,
@@ -1949,15 +2255,15 @@ function drawFindings(campaign) {
 function drawCause(campaign, cause) {
   const mark = verdictMark(campaign, { verdict: "fail", code: cause.code });
   return element("li", { id: `cause-${cause.number}` },
-    element("p", {}, mark, " ", planLink(cause.number), ": ", sentence(wordsOfNumbered(campaign, cause.number, cause.scenario))),
+    element("p", {}, mark, ", ", planLink(cause.number), ": ", sentence(wordsOfNumbered(campaign, cause.number, cause.scenario))),
     scenarioCode(cause.scenario),
     drawRun(campaign, cause, false));
 }
 
 /** @param {any} campaign @param {string[]} points */
 function groupWords({ call }, points) {
-  const calls = points.filter((point) => point !== KEEP).map(call);
-  const kept = points.includes(KEEP) ? "what the power cut keeps" : null;
+  const calls = points.filter((point) => point !== KEEP && point !== TEAR).map(call);
+  const kept = points.includes(KEEP) || points.includes(TEAR) ? "what the power cut keeps" : null;
   return listed([...calls, ...(kept ? [kept] : [])]) || "no fault";
 }
 
@@ -1987,7 +2293,7 @@ function drawCauses(campaign) {
 
 /** @param {any} campaign @param {number} number */
 function tellPlan(campaign, number) {
-  const plan = campaign.byNumber.get(number);
+  const plan = campaign.plans[number];
   return `plan ${number}, ${verdictWords(plan)}: ${planWords(campaign, plan)}`;
 }
 
@@ -2020,13 +2326,14 @@ function drawMap(campaign, chosen) {
 /** What the map shows. Only of plans that grew it is known which fault acts first. @param {any} campaign */
 function mapWords({ told }) {
   const down = told.growth ? "acts first, in the order of the run without faults" : "its scenario names first";
-  return `Each mark is a plan. Down stands the fault that ${down}; across, how many faults it has. In a row the marks stand in the order of their plans\u2019 `
-    + "numbers. A column closes and opens by its head.";
+  const onward = told.growth?.onward > 0 ? " In the last column the last fault goes on from then on." : "";
+  return `Each mark is a plan. Down stands the fault that ${down}; across, how many faults it has.${onward} In a row the marks stand in the order of their `
+    + "plans\u2019 numbers. A column closes and opens by its head.";
 }
 
 /** What is told of the plan that was chosen. @param {any} campaign @param {number} number */
 function drawChosen(campaign, number) {
-  const plan = campaign.byNumber.get(number);
+  const plan = campaign.plans[number];
   if (!plan) return [element("p", {}, `Plan ${number} isn\u2019t in this campaign.`)];
   return [
     element("h3", {}, `Plan ${number} `, verdictMark(campaign, plan)),
@@ -2137,8 +2444,9 @@ function drawAgain({ told: { seed, about } }) {
   const items = [["seed", seed], ["program", `paklour ${about.program_version}`], ["command", about.command]];
   const rows = items.map(([name, value]) =>
     element("tr", {}, element("th", { scope: "row" }, name), element("td", {}, element("code", {}, value))));
-  return section("Again", "again",
+  return section("Make it again", "again",
     element("table", {}, element("tbody", {}, ...rows)),
+    element("p", { class: "muted" }, "Settings, as they stand in FILE:"),
     preformatted(about.settings));
 }
 
@@ -2153,8 +2461,9 @@ function drawPage(campaign) {
   };
   const { made, view } = drawMap(campaign, choose);
   made.append(chosen);
-  const parts = [drawHeader(campaign), drawFindings(campaign), drawCauses(campaign), made, drawPoints(campaign), drawPlans(campaign), drawAgain(campaign)];
-  document.getElementById("page").replaceChildren(...parts.filter((part) => part !== null));
+  const parts = [drawFindings(campaign), drawCauses(campaign), made, drawPoints(campaign), drawPlans(campaign), drawAgain(campaign)];
+  const sections = parts.filter((part) => part !== null);
+  document.getElementById("page").replaceChildren(drawHeader(campaign), drawContents(sections), ...sections);
   view.fit(view.box.clientWidth);
   followHash(view, choose, chosen);
 }
@@ -2170,7 +2479,7 @@ function followHash(view, choose, chosen) {
     const match = /^#plan-(\d+)$/.exec(location.hash);
     if (!match) return;
     const number = Number(match[1]);
-    view.select(view.campaign.byNumber.has(number) ? number : null);
+    view.select(number < view.campaign.plans.length ? number : null);
     choose(number);
     chosen.scrollIntoView({ block: "center" });
   };
@@ -2196,6 +2505,7 @@ function start() {
   try {
     const campaign = campaignOf(readDocument(document.getElementById("document").textContent));
     drawPage(campaign);
+    requestIdleCallback(() => loweredTexts(campaign));
     document.title = shown(`${campaign.told.label} \u2013 Paklour`);
     document.getElementById("brief").open = false;
   } catch (error) {
