@@ -1,6 +1,6 @@
 use Rattle.std.proofs.lemmas.Result.{on_ok_weaker}
 use Rattle.report_json.proofs.Lists.{list_member}
-use Rattle.report_json.proofs.about.write_runs.Goals as goal
+use Rattle.report_json.proofs.runs.write_list.Goals as goal
 
 pub returns : goal.returns
 returns c =

@@ -1,0 +1,156 @@
+Runs that answers tell, in the document of `report --json`: that without faults, and of each finding and each cause the run hit by hit, `null` where no answer
+tells its hits. Beside the run of a plan that grew by two faults or more stands its parent's. What is expected was worked out by hand.
+
+A component asks `a`, and then `b`; where `a` fails, it goes on with `c` in place of `b`. Nobody saw the hits of the run in which `b` fails. The plans are `none`,
+`a` and `b` with a return, `b` with a panic, and behind the first of these `c`; behind them is one that the settings list.
+
+  $ cat > told.toml <<'END'
+  > target = "outside"
+  > seed = 5
+  > depth = 2
+  > scenarios = ["a=return(x)"]
+  > [outside]
+  > label = "a box"
+  > codes = ["torn", "stale", "lost", "cold"]
+  > points = ["a", "b", "c"]
+  > [outside.kinds]
+  > a = ["return"]
+  > b = ["return", "panic"]
+  > c = ["return"]
+  > END
+  $ line() { printf '%s\t%s\t%s\n' "$@"; }
+  $ {
+  >     line pass none 'a;b'
+  >     line pass 'a=1*return' 'a;c'
+  >     line 'fail torn' 'b=1*return' -
+  >     line 'fail stale' 'b=1*panic' 'a;b'
+  >     line 'fail lost' 'a=1*return;c=1*return' 'a;c'
+  >     line 'fail cold' 'a=return(x)' a
+  > } > answers
+  $ paklour asks told.toml < answers
+  $ paklour report told.toml < answers | sed -n '/^verdict 0/,$p'
+  verdict 0 pass
+  verdict 1 pass
+  verdict 2 fail torn
+  verdict 3 fail stale
+  verdict 4 fail lost
+  verdict 5 fail cold
+  first 2 torn
+  scenario b=1*return
+  reduced b=1*return
+  tests 1
+  first 3 stale
+  scenario b=1*panic
+  reduced b=1*panic
+  tests 1
+  first 4 lost
+  scenario a=1*return;c=1*return
+  reduced a=1*return;c=1*return
+  tests 3
+  first 5 cold
+  scenario a=return(x)
+  reduced a=return(x)
+  tests 1
+  causes 3
+  cause 2 torn b=1*return
+  cause 3 stale b=1*panic
+  cause 4 lost a=1*return;c=1*return
+  $ paklour report --json told.toml < answers > told.json
+  [1]
+  $ sed -n '/"grown"/,$p' told.json
+      "grown": [
+        "",
+        "0 1 1*return",
+        "1 1 1*return",
+        "1 1 1*panic",
+        "0 1 1*return; 2 1 1*return"
+      ],
+      "clean_run": {
+        "explained": "verdict pass\nhit 1 a 1 go\nhit 2 b 1 go\n"
+      },
+      "finding_runs": [
+        null,
+        {
+          "explained": "verdict fail stale\nhit 1 a 1 go\nhit 2 b 1 panic\nstopped panic\n"
+        },
+        {
+          "explained": "verdict fail lost\nhit 1 a 1 return\nhit 2 c 1 return\n",
+          "parent": {
+            "explained": "verdict pass\nhit 1 a 1 return\nhit 2 c 1 go\n"
+          }
+        },
+        {
+          "explained": "verdict fail cold\nhit 1 a 1 return(x)\n"
+        }
+      ],
+      "cause_runs": [
+        null,
+        {
+          "explained": "verdict fail stale\nhit 1 a 1 go\nhit 2 b 1 panic\nstopped panic\n"
+        },
+        {
+          "explained": "verdict fail lost\nhit 1 a 1 return\nhit 2 c 1 return\n",
+          "parent": {
+            "explained": "verdict pass\nhit 1 a 1 return\nhit 2 c 1 go\n"
+          }
+        }
+      ]
+    }
+  }
+
+The page has the same document in it, and each run is the one that `--explain` writes.
+
+  $ paklour report --page told.toml < answers > told.page
+  [1]
+  $ paklour report --brief told.toml < answers > told.brief
+  [1]
+  $ python3 "$TESTDIR/page.py" told.page told.brief told.json
+  paklour report --page FILE < ANSWERS
+  0 differences
+  $ paklour report --explain 'a=1*return;c=1*return' told.toml < answers
+  verdict fail lost
+  hit 1 a 1 return
+  hit 2 c 1 return
+  [1]
+
+Without a depth an answer may tell hits, and no run has a parent. Of a run with 1,002 hits the first 1,000 have their lines, and what stopped it is told all the
+same; a fault is idle that none of the 1,002 met.
+
+  $ cat > long.toml <<'END'
+  > target = "outside"
+  > seed = 5
+  > scenarios = ["a=return(x);b=1000*off->panic;c=return"]
+  > [outside]
+  > label = "a long box"
+  > codes = ["cold"]
+  > points = ["a", "b", "c"]
+  > hits = [1, 0, 0]
+  > END
+  $ {
+  >     line pass none a
+  >     line pass 'a=1*return' a
+  >     printf 'pass\ta=return\npass\ta=1*panic\n'
+  >     line 'fail cold' 'a=return(x);b=1000*off->panic;c=return' 'a;1001*b'
+  >     printf 'pass\ta=return(x)\npass\tb=1000*off->panic\npass\tc=return\n'
+  >     line 'fail cold' 'a=return(x);b=1000*off->panic' 'a;1001*b'
+  > } > answers
+  $ paklour asks long.toml < answers
+  $ paklour report --json long.toml < answers > long.json
+  [1]
+  $ cat > runs.py <<'END'
+  > import json
+  > about = json.load(open("long.json"))["about"]
+  > print(about["clean_run"], about["cause_runs"])
+  > for run in about["finding_runs"]:
+  >     lines = run.pop("explained").splitlines()
+  >     print(len(lines), *lines[:3], *lines[-2:], run, sep="\n")
+  > END
+  $ python3 runs.py
+  {'explained': 'verdict pass\nhit 1 a 1 go\n'} []
+  1002
+  verdict fail cold
+  hit 1 a 1 return(x)
+  hit 2 b 1 go
+  hit 1000 b 999 go
+  stopped panic
+  {'left_out': 2}
