@@ -4,7 +4,7 @@ use Rattle.std.specs.Fmt.{decimal}
 use Rattle.run_explained.specs.Told.{run_facts}
 use Rattle.report_json.specs.About.{ShownFacts, shown_of}
 use Rattle.report_forms.specs.Forms.{text_in}
-use Rattle.report_forms.specs.Runs.{Telling, most_hits}
+use Rattle.report_forms.specs.Runs.{Telling, most_hits_shown}
 use Rattle.report_forms.specs.declared.forms.Form.{Form}
 use Rattle.campaign_core.specs.CommandTexts.{case_in}
 use Rattle.campaign_core.specs.Headline.{Campaign, grown_to, plans, report}
@@ -41,7 +41,7 @@ text_or (byte ∷ more) lines = byte ∷ more
 
 -- what is told of runs: that of each scenario, hit by hit
 abbrev pub telling : Campaign → Telling
-telling c stream scenario = Some (run_facts most_hits c.codes c.asks (case_in c stream scenario))
+telling c stream scenario = Some (run_facts most_hits_shown c.codes c.asks (case_in c stream scenario))
 
 -- what is shown beside the report
 abbrev pub shown : Campaign → ShownFacts

@@ -9,7 +9,7 @@ use crate::ran::Ran;
 use crate::reporting::report_of;
 use crate::subject::{Host, Subject};
 use grown_plans::GrownPlans;
-use report_forms::{Form, MOST_HITS, Teller, text_in};
+use report_forms::{Form, MOST_HITS_SHOWN, Teller, text_in};
 use report_json::Shown;
 use run_explained::{ToldRun, tell};
 use scenario_values::Scenario;
@@ -114,7 +114,7 @@ impl<'a, T: Target> Teller for Subject<'a, T> {
         let mut twin = self.target.twin()?;
         let settings = self.settings;
         let case = settings.case(scenario, u64::from(number));
-        let run = tell(alloc, &mut twin, self.workload, &case, MOST_HITS)?;
+        let run = tell(alloc, &mut twin, self.workload, &case, MOST_HITS_SHOWN)?;
         Ok(Some(run))
     }
 }

@@ -9,12 +9,12 @@ use Rattle.answer_text.specs.declared.hits.Stretch.{Stretch}
 use Rattle.answer_text.specs.declared.runs.ToldRun.{ToldRun}
 use Rattle.run_explained.specs.Told.{RunFacts}
 use Rattle.run_explained.specs.ByAnswer.{answer_facts}
-use Rattle.report_forms.specs.Runs.{Telling, most_hits}
+use Rattle.report_forms.specs.Runs.{Telling, most_hits_shown}
 
 -- by the names of points and codes: a run is told where its hits are
 abbrev pub hits_told : List (List ℕ) → (ℕ → List ℕ) → Entries → Verdict → Option (List Stretch) → Option RunFacts
 hits_told points codes scenario v None = None
-hits_told points codes scenario v (Some hits) = Some (answer_facts most_hits points codes scenario v (points_of hits))
+hits_told points codes scenario v (Some hits) = Some (answer_facts most_hits_shown points codes scenario v (points_of hits))
 
 abbrev pub run_told : List (List ℕ) → (ℕ → List ℕ) → Entries → Option ToldRun → Option RunFacts
 run_told points codes scenario None = None

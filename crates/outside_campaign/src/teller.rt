@@ -7,7 +7,7 @@ use crate::planned::borrowed;
 use crate::telling::Words;
 use answer_text::{Runs, ToldRun};
 use campaign_given::Outside;
-use report_forms::{MOST_HITS, Teller};
+use report_forms::{MOST_HITS_SHOWN, Teller};
 use run_explained::{RunByAnswer, ToldRun as ToldLines, tell_answer};
 use scenario_values::Scenario;
 use std::alloc::{AllocError, Global};
@@ -36,7 +36,7 @@ pub fn run_told(
         verdict: run.verdict,
         hits: asked.as_slice(),
     };
-    let told = tell_answer(alloc, &words, points.as_slice(), &run, MOST_HITS)?;
+    let told = tell_answer(alloc, &words, points.as_slice(), &run, MOST_HITS_SHOWN)?;
     Ok(Some(told))
 }
 

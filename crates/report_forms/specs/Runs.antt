@@ -14,11 +14,11 @@ abbrev pub Telling : Type 0
 Telling = ℕ → Entries → Option RunFacts
 
 -- of a run so many hits have lines, and of the causes so many are shown with their runs
-abbrev pub most_hits : ℕ
-most_hits = 1000
+abbrev pub most_hits_shown : ℕ
+most_hits_shown = 1000
 
-abbrev pub most_causes : ℕ
-most_causes = 100
+abbrev pub most_causes_shown : ℕ
+most_causes_shown = 100
 
 -- The scenario of the plan that a plan grew from, which has its faults but the last. A plan of one fault grew from the run without faults, which is shown
 -- by itself.
@@ -53,7 +53,7 @@ cause_shown points tell grown cause = run_shown points tell grown cause.number c
 
 abbrev pub causes_shown : List (List ℕ) → Telling → List (List Rig) → Option GrowthFacts → List (Option ShownRun)
 causes_shown points tell grown None = []
-causes_shown points tell grown (Some growth) = map (cause_shown points tell grown) (take most_causes growth.causes)
+causes_shown points tell grown (Some growth) = map (cause_shown points tell grown) (take most_causes_shown growth.causes)
 
 abbrev pub runs_shown : List (List ℕ) → Telling → ReportFacts → List (List Rig) → RunsFacts
 runs_shown points tell report grown = record {

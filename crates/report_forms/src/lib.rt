@@ -5,4 +5,4 @@ mod forms;
 mod runs;
 
 pub use forms::{Form, text_in};
-pub use runs::{MOST_HITS, Teller};
+pub use runs::{MOST_HITS_SHOWN, Teller};

@@ -1,6 +1,6 @@
 //! The runs that are shown of a report.
 ghost use Rattle.std.specs.Prelude.{◌≡◌, [], map, take, IfOk};
-ghost use Rattle.report_forms.specs.Runs.{GrownAreFirst, cause_shown, causes_shown, finding_shown, most_causes, parent_at, run_shown, runs_shown, told_of};
+ghost use Rattle.report_forms.specs.Runs.{GrownAreFirst, cause_shown, causes_shown, finding_shown, most_causes_shown, parent_at, run_shown, runs_shown, told_of};
 
 use indexmap::IndexMap;
 use report::{Cause, Finding, Growth, Names, Report};
@@ -10,10 +10,10 @@ use scenario_values::Scenario;
 use std::alloc::{AllocError, Global};
 
 /// How many hits of a run have lines at most.
-pub const MOST_HITS: usize = 1000;
+pub const MOST_HITS_SHOWN: usize = 1000;
 
 /// How many causes are shown with their runs at most.
-const MOST_CAUSES: usize = 100;
+const MOST_CAUSES_SHOWN: usize = 100;
 
 /// Whoever tells runs of scenarios, hit by hit.
 pub trait Teller {
@@ -140,12 +140,12 @@ fn each_shown<N: Names, T: Teller>(
 
 /// The causes that are shown with their runs.
 fn first_causes(causes: &[Cause]) -> &[Cause]
-    ensures { result.now ≡ take most_causes causes.now }
+    ensures { result.now ≡ take most_causes_shown causes.now }
 {
-    if causes.len() <= MOST_CAUSES {
+    if causes.len() <= MOST_CAUSES_SHOWN {
         return causes;
     }
-    &causes[..MOST_CAUSES]
+    &causes[..MOST_CAUSES_SHOWN]
 }
 
 /// The runs of the causes of a campaign that grew, of as many as are shown.
