@@ -1,8 +1,8 @@
 Runs that answers tell, in the document of `report --json`: that without faults, and of each finding and each cause the run hit by hit, `null` where no answer
 tells its hits. Beside the run of a plan that grew by two faults or more stands its parent's. What is expected was worked out by hand.
 
-A component asks `a`, and then `b`; where `a` fails, it goes on with `c` in place of `b`. Nobody saw the hits of the run in which `b` fails. The plans are `none`,
-`a` and `b` with a return, `b` with a panic, and behind the first of these `c`; behind them is one that the settings list.
+A component asks `a`, and then `b`; where `a` fails, it goes on with `c` in place of `b`. The plans are `none`, `a` and `b` with a return, `b` with a panic, and
+behind the first of these `c`; behind them stands one that the settings list, which grew from none.
 
   $ cat > told.toml <<'END'
   > target = "outside"
@@ -22,7 +22,7 @@ A component asks `a`, and then `b`; where `a` fails, it goes on with `c` in plac
   $ {
   >     line pass none 'a;b'
   >     line pass 'a=1*return' 'a;c'
-  >     line 'fail torn' 'b=1*return' -
+  >     line 'fail torn' 'b=1*return' 'a;b'
   >     line 'fail stale' 'b=1*panic' 'a;b'
   >     line 'fail lost' 'a=1*return;c=1*return' 'a;c'
   >     line 'fail cold' 'a=return(x)' a
@@ -69,7 +69,9 @@ A component asks `a`, and then `b`; where `a` fails, it goes on with `c` in plac
         "explained": "verdict pass\nhit 1 a 1 go\nhit 2 b 1 go\n"
       },
       "finding_runs": [
-        null,
+        {
+          "explained": "verdict fail torn\nhit 1 a 1 go\nhit 2 b 1 return\n"
+        },
         {
           "explained": "verdict fail stale\nhit 1 a 1 go\nhit 2 b 1 panic\nstopped panic\n"
         },
@@ -84,7 +86,9 @@ A component asks `a`, and then `b`; where `a` fails, it goes on with `c` in plac
         }
       ],
       "cause_runs": [
-        null,
+        {
+          "explained": "verdict fail torn\nhit 1 a 1 go\nhit 2 b 1 return\n"
+        },
         {
           "explained": "verdict fail stale\nhit 1 a 1 go\nhit 2 b 1 panic\nstopped panic\n"
         },
@@ -113,26 +117,25 @@ The page has the same document in it, and each run is the one that `--explain` w
   hit 2 c 1 return
   [1]
 
-Without a depth an answer may tell hits, and no run has a parent. Of a run with 1,002 hits the first 1,000 have their lines, and what stopped it is told all the
-same; a fault is idle that none of the 1,002 met.
+Without a depth an answer may tell hits or not, and no run has a parent. Of a run with 1,002 hits the first 1,000 have their lines, and what stopped it behind
+these is told all the same.
 
   $ cat > long.toml <<'END'
   > target = "outside"
   > seed = 5
-  > scenarios = ["a=return(x);b=1000*off->panic;c=return"]
+  > scenarios = ["a=return(x);b=1000*off->panic"]
   > [outside]
   > label = "a long box"
-  > codes = ["cold"]
-  > points = ["a", "b", "c"]
-  > hits = [1, 0, 0]
+  > codes = ["torn", "cold"]
+  > points = ["a", "b"]
+  > hits = [1, 0]
   > END
   $ {
   >     line pass none a
   >     line pass 'a=1*return' a
-  >     printf 'pass\ta=return\npass\ta=1*panic\n'
-  >     line 'fail cold' 'a=return(x);b=1000*off->panic;c=return' 'a;1001*b'
-  >     printf 'pass\ta=return(x)\npass\tb=1000*off->panic\npass\tc=return\n'
+  >     printf 'pass\ta=return\nfail torn\ta=1*panic\n'
   >     line 'fail cold' 'a=return(x);b=1000*off->panic' 'a;1001*b'
+  >     printf 'pass\ta=return(x)\npass\tb=1000*off->panic\n'
   > } > answers
   $ paklour asks long.toml < answers
   $ paklour report --json long.toml < answers > long.json
@@ -141,12 +144,13 @@ same; a fault is idle that none of the 1,002 met.
   > import json
   > about = json.load(open("long.json"))["about"]
   > print(about["clean_run"], about["cause_runs"])
-  > for run in about["finding_runs"]:
-  >     lines = run.pop("explained").splitlines()
-  >     print(len(lines), *lines[:3], *lines[-2:], run, sep="\n")
+  > untold, run = about["finding_runs"]
+  > lines = run.pop("explained").splitlines()
+  > print(untold, len(lines), *lines[:3], *lines[-2:], run, sep="\n")
   > END
   $ python3 runs.py
   {'explained': 'verdict pass\nhit 1 a 1 go\n'} []
+  None
   1002
   verdict fail cold
   hit 1 a 1 return(x)
