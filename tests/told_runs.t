@@ -1,5 +1,5 @@
-Runs that answers tell, in the document of `report --json`: that without faults, and of each finding and each cause the run hit by hit, `null` where no answer
-tells its hits. Beside the run of a plan that grew by two faults or more stands its parent's. What is expected was worked out by hand.
+Runs in the document of `--json`, hit by hit: that without faults, and that of each finding and each cause. Beside the run of a plan that grew by two faults or
+more stands its parent's. Where answers tell runs, a run is `null` of which no answer tells the hits. What is expected was worked out by hand.
 
 A component asks `a`, and then `b`; where `a` fails, it goes on with `c` in place of `b`. The plans are `none`, `a` and `b` with a return, `b` with a panic, and
 behind the first of these `c`; behind them stands one that the settings list, which grew from none.
@@ -158,3 +158,26 @@ these is told all the same.
   hit 1000 b 999 go
   stopped panic
   {'left_out': 2}
+
+Of a target that the program runs itself, each run is the one that `explain` writes. In this campaign each finding and each cause has three faults, of which the
+last one stands behind the semicolon: 2 findings and 11 causes.
+
+  $ deep="$TESTDIR/../examples/commit_depth.toml"
+  $ paklour run --json "$deep" > deep.json
+  [1]
+  $ cat > each.py <<'END'
+  > import json
+  > document = json.load(open("deep.json"))
+  > about, causes = document["about"], document["growth"]["causes"]
+  > items = [*zip(document["findings"], about["finding_runs"]), *zip(causes, about["cause_runs"])]
+  > for place, (item, run) in enumerate(items):
+  >     for name, scenario, told in (("run", item["scenario"], run), ("parent", item["scenario"].split(";")[0], run["parent"])):
+  >         with open(f"{name}.{place}", "w") as file:
+  >             file.write(told["explained"])
+  >         print(scenario, f"{name}.{place}")
+  > END
+  $ python3 each.py | while read -r scenario file; do
+  >     paklour explain --scenario "$scenario" "$deep" | cmp - "$file" && echo "${file%.*}"
+  > done | sort | uniq -c | tr -s ' '
+   13 parent
+   13 run
