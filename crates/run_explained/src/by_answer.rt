@@ -88,8 +88,7 @@ pub fn explain_answer<N: Names>(
         ≡ answer_text (texts points.now) (N.code_text names.now) run.now.scenario.now run.now.verdict run.now.hits.now) }
 {
     let hits = answered_hits(alloc, points, run.scenario, run.hits)?;
-    let hits = hits.as_slice();
-    lines_with(alloc, names, points, run, hits, hits)
+    lines_with(alloc, names, points, run, &hits, &hits)
 }
 
 /// The same, but of the hits the first `most` alone have their lines, as of a run that [`crate::tell`] tells.
