@@ -1,5 +1,5 @@
 -- The plan that a plan grew from.
-use Rattle.std.proofs.Common.{◌≡◌, ℕ, zero, suc, ◌+◌, ◌<◌, ◌≤◌, List, [], ◌∷◌, map, take, get_or, length, Option, Some, None, refl, ap, sym, ◌∙◌, arith}
+use Rattle.std.proofs.Common.{◌≡◌, ℕ, zero, suc, ◌+◌, ◌<◌, ◌≤◌, List, [], ◌∷◌, map, take, get_or, length, Option, Some, ap, sym, ◌∙◌, arith}
 use Rattle.std.proofs.lemmas.List.{get_or-map, get_or-take, length-map, length-take}
 use Rattle.scenario_values.specs.Scenario.{Entries}
 use Rattle.action_eval.specs.declared.rig.Rig.{Rig}
@@ -11,21 +11,6 @@ below : (plans : List (List Rig)) (n : ℕ) (r : Rig) (rs : List Rig) → get_or
 below [] n r rs h = absurd cc
 below (plan ∷ plans) zero r rs h = omega arith
 below (plan ∷ plans) (suc n) r rs h = let less = below plans n r rs h in omega (arith, less)
-
--- behind the end of the list there is no plan, and so none that it grew from
-beyond : (grown : List (List Rig)) (n : ℕ) → length grown ≤ n → get_or grown n [] ≡ []
-beyond [] n h = refl
-beyond (plan ∷ plans) zero h = absurd (omega (arith, h))
-beyond (plan ∷ plans) (suc n) h = beyond plans n (omega (arith, h))
-
-pub no_plan : (points : List (List ℕ)) (grown : List (List Rig)) (n : ℕ) → length grown ≤ n → None ≡ parent_at points grown n
-no_plan points grown n h = sym (ap (parent_of points) (beyond grown n h))
-
--- with one fault or none it grew from none that has faults
-pub no_parent : (points : List (List ℕ)) (grown : List (List Rig)) (n : ℕ) (faults : List Rig) → faults ≡ get_or grown n [] → length faults < 2 → None ≡ parent_at points grown n
-no_parent points grown n [] is few = ap (parent_of points) is
-no_parent points grown n (last ∷ []) is few = ap (parent_of points) is
-no_parent points grown n (last ∷ (r ∷ rs)) is few = absurd (omega (arith, few))
 
 -- with two or more it grew from a plan of the list
 pub parent_within : (grown : List (List Rig)) (plans : List Entries) (points : List (List ℕ)) (n parent : ℕ) (faults : List Rig) → take (length grown) plans ≡ grown_scenarios points grown
