@@ -102,6 +102,20 @@ def wrong_about(read, plans):
             yield f"grown {number}: {faults}, not {plan}"
 
 
+def wrong_runs(read):
+    """What isn't so of the runs that are told: how many there are, that none lacks where the program ran a target, and which have a parent's beside them."""
+    about, growth = read["about"], read["growth"]
+    for name, items in (("finding_runs", read["findings"]), ("cause_runs", growth["causes"][:100] if growth else [])):
+        if len(about[name]) != len(items):
+            yield f"{name}: {len(about[name])}, not {len(items)}"
+        for number, run in zip([item["number"] for item in items], about[name]):
+            if run is None and about["told_by"] == "target":
+                yield f"{name}: none of {number}"
+            has_parent = number < len(about["grown"]) and "; " in about["grown"][number]
+            if run and ("parent" in run) != has_parent:
+                yield f"{name}: of {number} {sorted(run)}"
+
+
 def cases_of(document, plans):
     """The suite that a document tells, as nested lists: tag, attributes, text and children."""
     label, counts = document["label"], document["counts"]
@@ -133,11 +147,9 @@ def main():
     wanted = document_of(lines_of(report), plans)
     with open(document, encoding="utf-8") as file:
         read = json.load(file)
-    for line in wrong_about(read, plans):
+    for line in [*wrong_about(read, plans), *wrong_runs(read)]:
         print(line)
-    about = read.pop("about")
-    if (len(about["finding_runs"]), about["told_by"]) not in ((len(wanted["findings"]), "target"), (0, "answers")):
-        print(f"about: {about['told_by']}, with {len(about['finding_runs'])} runs of findings")
+    del read["about"]
     for name in [*wanted, *(name for name in read if name not in wanted)]:
         if wanted.get(name) != read.get(name):
             print(f"{name}: {read.get(name)}, not {wanted.get(name)}")

@@ -1,6 +1,6 @@
 The forms of a report by answers: `report` takes `--json`, `--junit` and `--page` beside `--brief`. The component is a bundled target, and one call of `try`
-gives each answer; so what each form has to say is what `run` writes of that target. Of a JSON document that is all but its last member, `about`: answers
-are told without runs, and the settings and the command are others.
+gives each answer; so what each form has to say is what `run` writes of that target. Of a JSON document that is all but its last member, `about`: the
+settings and the command are others, and of runs that is told what answers tell.
 
   $ cat > late.toml <<'END'
   > target = "replace"
@@ -29,11 +29,14 @@ Parsers of JSON and of XML read in them what the text says. Of six sites the fou
   $ python3 "$TESTDIR/machines.py" outside.report plans told.json told.junit
   19 plans
 
-Answers are verdicts, and don't tell what a run hits: no run is told. The page has the brief report and the document of the same answers.
+These answers don't tell what a run hits: no run is told, and that of the one finding is `null`. The page has the brief report and the document of the same
+answers.
 
   $ sed -n '/"clean_run"/,$p' told.json
       "clean_run": null,
-      "finding_runs": [],
+      "finding_runs": [
+        null
+      ],
       "cause_runs": []
     }
   }

@@ -58,17 +58,17 @@ nothing_to_run a depth t is low agrees told =
 
 as_seen : (form : Form) (outside : Description) (given : Given) (a : Answered) (depth : ℕ) (text : List ℕ) (first : Option ℕ) → depth ≤ 64 → a.points ≡ outside.points
     → IsTextOf form outside given a depth text → IsFirstNumberOf outside given a depth first → AreAllTold (runs_in a) (known_plans a depth)
-    → (t : Subject) → IsComponent a.points a.listed t → AgreesWithRuns t (told_in a.book) → IsReportAsSeen form (campaign outside given depth t) depth (runs_in a) text first
+    → (t : Subject) → IsComponent a.points a.listed t → AgreesWithRuns t (told_in a.book) → IsReportAsSeen form (campaign outside given depth t) (told_in a.book) depth (runs_in a) text first
 as_seen form outside given a depth text first low same is_text is_first told t is agrees =
     let c : Campaign = campaign outside given depth t in
     let own : t ≡ grower c = sym (grower_is outside given a depth t is agrees low same) in
     let done : to_run t depth (runs_in a) ≡ [] = nothing_to_run a depth t is low agrees told in
-    let text_is : text ≡ report_seen_in form c depth (runs_in a) = is_text t is agrees in
+    let text_is : text ≡ report_seen_in form c (told_in a.book) depth (runs_in a) = is_text t is agrees in
     let first_is : first ≡ first_number_seen c depth (runs_in a) = is_first t is agrees in
     record {
       text_is = text_is;
       first_is = first_is;
-      whole = λ none. is_whole c depth (runs_in a) refl (subst (λ (g : Subject). to_run g depth (runs_in a) ≡ []) own done) none form text first text_is first_is;
+      whole = λ none. is_whole c depth (runs_in a) refl (subst (λ (g : Subject). to_run g depth (runs_in a) ≡ []) own done) none form (told_in a.book) text first text_is first_is;
       promises = subst (λ (g : Subject). KeepsPromisesAsSeen g depth (runs_in a)) own (ends_as_seen t is.lawful depth (runs_in a) done);
     }
 

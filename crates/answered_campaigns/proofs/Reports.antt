@@ -1,9 +1,11 @@
 -- What is told of a campaign with a depth, for a component that agrees with the answers.
-use Rattle.std.proofs.Common.{◌≡◌, ◌≤◌, ◌<◌, ◌+◌, ◌&&◌, Bool, length-append, ℕ, zero, suc, List, [], ◌∷◌, Some, Option, length, map, refl, ap, sym, ◌∙◌, subst, arith}
+use Rattle.std.proofs.Common.{◌≡◌, ◌≤◌, ◌<◌, ◌+◌, ◌++◌, ◌&&◌, take, Bool, length-append, ℕ, zero, suc, List, [], ◌∷◌, Some, Option, length, map, refl, ap, sym, ◌∙◌, subst, arith}
 use Rattle.std.specs.Prelude.{option_map, slice_get, slice_index_or}
 use Rattle.std.specs.List.{AllByRecursion, range_with_len}
+use Rattle.std.proofs.lemmas.List.{length-map}
 use Rattle.std.proofs.Math.Path.{fun_ext}
-use Rattle.campaign_plans.specs.GrownScenarios.{grown_scenarios}
+use Rattle.std.proofs.Math.Seq.{take-append_seam}
+use Rattle.campaign_plans.specs.GrownScenarios.{grown_scenario, grown_scenarios}
 use Rattle.scenario_values.specs.Scenario.{Entries, IsScenario, all_faults}
 use Rattle.scenario_values.specs.Keep.{are_faults, kept}
 use Rattle.scenario_values.specs.Tidied.{tidied}
@@ -33,7 +35,7 @@ use Rattle.campaign_given.specs.Given.{Given}
 use Rattle.campaign_core.specs.FaultTest.{fails_with, fault_test}
 use Rattle.campaign_core.specs.Findings.{finding, plan_at, reduction}
 use Rattle.campaign_core.specs.Headline.{Campaign, grower, say}
-use Rattle.outside_campaign.specs.Campaigns.{code_name}
+use Rattle.outside_campaign.specs.Campaigns.{code_name, runs_told}
 use Rattle.outside_campaign.specs.Outside.{EachAgrees, say_each}
 use Rattle.action_eval.specs.declared.rig.Rig.{Rig}
 use Rattle.grown_runs.specs.GrownRuns.{cause_at, over}
@@ -43,8 +45,9 @@ use Rattle.answered_runs.specs.WholeList.{unseen_count}
 use Rattle.answered_runs.specs.declared.whole.Listed.{Listed}
 use Rattle.campaign_core.specs.Findings.{cause_of}
 use Rattle.outside_campaign.specs.Asked.{known_failures}
-use Rattle.report_json.specs.About.{ShownFacts, without_runs}
+use Rattle.report_json.specs.About.{ShownFacts, shown_of}
 use Rattle.report_forms.specs.Forms.{text_in}
+use Rattle.report_forms.specs.Runs.{Telling}
 use Rattle.report_forms.specs.declared.forms.Form.{Form}
 use Rattle.outside_campaign.proofs.ResultLemmas.{failures_are_first}
 use Rattle.outside_grown.specs.Further.{census_seen, clean_hits}
@@ -221,7 +224,7 @@ module _ (outside : Description) (given : Given) (a : Answered) (depth : ℕ) (t
 
   -- what is shown beside the report
   abbrev shown_by : List Entries → List (List Rig) → ShownFacts
-  shown_by list these = without_runs list these given.plans.storms (length given.plans.listed) given.source
+  shown_by list these = shown_of list these given.plans.storms (length given.plans.listed) given.source
 
   pub shown_is : (l : Listed) (list : List Entries) → AreKnown t depth runs l.known → list ≡ plans_seen c depth runs → shown_by list l.known.plans ≡ shown_seen c depth runs
   shown_is l list known e =
@@ -250,8 +253,8 @@ pub text_is : (form : Form) (outside : Description) (given : Given) (a : Answere
         causes = map (cause_of list) told.causes.items;
       });
     }
-    → shown' ≡ without_runs list lists.listed.known.plans given.plans.storms (length given.plans.listed) given.source
-    → text ≡ text_in form outside.points (code_name outside.codes) facts' shown' → IsTextOf form outside given a depth text
+    → shown' ≡ shown_of list lists.listed.known.plans given.plans.storms (length given.plans.listed) given.source
+    → text ≡ text_in form outside.points (code_name outside.codes) (runs_told outside (told_in a.book)) facts' shown' → IsTextOf form outside given a depth text
 text_is form outside given a depth lists list all told counts most facts' shown' text d counted reaches facts_are shown_are is_text t is agrees =
     let c' : Campaign = campaign outside given depth t in
     let whole = d.lists_are.whole t is agrees in
@@ -263,9 +266,19 @@ text_is form outside given a depth lists list all told counts most facts' shown'
     (d.verdicts (say c') family) (d.told_is.findings (say c') family)
     (failures_are_first (known a depth) list (say c') d.lawful family d.none_open)
     (counted.each t is agrees given.plans.seed ∙ census_names outside given a depth t is agrees d.low d.points) growth' in
-    is_text ∙ ap (λ (r : ReportFacts). text_in form outside.points (code_name outside.codes) r shown') (facts_are ∙ report')
-    ∙ ap (λ (s : ShownFacts). text_in form outside.points (code_name outside.codes) (report_seen c' depth (runs_in a)) s)
+    let tell : Telling = runs_told outside (told_in a.book) in
+    is_text ∙ ap (λ (r : ReportFacts). text_in form outside.points (code_name outside.codes) tell r shown') (facts_are ∙ report')
+    ∙ ap (λ (s : ShownFacts). text_in form outside.points (code_name outside.codes) tell (report_seen c' depth (runs_in a)) s)
     (shown_are ∙ shown_is outside given a depth t is agrees d.low d.points lists.listed list whole.grown e)
+
+-- the plans that grew come first
+pub grown_first : (outside : Description) (given : Given) (a : Answered) (depth : ℕ) (lists : GrownLists) (list : List Entries) (all : List Verdict) (told : Told)
+    → IsDecided outside given a depth lists list all told → take (length lists.listed.known.plans) list ≡ grown_scenarios outside.points lists.listed.known.plans
+grown_first outside given a depth lists list all told d =
+    let grew : List (List Rig) = lists.listed.known.plans in
+    ap (take (length grew)) d.plans_are
+    ∙ ap (λ (n : ℕ). take n (grown_scenarios a.points grew ++ lists.further)) (sym (length-map grew (grown_scenario a.points)))
+    ∙ take-append_seam (grown_scenarios a.points grew) lists.further ∙ ap (λ (names : List (List ℕ)). grown_scenarios names grew) d.points
 
 -- the number of the first failure that is told is that of each component's first plan that fails
 pub first_is : (outside : Description) (given : Given) (a : Answered) (depth : ℕ) (lists : GrownLists) (list : List Entries) (all : List Verdict) (told : Told) (first : Option ℕ)

@@ -19,9 +19,11 @@ use Rattle.result_book.specs.FirstFailures.{first_failures}
 use Rattle.report.specs.Reports.{CauseFacts, GrowthFacts, ReportFacts}
 use Rattle.campaign_core.specs.Findings.{cause_of, growth_of, report_of}
 use Rattle.campaign_core.specs.Headline.{Campaign, census, grower, grown_to, growth, plans, plans_to, report, say}
-use Rattle.report_json.specs.About.{ShownFacts, without_runs}
+use Rattle.answer_text.specs.Runs.{KnownRuns as ToldRuns}
+use Rattle.report_json.specs.About.{ShownFacts, shown_of}
 use Rattle.report_forms.specs.Forms.{text_in}
 use Rattle.report_forms.specs.declared.forms.Form.{Form}
+use Rattle.outside_campaign.specs.Telling.{telling}
 use Rattle.outside_grown.specs.Further.{census_seen}
 use Rattle.outside_grown.specs.Reached.{reached_seen}
 use Rattle.outside_grown.proofs.Most.{reached_whole}
@@ -100,7 +102,7 @@ module _ (c : Campaign) (depth : ℕ) (known : KnownRuns) (at : c.given.depth �
       ∙ ap (λ (l : List Entries). report_of (say c) c.label c.given.plans.seed (census c) l (growth c)) plans_whole
 
   abbrev shown_by : List Entries → List (List Rig) → ShownFacts
-  shown_by list these = without_runs list these c.given.plans.storms (length c.given.plans.listed) c.given.source
+  shown_by list these = shown_of list these c.given.plans.storms (length c.given.plans.listed) c.given.source
 
   shown_whole : shown_seen c depth known ≡ shown c
   shown_whole =
@@ -108,13 +110,14 @@ module _ (c : Campaign) (depth : ℕ) (known : KnownRuns) (at : c.given.depth �
       ∙ ap (shown_by (plans c)) whole.list
       ∙ ap (λ (o : Option ℕ). shown_by (plans c) (grown_to c o)) (sym at)
 
-  pub report_in_whole : (form : Form) → report_seen_in form c depth known ≡ report_in form c
-  report_in_whole form =
-      ap (λ (r : ReportFacts). text_in form c.points c.codes r (shown_seen c depth known)) report_whole
-      ∙ ap (text_in form c.points c.codes (report c)) shown_whole
+  pub report_in_whole : (form : Form) (told : ToldRuns) → report_seen_in form c told depth known ≡ report_in form c told
+  report_in_whole form told =
+      ap (λ (r : ReportFacts). text_in form c.points c.codes (telling c.points c.codes told) r (shown_seen c depth known)) report_whole
+      ∙ ap (text_in form c.points c.codes (telling c.points c.codes told) (report c)) shown_whole
 
   pub first_whole : first_number_seen c depth known ≡ first_number c
   first_whole = ap (λ (l : List Entries). option_map (λ (first : ℕ × ℕ). first.0) (slice_get (first_failures (numbered (verdicts_from (say c) 0 l))) 0)) plans_whole
 
-  pub is_whole : (form : Form) (text : List ℕ) (first : Option ℕ) → text ≡ report_seen_in form c depth known → first ≡ first_number_seen c depth known → IsReportOf form c text first
-  is_whole form text first text_is first_is = record { text_is = text_is ∙ report_in_whole form; first_is = first_is ∙ first_whole }
+  pub is_whole : (form : Form) (told : ToldRuns) (text : List ℕ) (first : Option ℕ) → text ≡ report_seen_in form c told depth known → first ≡ first_number_seen c depth known
+      → IsReportOf form c told text first
+  is_whole form told text first text_is first_is = record { text_is = text_is ∙ report_in_whole form told; first_is = first_is ∙ first_whole }

@@ -6,7 +6,7 @@ use Rattle.plan_gen.specs.PlanList.{Asked}
 use Rattle.campaign_plans.specs.GrownScenarios.{grown_scenarios}
 use Rattle.grown_plans.specs.GrownPlans.{Subject}
 use Rattle.answer_text.specs.Known.{KnownVerdicts}
-use Rattle.answer_text.specs.Runs.{known_runs, told_in}
+use Rattle.answer_text.specs.Runs.{KnownRuns, known_runs, told_in}
 use Rattle.answered_runs.specs.Answered.{Answered, known_plans}
 use Rattle.answered_runs.specs.Components.{AgreesWithRuns, IsComponent}
 use Rattle.answered_runs.specs.Verdicts.{verdict_by}
@@ -15,7 +15,8 @@ use Rattle.campaign_given.specs.Given.{Given}
 use Rattle.campaign_core.specs.Headline.{Campaign, first_failure, grown_to, plans, report}
 use Rattle.outside_campaign.specs.Asked.{known_failures, open_requests}
 use Rattle.outside_campaign.specs.Campaigns.{code_name}
-use Rattle.report_json.specs.About.{ShownFacts, without_runs}
+use Rattle.outside_campaign.specs.Telling.{telling}
+use Rattle.report_json.specs.About.{ShownFacts, shown_of}
 use Rattle.report_forms.specs.Forms.{text_in}
 use Rattle.report_forms.specs.declared.forms.Form.{Form}
 use Rattle.outside_grown.specs.Asked.{to_try}
@@ -50,10 +51,11 @@ campaign outside given depth t = record {
 
 -- what is shown of it beside its report
 abbrev pub shown : Campaign → ShownFacts
-shown c = without_runs (plans c) (grown_to c c.given.depth) c.given.plans.storms (length c.given.plans.listed) c.given.source
+shown c = shown_of (plans c) (grown_to c c.given.depth) c.given.plans.storms (length c.given.plans.listed) c.given.source
 
-abbrev pub report_in : Form → Campaign → List ℕ
-report_in form c = text_in form c.points c.codes (report c) (shown c)
+-- with the runs that are told
+abbrev pub report_in : Form → Campaign → KnownRuns → List ℕ
+report_in form c told = text_in form c.points c.codes (telling c.points c.codes told) (report c) (shown c)
 
 -- the least number of a plan that fails
 abbrev pub first_number : Campaign → Option ℕ

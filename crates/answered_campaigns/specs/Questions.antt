@@ -73,7 +73,7 @@ pub record IsReportedText (form : Form) (outside : Description) (given : Given) 
   pub unbroken : AreUnbroken runs depth
   pub all : grown.untried runs depth given.plans ≡ []
   pub each : (t : Subject) → grown.AgreesWithAnswers outside answers t
-      → IsReportAsSeen form (grown.campaign outside given depth t) depth (runs_in runs) text first
+      → IsReportAsSeen form (grown.campaign outside given depth t) (told_in runs.book) depth (runs_in runs) text first
 
 -- why such a question is refused, by what the answers tell: a run breaks; something is still to be tried, this among it; or too many plans are known
 abbrev pub RefusesBy : Answered → ℕ → Asked → QuestionFault → Type 0

@@ -9,12 +9,14 @@ use Rattle.known_runs.specs.KnownPart.{is_reached_onward, known_part}
 use Rattle.known_runs.specs.KnownPlans.{level_size}
 use Rattle.known_runs.specs.SeenPromises.{KeepsPromisesAsSeen}
 use Rattle.known_runs.specs.Unseen.{unseen}
+use Rattle.answer_text.specs.Runs.{KnownRuns as ToldRuns}
+use Rattle.outside_campaign.specs.Telling.{telling}
 use Rattle.result_book.specs.Verdicts.{numbered, verdicts_from}
 use Rattle.result_book.specs.FirstFailures.{first_failures}
 use Rattle.report.specs.Reports.{GrowthFacts, ReportFacts}
 use Rattle.campaign_core.specs.Findings.{cause_of, report_of}
 use Rattle.campaign_core.specs.Headline.{Campaign, grower, say}
-use Rattle.report_json.specs.About.{ShownFacts, without_runs}
+use Rattle.report_json.specs.About.{ShownFacts, shown_of}
 use Rattle.report_forms.specs.Forms.{text_in}
 use Rattle.report_forms.specs.declared.forms.Form.{Form}
 use Rattle.outside_grown.specs.Further.{census_seen}
@@ -51,23 +53,25 @@ report_seen c depth known =
 -- what is shown beside it
 abbrev pub shown_seen : Campaign → ℕ → KnownRuns → ShownFacts
 shown_seen c depth known =
-    without_runs (plans_seen c depth known) (known_part (grower c) depth known) c.given.plans.storms (length c.given.plans.listed) c.given.source
+    shown_of (plans_seen c depth known) (known_part (grower c) depth known) c.given.plans.storms (length c.given.plans.listed) c.given.source
 
-abbrev pub report_seen_in : Form → Campaign → ℕ → KnownRuns → List ℕ
-report_seen_in form c depth known = text_in form c.points c.codes (report_seen c depth known) (shown_seen c depth known)
+-- with the runs that are told
+abbrev pub report_seen_in : Form → Campaign → ToldRuns → ℕ → KnownRuns → List ℕ
+report_seen_in form c told depth known =
+    text_in form c.points c.codes (telling c.points c.codes told) (report_seen c depth known) (shown_seen c depth known)
 
 -- the least number of a plan that fails
 abbrev pub first_number_seen : Campaign → ℕ → KnownRuns → Option ℕ
 first_number_seen c depth known = option_map (λ first. first.0) (slice_get (first_failures (numbered (verdicts_from (say c) 0 (plans_seen c depth known)))) 0)
 
 -- where nothing is unseen, a text and a number are those of the whole campaign
-pub record IsReportOf (form : Form) (c : Campaign) (text : List ℕ) (first : Option ℕ) : Type 0 where
-  pub text_is : text ≡ report_in form c
+pub record IsReportOf (form : Form) (c : Campaign) (told : ToldRuns) (text : List ℕ) (first : Option ℕ) : Type 0 where
+  pub text_is : text ≡ report_in form c told
   pub first_is : first ≡ first_number c
 
 -- a text and the number of the first plan that fails are those of a campaign as far as it was seen, whose plans keep their promises so far
-pub record IsReportAsSeen (form : Form) (c : Campaign) (depth : ℕ) (known : KnownRuns) (text : List ℕ) (first : Option ℕ) : Type 0 where
-  pub text_is : text ≡ report_seen_in form c depth known
+pub record IsReportAsSeen (form : Form) (c : Campaign) (told : ToldRuns) (depth : ℕ) (known : KnownRuns) (text : List ℕ) (first : Option ℕ) : Type 0 where
+  pub text_is : text ≡ report_seen_in form c told depth known
   pub first_is : first ≡ first_number_seen c depth known
-  pub whole : unseen (grower c) depth known ≡ [] → IsReportOf form c text first
+  pub whole : unseen (grower c) depth known ≡ [] → IsReportOf form c told text first
   pub promises : KeepsPromisesAsSeen (grower c) depth known

@@ -13,7 +13,7 @@ use answer_text::{AnswersFault, Hits, Runs, ToldRun, read, read_runs};
 use campaign_given::Outside;
 use outside_campaign::{OutsideCampaign, OutsideFault, Words, borrowed};
 use report::write_report;
-use run_explained::explain_answer;
+use run_explained::{RunByAnswer, explain_answer};
 use scenario_grammar::{ScenarioFault, parse};
 use scenario_values::{Scenario, build, tidy};
 use std::alloc::{AllocError, Global};
@@ -63,15 +63,14 @@ fn run_text(
     let hits = points_of(alloc, hits)?;
     let points = borrowed(alloc, outside.points.as_slice())?;
     let words = Words { outside: &*outside };
-    let text = explain_answer(
-        alloc,
-        &words,
-        points.as_slice(),
+    let verdict = run.verdict;
+    let run = RunByAnswer {
         scenario,
-        run.verdict,
-        hits.as_slice(),
-    )?;
-    Ok((text, is_fail(run.verdict)))
+        verdict,
+        hits: hits.as_slice(),
+    };
+    let text = explain_answer(alloc, &words, points.as_slice(), &run)?;
+    Ok((text, is_fail(verdict)))
 }
 
 /// What a text of answers tells; with a depth each line has to tell hits.

@@ -5,7 +5,7 @@ ghost use Rattle.scenario_values.specs.Scenario.{IsScenario};
 ghost use Rattle.target_trait.specs.declared.judgement.Verdict.TheVariants.{Unresolved};
 ghost use Rattle.answered_runs.specs.Answered.{known_plans, runs_in};
 ghost use Rattle.answered_runs.specs.WholeList.{AreAllTold};
-ghost use Rattle.report_json.specs.About.{without_runs};
+ghost use Rattle.report_json.specs.About.{shown_of};
 ghost use Rattle.outside_campaign.specs.Asked.{open_plans};
 ghost use Rattle.outside_campaign.specs.Told.{AreVerdicts};
 ghost use Rattle.outside_grown.specs.Further.{HasFewHits};
@@ -18,6 +18,7 @@ use crate::candidates::{Outcome, Told, outcome_known};
 use crate::fault::QuestionFault;
 use crate::grown::{refuse_broken, refuse_gap};
 use crate::table::KnownByRuns;
+use crate::teller::RunsTeller;
 use campaign_core::causes_of;
 use campaign_plans::CampaignPlans;
 use grown_plans::GrownPlans;
@@ -97,9 +98,9 @@ fn shown_of<'a>(
     listed: usize,
     settings: &'a str,
 ) -> Shown<'a>
-    ensures { result ≡ without_runs plans.entry.now grown.entry.now storms listed settings.entry.now }
+    ensures { result ≡ shown_of plans.entry.now grown.entry.now storms listed settings.entry.now }
 {
-    Shown::without_runs(plans, Some(grown), storms, listed, settings)
+    Shown::new(plans, Some(grown), storms, listed, settings)
 }
 
 /// The text of the report in a form.
@@ -149,7 +150,11 @@ fn reported_text<'a>(
     let listed = settings.scenarios.len();
     let source = settings.source.as_str();
     let shown = shown_of(answered.plans, &grown.plans, storms, listed, source);
-    text_in(alloc, form, &words, &report, &shown)
+    let teller = RunsTeller {
+        outside,
+        runs: known.runs,
+    };
+    text_in(alloc, form, &words, &teller, &report, &shown)
 }
 
 /// The text of the report in a form, and the number of the first plan that fails.

@@ -1,6 +1,5 @@
 pub mod Minimal
 pub mod Firsts
-mod ShownRuns
 mod ToldRuns
 pub mod PlanNames
 pub mod Gathered

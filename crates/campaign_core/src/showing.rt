@@ -1,9 +1,7 @@
 //! A campaign's report in each of its forms.
-ghost use Rattle.std.specs.Prelude.{◌≡◌, ◌++◌, [], length, map, option_copied, option_map, string_bytes, take, IfOk, OnOk};
+ghost use Rattle.std.specs.Prelude.{◌≡◌, ◌++◌, option_copied, option_map, string_bytes, IfOk, OnOk};
 ghost use Rattle.campaign_core.specs.Headline.{campaign_in, EachIsMinimal};
-ghost use Rattle.campaign_core.specs.Forms.{all_runs, bool_text, cause_runs, depth_text, limits_text, listing_text, most_causes, report_in, runs_in, settings_text, text_or};
-ghost use Rattle.campaign_core.specs.Forms.{run_of_cause, run_of_finding, run_under};
-ghost use Rattle.campaign_core.specs.Headline.{report as reported};
+ghost use Rattle.campaign_core.specs.Forms.{bool_text, depth_text, limits_text, listing_text, report_in, settings_text, text_or};
 ghost use Rattle.campaign_core.specs.inside.Results.{IsRan};
 
 use crate::planned::{Planned, plans_of};
@@ -11,25 +9,16 @@ use crate::ran::Ran;
 use crate::reporting::report_of;
 use crate::subject::{Host, Subject};
 use grown_plans::GrownPlans;
-use indexmap::IndexMap;
-use report::{Cause, Finding, Growth, Report};
-use report_forms::{Form, text_in};
+use report_forms::{Form, MOST_HITS_SHOWN, Teller, text_in};
 use report_json::Shown;
 use run_explained::{ToldRun, tell};
 use scenario_values::Scenario;
 use std::alloc::{AllocError, Global};
 use std::fmt::Write;
-use std::marker::Model;
 use std::sync::Wait;
 use std::thread::Threads;
 use target_trait::Target;
 use work_gate::Gate;
-
-/// How many hits of a run are told at most.
-const MOST_HITS: usize = 1000;
-
-/// How many causes are told with their runs at most.
-const MOST_CAUSES: usize = 100;
 
 fn bool_text(value: bool) -> &'static str
     ensures { result.now ≡ bool_text value }
@@ -109,138 +98,24 @@ fn shown_settings<T: Target>(alloc: Global, subject: &Subject<'_, T>) -> Result<
     }
 }
 
-/// The run of a scenario under a stream number, on a twin of the target.
-fn run_of<T: Target>(
-    alloc: Global,
-    subject: &Subject<'_, T>,
-    twin: &mut T,
-    number: u32,
-    scenario: &Scenario,
-) -> Result<ToldRun, AllocError>
-    requires { twin.old ≡ subject.now.target.now }
-    ensures run { IfOk result (λ run. run ≡ run_under (campaign_in T.Target subject.now) number scenario.now) }
-    ensures setup { twin.new ≡ twin.old }
-{
-    let case = subject.settings.case(scenario, u64::from(number));
-    tell(alloc, twin, subject.workload, &case, MOST_HITS)
-}
+/// Each run is one of a twin of the target.
+impl<'a, T: Target> Teller for Subject<'a, T> {
+    ghost use Rattle.campaign_core.specs.Forms.{telling};
+    ghost use Rattle.campaign_core.specs.Headline.{campaign_in};
 
-/// The run without faults.
-fn clean_run<T: Target>(alloc: Global, subject: &Subject<'_, T>) -> Result<ToldRun, AllocError>
-    ensures { IfOk result (λ run. run ≡ run_under (campaign_in T.Target subject.now) 0 []) }
-{
-    let mut twin = subject.target.twin()?;
-    let none = Scenario::from_entries(IndexMap::new(alloc));
-    run_of(alloc, subject, &mut twin, 0, &none)
-}
+    ghost told_runs = { λ subject. telling (campaign_in T.Target subject) };
 
-/// The run of what each first failure was reduced to.
-fn finding_runs<T: Target>(
-    alloc: Global,
-    subject: &Subject<'_, T>,
-    findings: &[Finding],
-) -> Result<Vec<ToldRun>, AllocError>
-    ensures { IfOk result (λ runs. runs.items ≡ map (run_of_finding (campaign_in T.Target subject.now)) findings.now) }
-{
-    let mut twin = subject.target.twin()?;
-    let mut runs = Vec::with_capacity(alloc, findings.len())?;
-    for finding in findings {
-        let run = run_of(alloc, subject, &mut twin, finding.number, &finding.reduced)?;
-        runs.push(run)?;
-    }
-    Ok(runs)
-}
-
-fn each_cause_run<T: Target>(
-    alloc: Global,
-    subject: &Subject<'_, T>,
-    causes: &[Cause],
-) -> Result<Vec<ToldRun>, AllocError>
-    ensures { IfOk result (λ runs. runs.items ≡ map (run_of_cause (campaign_in T.Target subject.now)) causes.now) }
-{
-    let mut twin = subject.target.twin()?;
-    let mut runs = Vec::with_capacity(alloc, causes.len())?;
-    for cause in causes {
-        let run = run_of(alloc, subject, &mut twin, cause.number, &cause.scenario)?;
-        runs.push(run)?;
-    }
-    Ok(runs)
-}
-
-/// The causes that are told with their runs.
-fn first_causes(causes: &[Cause]) -> &[Cause]
-    ensures { result.now ≡ take most_causes causes.now }
-{
-    if causes.len() <= MOST_CAUSES {
-        return causes;
-    }
-    &causes[..MOST_CAUSES]
-}
-
-/// The runs of the causes of a campaign that grew, of as many as are told.
-fn cause_runs<T: Target>(
-    alloc: Global,
-    subject: &Subject<'_, T>,
-    growth: &Option<Growth<'_>>,
-) -> Result<Vec<ToldRun>, AllocError>
-    ensures { IfOk result (λ runs. runs.items ≡ cause_runs (campaign_in T.Target subject.now) growth.now) }
-{
-    match growth {
-        None => Ok(Vec::new(alloc)),
-        Some(growth) => each_cause_run(alloc, subject, first_causes(&growth.causes)),
-    }
-}
-
-/// The runs that a form of a report shows.
-#[derive(Drop)]
-struct Runs {
-    clean: Option<ToldRun>,
-    findings: Vec<ToldRun>,
-    causes: Vec<ToldRun>,
-}
-
-impl Model for Runs {
-    ghost use Rattle.campaign_core.specs.Forms.{RunsShown};
-
-    ghost Value = { RunsShown };
-
-    ghost view = { λ r. record { clean = r.clean; findings = r.findings.items; causes = r.causes.items } };
-}
-
-fn all_runs<T: Target>(
-    alloc: Global,
-    subject: &Subject<'_, T>,
-    report: &Report<'_>,
-) -> Result<Runs, AllocError>
-    requires { report.now ≡ reported (campaign_in T.Target subject.now) }
-    ensures { IfOk result (λ runs. runs ≡ all_runs (campaign_in T.Target subject.now)) }
-{
-    let clean = clean_run(alloc, subject)?;
-    let findings = finding_runs(alloc, subject, &report.findings)?;
-    let causes = cause_runs(alloc, subject, &report.growth)?;
-    Ok(Runs {
-        clean: Some(clean),
-        findings,
-        causes,
-    })
-}
-
-fn runs_in<T: Target>(
-    alloc: Global,
-    subject: &Subject<'_, T>,
-    form: &Form<'_>,
-    report: &Report<'_>,
-) -> Result<Runs, AllocError>
-    requires { report.now ≡ reported (campaign_in T.Target subject.now) }
-    ensures { IfOk result (λ runs. runs ≡ runs_in form.now (campaign_in T.Target subject.now)) }
-{
-    match form {
-        Form::Json(_) | Form::Page(_) => all_runs(alloc, subject, report),
-        Form::Whole | Form::Brief | Form::Junit => Ok(Runs {
-            clean: None,
-            findings: Vec::new(alloc),
-            causes: Vec::new(alloc),
-        }),
+    fn tell(
+        &self,
+        alloc: Global,
+        number: u32,
+        scenario: &Scenario,
+    ) -> Result<Option<ToldRun>, AllocError> {
+        let mut twin = self.target.twin()?;
+        let settings = self.settings;
+        let case = settings.case(scenario, u64::from(number));
+        let run = tell(alloc, &mut twin, self.workload, &case, MOST_HITS_SHOWN)?;
+        Ok(Some(run))
     }
 }
 
@@ -270,7 +145,6 @@ where
     let alloc = host.alloc;
     let report = report_of(host, subject, ran)?;
     let plans = plans_of(subject, &ran.planned);
-    let runs = runs_in(alloc, subject, form, &report)?;
     let settings = subject.settings;
     let source = shown_settings(alloc, subject)?;
     let shown = Shown {
@@ -279,9 +153,6 @@ where
         storms: settings.storms as usize,
         listed: settings.scenarios.len(),
         settings: source.as_str(),
-        clean_run: runs.clean.as_ref(),
-        finding_runs: runs.findings.as_slice(),
-        cause_runs: runs.causes.as_slice(),
     };
-    text_in(alloc, form, subject.target, &report, &shown)
+    text_in(alloc, form, subject.target, subject, &report, &shown)
 }

@@ -6,7 +6,7 @@ use campaign_plans::CampaignPlans;
 use file_replace::Replace;
 use plan_gen::{Census, PlanList, PlanSettings, further_plans};
 use report::{Cause, Finding, Names, Report, brief_text};
-use report_json::{Notes, Shown, json_text};
+use report_json::{Notes, Runs, Shown, json_text};
 use report_junit::junit_text;
 use scenario_grammar::parse;
 use scenario_values::Scenario;
@@ -118,8 +118,13 @@ pub fn json_of<N: Names>(
         told_by: "answers",
         command: "a command",
     };
-    let shown = Shown::without_runs(&judged, None, 1, 1, "a = \"b\"\n");
-    Ok(json_text(alloc, names, report, &notes, &shown)?)
+    let shown = Shown::new(&judged, None, 1, 1, "a = \"b\"\n");
+    let runs = Runs {
+        clean: None,
+        findings: Vec::new(alloc),
+        causes: Vec::new(alloc),
+    };
+    Ok(json_text(alloc, names, report, &notes, &shown, &runs)?)
 }
 
 /// The brief text of a report, where there is a verdict for each plan.

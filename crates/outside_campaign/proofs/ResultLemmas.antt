@@ -26,7 +26,7 @@ use Rattle.campaign_given.specs.Given.{Given}
 use Rattle.campaign_core.specs.Findings.{finding}
 use Rattle.outside_campaign.specs.Outside.{Component, Components, say, say_each, EachAgrees}
 use Rattle.outside_campaign.specs.Asked.{open_plans, open_requests, plan_verdicts, known_failures}
-use Rattle.outside_campaign.specs.Campaigns.{plans as plans_of, code_name, report as report_by, report_in, shown, asks_text, first_failure, unmet_by, untried, untried_by, KnownTextFault}
+use Rattle.outside_campaign.specs.Campaigns.{plans as plans_of, code_name, report as report_by, report_in, runs_told, shown, asks_text, first_failure, unmet_by, untried, untried_by, KnownTextFault}
 use Rattle.report_forms.specs.Forms.{text_in}
 use Rattle.outside_campaign.specs.Readable.{IsReadable, told_by}
 use Rattle.outside_campaign.specs.Unmet.{unmet_count}
@@ -142,12 +142,14 @@ known_cut text outside settings answers old new failed bytes n (Err f) is whole 
     subst P (sym is) (subst Q whole (wrote, less), bad, few)
 
 -- what is told is the report of each component that agrees
-pub reported_is : (form : Form) (outside : Description) (settings : Given) (answers : List ℕ) (known : KnownVerdicts) (plans : List Entries) (verdicts : List Verdict) (findings : List FindingFacts) (report : ReportFacts) (bytes : List ℕ)
+pub reported_is : (form : Form) (outside : Description) (settings : Given) (answers : List ℕ) (known : KnownVerdicts) (plans : List Entries) (verdicts : List Verdict) (findings : List FindingFacts) (report : ReportFacts) (told : KnownRuns) (bytes : List ℕ)
     → known ≡ known_by outside.codes outside.points answers → plans ≡ plans_of outside settings → ((components : Components) → EachAgrees components known → AreOf components plans verdicts findings)
-    → report ≡ facts_of outside settings.plans.seed verdicts (unmet_by outside settings answers) findings → bytes ≡ text_in form outside.points (code_name outside.codes) report (shown outside settings)
+    → report ≡ facts_of outside settings.plans.seed verdicts (unmet_by outside settings answers) findings → told ≡ told_by outside answers
+    → bytes ≡ text_in form outside.points (code_name outside.codes) (runs_told outside told) report (shown outside settings)
     → (component : Component) → AgreesWithText outside.codes outside.points answers component → bytes ≡ report_in form outside settings answers component
-reported_is form outside settings answers known plans verdicts findings report bytes k p own r b component agrees =
-    b ∙ ap (λ (facts : ReportFacts). text_in form outside.points (code_name outside.codes) facts (shown outside settings))
+reported_is form outside settings answers known plans verdicts findings report told bytes k p own r same b component agrees =
+    b ∙ ap (λ (runs : KnownRuns). text_in form outside.points (code_name outside.codes) (runs_told outside runs) report (shown outside settings)) same
+    ∙ ap (λ (facts : ReportFacts). text_in form outside.points (code_name outside.codes) (runs_told outside (told_by outside answers)) facts (shown outside settings))
     (r ∙ report_is outside settings answers component plans verdicts findings p (own (each component) (λ stream. agrees_with_known outside answers known component k agrees)))
 
 pub first_told : (outside : Description) (settings : Given) (answers : List ℕ) (known : KnownVerdicts) (plans : List Entries) (verdicts : List Verdict) (findings : List FindingFacts) (first : Option ℕ)

@@ -12,6 +12,7 @@ use Rattle.asked_lines.specs.Lines.{lines_for}
 use Rattle.asked_lines.specs.Parts.{part_text}
 use Rattle.asked_lines.specs.declared.parts.AskedPart.{AskedPart}
 use Rattle.answer_text.specs.Known.{KnownVerdicts, known_by, AgreesWithText}
+use Rattle.answer_text.specs.Runs.{KnownRuns}
 use Rattle.campaign_given.specs.Description.{Description}
 use Rattle.campaign_given.specs.Given.{Given}
 use Rattle.campaign_core.specs.CommandTexts.{plan_lines}
@@ -20,9 +21,11 @@ use Rattle.campaign_core.specs.declared.ending.CampaignFault.{CampaignFault}
 use Rattle.campaign_core.specs.declared.ending.CampaignFault.TheVariants as campaign
 use Rattle.outside_campaign.specs.Outside.{Component, say}
 use Rattle.outside_campaign.specs.Asked.{to_try, known_failures}
-use Rattle.report_json.specs.About.{ShownFacts, without_runs}
+use Rattle.report_json.specs.About.{ShownFacts, shown_of}
 use Rattle.report_forms.specs.Forms.{text_in}
+use Rattle.report_forms.specs.Runs.{Telling}
 use Rattle.outside_campaign.specs.Readable.{IsUnreadable, told_by}
+use Rattle.outside_campaign.specs.Telling.{telling}
 use Rattle.outside_campaign.specs.Unmet.{unmet_count}
 use Rattle.report_forms.specs.declared.forms.Form.{Form}
 use Rattle.outside_campaign.specs.declared.refusal.OutsideFault.{OutsideFault}
@@ -48,14 +51,19 @@ abbrev pub report : Description → Given → List ℕ → Component → ReportF
 report outside given answers component =
     record (report_of (say component) outside.label given.plans.seed outside.hits (plans outside given) None) { unmet = unmet_by outside given answers }
 
--- what is shown beside it: none of the plans grew, and no run is told
+-- what is shown beside it: none of the plans grew
 abbrev pub shown : Description → Given → ShownFacts
-shown outside given = without_runs (plans outside given) [] given.plans.storms (length given.plans.listed) given.source
+shown outside given = shown_of (plans outside given) [] given.plans.storms (length given.plans.listed) given.source
+
+-- the runs that answers tell
+abbrev pub runs_told : Description → KnownRuns → Telling
+runs_told outside known = telling outside.points (code_name outside.codes) known
 
 -- the text of the report in a form
 abbrev pub report_in : Form → Description → Given → List ℕ → Component → List ℕ
 report_in form outside given answers component =
-    text_in form outside.points (code_name outside.codes) (report outside given answers component) (shown outside given)
+    text_in form outside.points (code_name outside.codes) (runs_told outside (told_by outside answers)) (report outside given answers component)
+    (shown outside given)
 
 -- the least number of a plan that fails
 abbrev pub first_failure : Description → Given → Component → Option ℕ

@@ -2,6 +2,7 @@ pub mod Outside
 pub mod Reached
 pub mod Asked
 pub mod Readable
+pub mod Telling
 pub mod Unmet
 pub mod Campaigns
 pub mod Partial

@@ -54,7 +54,7 @@ fn reported(
             let first = first_number(&findings);
             let unmet = count_unmet(alloc, &known, points.as_slice(), &plans)?;
             let report = report_of(outside, settings.seed, verdicts.as_slice(), unmet, findings);
-            let text = reported_text(alloc, form, campaign, &report, &plans)?;
+            let text = reported_text(alloc, form, campaign, &known, &report, &plans)?;
             Ok((text, first))
         }
     }

@@ -1,12 +1,15 @@
 //! What a report tells, by the words of the settings.
 ghost use Rattle.std.specs.Prelude.{◌≡◌, ◌<◌, [], None, length, IfOk, option_map, slice_get};
 ghost use Rattle.campaign_given.specs.Description.{IsDescription};
-ghost use Rattle.outside_campaign.specs.Campaigns.{code_name, plans as listed, shown};
-ghost use Rattle.report_json.specs.About.{without_runs};
+ghost use Rattle.answer_text.specs.Runs.{told_in};
+ghost use Rattle.outside_campaign.specs.Campaigns.{code_name, plans as listed, runs_told, shown};
+ghost use Rattle.report_json.specs.About.{shown_of};
 ghost use Rattle.report_forms.specs.Forms.{text_in};
 ghost use Rattle.outside_campaign.specs.inside.Results.{facts_of};
 
 use crate::campaign::OutsideCampaign;
+use crate::teller::AnswerTeller;
+use answer_text::Runs;
 use campaign_given::Outside;
 use campaign_plans::CampaignPlans;
 use report::{Finding, Names, Report};
@@ -73,16 +76,17 @@ fn shown_of<'a>(
     listed: usize,
     settings: &'a str,
 ) -> Shown<'a>
-    ensures { result ≡ without_runs plans.entry.now [] storms listed settings.entry.now }
+    ensures { result ≡ shown_of plans.entry.now [] storms listed settings.entry.now }
 {
-    Shown::without_runs(plans, None, storms, listed, settings)
+    Shown::new(plans, None, storms, listed, settings)
 }
 
-/// The text of a report on the plans of these settings. An error means that memory was refused.
+/// The text of a report on the plans of these settings, with the runs that are known. An error means that memory was refused.
 pub fn reported_text(
     alloc: Global,
     form: &Form<'_>,
     campaign: &OutsideCampaign<'_>,
+    known: &Runs,
     report: &Report<'_>,
     plans: &CampaignPlans<'_>,
 ) -> Result<Vec<u8>, AllocError>
@@ -92,7 +96,7 @@ pub fn reported_text(
     requires growth { report.now.growth ≡ None }
     requires each { length report.now.verdicts ≡ length plans.now }
     ensures { IfOk result (λ text. text.items ≡ text_in form.now campaign.now.outside.now.points (code_name campaign.now.outside.now.codes)
-        report.now (shown campaign.now.outside.now campaign.now.settings.now)) }
+        (runs_told campaign.now.outside.now (told_in known.now)) report.now (shown campaign.now.outside.now campaign.now.settings.now)) }
 {
     let outside = campaign.outside;
     let settings = campaign.settings;
@@ -100,7 +104,11 @@ pub fn reported_text(
     let storms = settings.storms as usize;
     let listed = settings.scenarios.len();
     let shown = shown_of(&*plans, storms, listed, settings.source.as_str());
-    text_in(alloc, form, &words, report, &shown)
+    let teller = AnswerTeller {
+        outside: &*outside,
+        known: &*known,
+    };
+    text_in(alloc, form, &words, &teller, report, &shown)
 }
 
 /// The number of the first of these findings.

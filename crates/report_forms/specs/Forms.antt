@@ -8,6 +8,7 @@ use Rattle.report_json.specs.Document.{document_of}
 use Rattle.report_json.specs.Document.{text_of as json_of}
 use Rattle.report_junit.specs.Junit.{document_text}
 use Rattle.report_page.specs.Page.{page_text}
+use Rattle.report_forms.specs.Runs.{Telling, runs_shown}
 use Rattle.report_forms.specs.declared.forms.Form.{Form}
 use Rattle.report_forms.specs.declared.forms.Form.TheVariants.{Whole, Brief, Json, Junit, Page}
 
@@ -15,14 +16,14 @@ use Rattle.report_forms.specs.declared.forms.Form.TheVariants.{Whole, Brief, Jso
 abbrev pub brief_of : List (List ℕ) → (ℕ → List ℕ) → ReportFacts → ShownFacts → List ℕ
 brief_of points codes report shown = text_of (brief_lines points codes report shown.plans)
 
-abbrev pub document_in : List (List ℕ) → (ℕ → List ℕ) → ReportFacts → NotesFacts → ShownFacts → List ℕ
-document_in points codes report notes shown = json_of (document_of points codes report notes shown)
+abbrev pub document_in : List (List ℕ) → (ℕ → List ℕ) → Telling → ReportFacts → NotesFacts → ShownFacts → List ℕ
+document_in points codes tell report notes shown = json_of (document_of points codes report notes shown (runs_shown points tell report shown.grown))
 
--- the text of a report in a form, by the names of points and codes, with what is shown beside it. The page has the document in it that the report is as
--- JSON, and the brief report.
-abbrev pub text_in : Form → List (List ℕ) → (ℕ → List ℕ) → ReportFacts → ShownFacts → List ℕ
-text_in Whole points codes report shown = text_of (report_lines points codes report)
-text_in Brief points codes report shown = brief_of points codes report shown
-text_in (Json notes) points codes report shown = document_in points codes report notes shown
-text_in Junit points codes report shown = document_text codes report shown.plans
-text_in (Page notes) points codes report shown = page_text (brief_of points codes report shown) (document_in points codes report notes shown)
+-- the text of a report in a form, by the names of points and codes, by what is told of runs, and with what is shown beside it. The page has the document
+-- in it that the report is as JSON, and the brief report.
+abbrev pub text_in : Form → List (List ℕ) → (ℕ → List ℕ) → Telling → ReportFacts → ShownFacts → List ℕ
+text_in Whole points codes tell report shown = text_of (report_lines points codes report)
+text_in Brief points codes tell report shown = brief_of points codes report shown
+text_in (Json notes) points codes tell report shown = document_in points codes tell report notes shown
+text_in Junit points codes tell report shown = document_text codes report shown.plans
+text_in (Page notes) points codes tell report shown = page_text (brief_of points codes report shown) (document_in points codes tell report notes shown)

@@ -2,5 +2,7 @@
 #![tactic(auto)]
 
 mod forms;
+mod runs;
 
 pub use forms::{Form, text_in};
+pub use runs::{MOST_HITS_SHOWN, Teller};

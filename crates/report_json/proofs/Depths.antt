@@ -13,7 +13,9 @@ use Rattle.target_trait.specs.declared.judgement.Verdict.{Verdict}
 use Rattle.target_trait.specs.declared.judgement.Verdict.TheVariants as verdict
 use Rattle.report.specs.Reports.{GrowthFacts, ReportFacts}
 use Rattle.run_explained.specs.Told.{RunFacts}
-use Rattle.report_json.specs.About.{NotesFacts, ShownFacts, about_value, grown_value, listed_from, plans_between, run_or_null, run_value, storms_from}
+use Rattle.report_json.specs.About.{NotesFacts, ShownFacts, about_value, grown_value, listed_from, plans_between, storms_from}
+use Rattle.report_json.specs.Runs.{RunsFacts, or_null, parent_member, run_value, shown_value}
+use Rattle.report_json.specs.declared.runs.ShownRun.{ShownRun}
 use Rattle.report_json.specs.Document.{clean_value, point_values, reported_values, finding_value, cause_value, growth_value}
 use Rattle.report_json.specs.Values.{whole, nonzero, list_of, scenario_value}
 use Rattle.report_json.specs.Document.{document_of, IsReadAs}
@@ -68,34 +70,46 @@ run_shallow run =
     let left_out = nonzero_shallow (codes "left_out") run.left_out no_members in
     omega (arith, left_out)
 
-run_or_null_shallow : (run : Option RunFacts) → depth (run_or_null run) ≤ 1
-run_or_null_shallow None = omega arith
-run_or_null_shallow (Some run) = run_shallow run
+parent_shallow : (parent : Option RunFacts) → members_depth (parent_member parent) ≤ 1
+parent_shallow None = omega arith
+parent_shallow (Some run) =
+    let shallow = run_shallow run in
+    omega (arith, shallow)
 
-about_shallow : (notes : NotesFacts) (shown : ShownFacts) → depth (about_value notes shown) ≤ 3
-about_shallow notes shown =
+shown_shallow : (shown : ShownRun) → depth (shown_value shown) ≤ 2
+shown_shallow shown =
+    let parent = parent_shallow shown.parent in
+    let left_out = nonzero_shallow (codes "left_out") shown.run.left_out (parent_member shown.parent) in
+    omega (arith, parent, left_out)
+
+or_null_shallow : {A : Type 0} (bound : ℕ) (f : A → Json) → ((x : A) → depth (f x) ≤ bound) → (run : Option A) → depth (or_null f run) ≤ bound
+or_null_shallow bound f h None = omega arith
+or_null_shallow bound f h (Some x) = h x
+
+about_shallow : (notes : NotesFacts) (shown : ShownFacts) (runs : RunsFacts) → depth (about_value notes shown runs) ≤ 4
+about_shallow notes shown runs =
     let storms = mapped 0 scenario_value (plans_between (storms_from shown) (listed_from shown) shown.plans) (λ plan. omega arith) in
     let listed = mapped 0 scenario_value (plans_between (listed_from shown) (length shown.plans) shown.plans) (λ plan. omega arith) in
     let grown = mapped 0 grown_value shown.grown (λ plan. omega arith) in
-    let clean = run_or_null_shallow shown.clean_run in
-    let findings = mapped 1 run_value shown.finding_runs run_shallow in
-    let causes = mapped 1 run_value shown.cause_runs run_shallow in
+    let clean = or_null_shallow 1 run_value run_shallow runs.clean in
+    let findings = mapped 2 (or_null shown_value) runs.findings (or_null_shallow 2 shown_value shown_shallow) in
+    let causes = mapped 2 (or_null shown_value) runs.causes (or_null_shallow 2 shown_value shown_shallow) in
     omega (arith, storms, listed, grown, clean, findings, causes)
 
-shallow : (names : List (List ℕ)) (code_name : ℕ → List ℕ) (report : ReportFacts) (notes : NotesFacts) (shown : ShownFacts)
-    → depth (document_of names code_name report notes shown) ≤ max_depth
-shallow names code_name report notes shown =
+shallow : (names : List (List ℕ)) (code_name : ℕ → List ℕ) (report : ReportFacts) (notes : NotesFacts) (shown : ShownFacts) (runs : RunsFacts)
+    → depth (document_of names code_name report notes shown runs) ≤ max_depth
+shallow names code_name report notes shown runs =
     let clean = clean_shallow code_name report.clean in
     let census = points_shallow names report.census in
     let told = reported_shallow code_name 0 report.verdicts shown.plans in
     let findings = mapped 1 (finding_value code_name) report.findings (λ finding. omega arith) in
     let growth = growth_shallow names code_name report.growth in
-    let about = about_shallow notes shown in
+    let about = about_shallow notes shown runs in
     let unmet =
     nonzero_shallow (codes "unmet") report.unmet
     (member (codes "findings") (list_of (map (finding_value code_name) report.findings))
     (member (codes "growth") (growth_value names code_name report.growth)
-    (member (codes "about") (about_value notes shown) no_members))) in
+    (member (codes "about") (about_value notes shown runs) no_members))) in
     omega (arith, clean, census, told, unmet, findings, growth, about)
 
 -- a value is read back where the reader finds its tokens in its text
@@ -104,8 +118,8 @@ read_back v shallow found =
     ap (λ (ts : List Token). option_and_then (λ p. if_last p.0 p.1) (value max_depth ts)) (found ∙ sym (append-nil (json_tokens v)))
     ∙ ap (option_and_then (λ p. if_last p.0 p.1)) (value-json_tokens v max_depth [] shallow)
 
-pub document_read : (names : List (List ℕ)) (code_name : ℕ → List ℕ) (report : ReportFacts) (notes : NotesFacts) (shown : ShownFacts)
-    → tokens (pretty (json_tokens (document_of names code_name report notes shown))) ≡ json_tokens (document_of names code_name report notes shown)
-    → IsReadAs (document_of names code_name report notes shown)
-document_read names code_name report notes shown found =
-    read_back (document_of names code_name report notes shown) (shallow names code_name report notes shown) found
+pub document_read : (names : List (List ℕ)) (code_name : ℕ → List ℕ) (report : ReportFacts) (notes : NotesFacts) (shown : ShownFacts) (runs : RunsFacts)
+    → tokens (pretty (json_tokens (document_of names code_name report notes shown runs))) ≡ json_tokens (document_of names code_name report notes shown runs)
+    → IsReadAs (document_of names code_name report notes shown runs)
+document_read names code_name report notes shown runs found =
+    read_back (document_of names code_name report notes shown runs) (shallow names code_name report notes shown runs) found

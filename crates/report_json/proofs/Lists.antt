@@ -1,7 +1,7 @@
 -- Tokens that a loop writes, and lists and objects of them.
-use Rattle.std.proofs.Common.{◌≡◌, ℕ, zero, suc, ◌+◌, ◌<◌, List, [], ◌∷◌, ◌++◌, drop, length, get_or, map, refl, ap, sym, ◌∙◌, append_assoc}
+use Rattle.std.proofs.Common.{◌≡◌, ℕ, zero, suc, ◌+◌, ◌<◌, List, [], ◌∷◌, ◌++◌, drop, length, get_or, map, Option, None, Some, refl, ap, sym, ◌∙◌, append_assoc}
 use Rattle.std.proofs.lemmas.List.Concat.{flat_map-append}
-use Rattle.json.specs.Json.{Json, Members, no_members}
+use Rattle.json.specs.Json.{Json, Members}
 use Rattle.json.specs.Token.{Token, key, begin_array, end_array, begin_object, end_object}
 use Rattle.json.specs.Tree.{json_tokens, items_tokens, members_tokens}
 use Rattle.json.specs.Value.{items_of}
@@ -9,8 +9,10 @@ use Rattle.scenario_values.specs.Scenario.{Entries}
 use Rattle.target_trait.specs.declared.judgement.Verdict.{Verdict}
 use Rattle.report.proofs.Written.{goes_on, next_of}
 use Rattle.report_json.specs.Document.{point_value, point_values, reported_value, reported_values}
+use Rattle.run_explained.specs.Told.{RunFacts}
+use Rattle.report_json.specs.Runs.{parent_member}
 use Rattle.report_json.specs.Values.{nonzero, list_of}
-use Rattle.report_json.specs.inside.Tokens.{member_tokens, nonzero_tokens, all_tokens}
+use Rattle.report_json.specs.inside.Tokens.{member_tokens, nonzero_tokens, all_tokens, parent_tokens}
 
 -- tokens are written, and then the rest
 join : (old first rest : List Token) {mid new : List Token} → mid ≡ old ++ first → new ≡ mid ++ rest → new ≡ old ++ (first ++ rest)
@@ -95,14 +97,22 @@ ten_members old a b c d e f g h i j begins first second third ends =
     ends ∙ ap (λ (ts : List Token). ts ++ end_object ∷ []) (third ∙ ap (λ (ts : List Token). ts ++ h ++ i ++ j) (second ∙ ap (λ (ts : List Token). ts ++ e ++ f ++ g)
     (first ∙ ap (λ (ts : List Token). ts ++ a ++ b ++ c ++ d) begins))) ∙ joined_parts old a b c d e f g h i j
 
--- an object of a member, and of a count behind it
-pub counted_member : (old : List Token) {begun first counted new : List Token} (a : List Token) (name : List ℕ) (n : ℕ) → begun ≡ old ++ begin_object ∷ []
-    → first ≡ begun ++ a → counted ≡ first ++ nonzero_tokens name n → new ≡ counted ++ end_object ∷ []
-    → new ≡ old ++ begin_object ∷ (a ++ members_tokens (nonzero name n no_members))
-counted_member old {begun} {first} {counted} {new} a name n begins h1 h2 ends =
+joined_counted : (old a u tail : List Token) → (old ++ begin_object ∷ []) ++ a ++ u ++ tail ≡ old ++ begin_object ∷ (a ++ (u ++ tail))
+joined_counted old a u tail = simp append_assoc
+
+-- an object of a member, a count behind it, and others
+pub counted_member : (old : List Token) {begun told new : List Token} (a tail : List Token) (name : List ℕ) (n : ℕ) (others : Members) → begun ≡ old ++ begin_object ∷ []
+    → told ≡ begun ++ a ++ nonzero_tokens name n → new ≡ told ++ tail → tail ≡ members_tokens others
+    → new ≡ old ++ begin_object ∷ (a ++ members_tokens (nonzero name n others))
+counted_member old {begun} {told} {new} a tail name n others begins tells ends are =
     let u : List Token = nonzero_tokens name n in
-    join old (begin_object ∷ []) (a ++ (u ++ end_object ∷ [])) begins (join begun a (u ++ end_object ∷ []) h1 (join first u (end_object ∷ []) h2 ends))
-    ∙ ap (λ (ts : List Token). old ++ begin_object ∷ (a ++ ts)) (nonzero_tokens_are name n no_members)
+    ends ∙ ap (λ (ts : List Token). ts ++ tail) (tells ∙ ap (λ (ts : List Token). ts ++ a ++ u) begins) ∙ joined_counted old a u tail
+    ∙ ap (λ (ts : List Token). old ++ begin_object ∷ (a ++ ts)) (ap (λ (ts : List Token). u ++ ts) are ∙ nonzero_tokens_are name n others)
+
+-- a run's parent and the end behind it
+pub parent_ends : (parent : Option RunFacts) → parent_tokens parent ++ end_object ∷ [] ≡ members_tokens (parent_member parent)
+parent_ends None = refl
+parent_ends (Some run) = refl
 
 -- values and the bracket behind them
 closed : (values : List Json) → all_tokens values ++ end_array ∷ [] ≡ items_tokens (items_of values)

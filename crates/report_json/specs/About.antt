@@ -1,13 +1,13 @@
 -- What a document tells beside its report: who made it, by which settings, each plan that grew, and runs hit by hit.
 use Rattle.std.specs.Prelude.{ℕ, ◌-◌, List, [], ◌∷◌, ◌++◌, codes, drop, length, map, take, Option, None, Some}
 use Rattle.std.specs.Fmt.{decimal}
-use Rattle.json.specs.Json.{Json, null, string, object, no_members, member}
+use Rattle.json.specs.Json.{Json, string, object, no_members, member}
 use Rattle.scenario_values.specs.Scenario.{Entries}
 use Rattle.action_eval.specs.declared.rig.Rig.{Rig}
 use Rattle.action_eval.specs.declared.rig.Kind.{Kind}
 use Rattle.action_eval.specs.declared.rig.Kind.TheVariants.{OnceReturn, OnwardReturn, OncePanic}
-use Rattle.run_explained.specs.Told.{RunFacts}
-use Rattle.report_json.specs.Values.{list_of, nonzero, scenario_value}
+use Rattle.report_json.specs.Runs.{RunsFacts, or_null, run_value, shown_value}
+use Rattle.report_json.specs.Values.{list_of, scenario_value}
 
 -- the program's version, who told the runs, and the command
 pub record NotesFacts : Type 0 where
@@ -15,30 +15,18 @@ pub record NotesFacts : Type 0 where
   pub told_by : List ℕ
   pub command : List ℕ
 
--- the plans of a report, and those that grew, which come first among them; how many storms and how many listed scenarios stand behind the others; the
--- text of the settings; and the runs that are told: that without faults, those of the findings, and those of the causes, as far as each is told
+-- the plans of a report, and those that grew, which come first among them; how many storms and how many listed scenarios stand behind the others; and
+-- the text of the settings
 pub record ShownFacts : Type 0 where
   pub plans : List Entries
   pub grown : List (List Rig)
   pub storms : ℕ
   pub listed : ℕ
   pub settings : List ℕ
-  pub clean_run : Option RunFacts
-  pub finding_runs : List RunFacts
-  pub cause_runs : List RunFacts
 
--- the same where no run is told
-abbrev pub without_runs : List Entries → List (List Rig) → ℕ → ℕ → List ℕ → ShownFacts
-without_runs plans grown storms listed settings = record {
-  plans = plans;
-  grown = grown;
-  storms = storms;
-  listed = listed;
-  settings = settings;
-  clean_run = None;
-  finding_runs = [];
-  cause_runs = [];
-}
+-- those with these parts
+abbrev pub shown_of : List Entries → List (List Rig) → ℕ → ℕ → List ℕ → ShownFacts
+shown_of plans grown storms listed settings = record { plans = plans; grown = grown; storms = storms; listed = listed; settings = settings }
 
 -- ---- plans
 
@@ -78,20 +66,10 @@ faults_text (r ∷ earlier) = faults_text earlier ++ separator earlier ++ fault_
 abbrev pub grown_value : List Rig → Json
 grown_value plan = string (faults_text plan)
 
--- ---- runs
-
--- the lines of `explain`, and how many hits have no line among them
-abbrev pub run_value : RunFacts → Json
-run_value run = object (member (codes "explained") (string run.text) (nonzero (codes "left_out") run.left_out no_members))
-
-abbrev pub run_or_null : Option RunFacts → Json
-run_or_null None = null
-run_or_null (Some run) = run_value run
-
 -- ---- all of it
 
-abbrev pub about_value : NotesFacts → ShownFacts → Json
-about_value notes shown =
+abbrev pub about_value : NotesFacts → ShownFacts → RunsFacts → Json
+about_value notes shown runs =
     object (member (codes "program_version") (string notes.version)
     (member (codes "told_by") (string notes.told_by)
     (member (codes "command") (string notes.command)
@@ -99,6 +77,6 @@ about_value notes shown =
     (member (codes "storms") (list_of (map scenario_value (plans_between (storms_from shown) (listed_from shown) shown.plans)))
     (member (codes "listed") (list_of (map scenario_value (plans_between (listed_from shown) (length shown.plans) shown.plans)))
     (member (codes "grown") (list_of (map grown_value shown.grown))
-    (member (codes "clean_run") (run_or_null shown.clean_run)
-    (member (codes "finding_runs") (list_of (map run_value shown.finding_runs))
-    (member (codes "cause_runs") (list_of (map run_value shown.cause_runs)) no_members))))))))))
+    (member (codes "clean_run") (or_null run_value runs.clean)
+    (member (codes "finding_runs") (list_of (map (or_null shown_value) runs.findings))
+    (member (codes "cause_runs") (list_of (map (or_null shown_value) runs.causes)) no_members))))))))))

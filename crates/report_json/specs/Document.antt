@@ -10,6 +10,7 @@ use Rattle.target_trait.specs.declared.judgement.Verdict.TheVariants as verdict
 use Rattle.report.specs.Reports.{FindingFacts, CauseFacts, GrowthFacts, ReportFacts}
 use Rattle.target_trait.specs.Verdicts.{is_pass, is_fail, is_unresolved}
 use Rattle.report_json.specs.About.{NotesFacts, ShownFacts, about_value}
+use Rattle.report_json.specs.Runs.{RunsFacts}
 use Rattle.report_json.specs.Values.{whole, nonzero, list_of, scenario_value}
 
 -- the form of the document, which gets another number where members change their names or what they say
@@ -104,8 +105,8 @@ growth_value names code_name (Some growth) =
 -- ---- the document
 
 -- all of it, by the names of the points and codes, of a report, with what is told beside it. The seed is a text, since many readers round large numbers
-abbrev pub document_of : List (List ℕ) → (ℕ → List ℕ) → ReportFacts → NotesFacts → ShownFacts → Json
-document_of names code_name report notes shown =
+abbrev pub document_of : List (List ℕ) → (ℕ → List ℕ) → ReportFacts → NotesFacts → ShownFacts → RunsFacts → Json
+document_of names code_name report notes shown runs =
     object (member (codes "version") (whole form)
     (member (codes "label") (string report.label)
     (member (codes "seed") (string (decimal report.seed))
@@ -116,7 +117,7 @@ document_of names code_name report notes shown =
     (nonzero (codes "unmet") report.unmet
     (member (codes "findings") (list_of (map (finding_value code_name) report.findings))
     (member (codes "growth") (growth_value names code_name report.growth)
-    (member (codes "about") (about_value notes shown) no_members)))))))))))
+    (member (codes "about") (about_value notes shown runs) no_members)))))))))))
 
 -- a line for each item and member, and a line feed at the end
 abbrev pub text_of : Json → List ℕ

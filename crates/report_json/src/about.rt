@@ -1,18 +1,17 @@
 //! What a document tells beside its report.
 ghost use Rattle.std.specs.Prelude.{◌≡◌, ◌++◌, ◌≤◌, length, map, codes, option_copied, OnOk};
 ghost use Rattle.json.specs.Json.{string};
-ghost use Rattle.json.specs.Tree.{json_tokens};
 ghost use Rattle.campaign_plans.specs.GrownScenarios.{grown_among};
-ghost use Rattle.report_json.specs.About.{about_value, grown_value, listed_from, plans_between, run_or_null, run_value, storms_from, without_runs};
+ghost use Rattle.report_json.specs.About.{about_value, grown_value, listed_from, plans_between, shown_of, storms_from};
 ghost use Rattle.report_json.specs.Values.{list_of, scenario_value};
 ghost use Rattle.report_json.specs.inside.Tokens.{all_tokens, member_tokens};
 
 use crate::faults::write_faults;
-use crate::members::{begin_list, write_nonzero, write_scenario_value, write_text};
+use crate::members::{begin_list, write_scenario_value, write_text};
+use crate::runs::{Runs, write_runs};
 use campaign_plans::CampaignPlans;
 use grown_plans::GrownPlans;
 use json::{Pretty, Token};
-use run_explained::ToldRun;
 use std::alloc::{AllocError, Global};
 use std::marker::Model;
 
@@ -48,43 +47,27 @@ pub struct Shown<'a> {
     pub listed: usize,
     /// The text of the settings.
     pub settings: &'a str,
-    /// The run without faults, where it is told.
-    pub clean_run: Option<&'a ToldRun>,
-    /// The runs of the report's findings, as reduced, in their order, as far as they are told.
-    pub finding_runs: &'a [ToldRun],
-    /// The runs of its causes, in their order, as far as they are told.
-    pub cause_runs: &'a [ToldRun],
 }
 
 impl<'a> Model for Shown<'a> {
     ghost use Rattle.std.specs.Prelude.{option_copied};
     ghost use Rattle.campaign_plans.specs.GrownScenarios.{grown_among};
-    ghost use Rattle.report_json.specs.About.{ShownFacts};
+    ghost use Rattle.report_json.specs.About.{ShownFacts, shown_of};
 
     ghost Value = { ShownFacts };
 
-    ghost view = { λ s. record {
-      plans = s.plans.now;
-      grown = grown_among (option_copied s.grown);
-      storms = s.storms;
-      listed = s.listed;
-      settings = s.settings.now;
-      clean_run = option_copied s.clean_run;
-      finding_runs = s.finding_runs.now;
-      cause_runs = s.cause_runs.now;
-    } };
+    ghost view = { λ s. shown_of s.plans.now (grown_among (option_copied s.grown)) s.storms s.listed s.settings.now };
 }
 
 impl<'a> Shown<'a> {
-    /// What is shown where no run is told.
-    pub fn without_runs(
+    pub fn new(
         plans: &'a CampaignPlans<'a>,
         grown: Option<&'a GrownPlans>,
         storms: usize,
         listed: usize,
         settings: &'a str,
     ) -> Self
-        ensures { result ≡ without_runs plans.entry.now (grown_among (option_copied grown.entry)) storms listed settings.entry.now }
+        ensures { result ≡ shown_of plans.entry.now (grown_among (option_copied grown.entry)) storms listed settings.entry.now }
     {
         Shown {
             plans,
@@ -92,9 +75,6 @@ impl<'a> Shown<'a> {
             storms,
             listed,
             settings,
-            clean_run: None,
-            finding_runs: &[],
-            cause_runs: &[],
         }
     }
 }
@@ -173,44 +153,6 @@ fn write_grown(
     out.token(Token::EndArray)
 }
 
-fn write_run(out: &mut Pretty, run: &ToldRun) -> Result<(), AllocError>
-    ensures { OnOk result (out.new ≡ out.old ++ json_tokens (run_value run.now)) }
-{
-    out.token(Token::BeginObject)?;
-    write_text(out, "explained", run.text.as_str())?;
-    write_nonzero(out, "left_out", run.left_out as u64)?;
-    out.token(Token::EndObject)
-}
-
-fn write_each_run(out: &mut Pretty, runs: &[ToldRun]) -> Result<(), AllocError>
-    ensures { OnOk result (out.new ≡ out.old ++ all_tokens (map run_value runs.now)) }
-{
-    for run in runs {
-        write_run(out, run)?;
-    }
-    Ok(())
-}
-
-/// A member that tells runs.
-fn write_runs(out: &mut Pretty, name: &str, runs: &[ToldRun]) -> Result<(), AllocError>
-    ensures { OnOk result (out.new ≡ out.old ++ member_tokens name.now (list_of (map run_value runs.now))) }
-{
-    begin_list(out, name)?;
-    write_each_run(out, runs)?;
-    out.token(Token::EndArray)
-}
-
-/// A member that tells a run, or that none is told.
-fn write_run_or_null(out: &mut Pretty, name: &str, run: Option<&ToldRun>) -> Result<(), AllocError>
-    ensures { OnOk result (out.new ≡ out.old ++ member_tokens name.now (run_or_null (option_copied run.entry))) }
-{
-    out.token(Token::Key(name))?;
-    match run {
-        None => out.token(Token::Null),
-        Some(run) => write_run(out, run),
-    }
-}
-
 /// Who made the document, and by which settings.
 fn write_made(out: &mut Pretty, notes: &Notes<'_>, settings: &str) -> Result<(), AllocError>
     ensures { OnOk result (out.new ≡ out.old
@@ -241,31 +183,20 @@ fn write_plans(alloc: Global, out: &mut Pretty, shown: &Shown<'_>) -> Result<(),
     write_grown(alloc, out, shown.grown)
 }
 
-/// The runs that are told.
-fn write_told_runs(out: &mut Pretty, shown: &Shown<'_>) -> Result<(), AllocError>
-    ensures { OnOk result (out.new ≡ out.old
-        ++ member_tokens (codes "clean_run") (run_or_null shown.now.clean_run)
-        ++ member_tokens (codes "finding_runs") (list_of (map run_value shown.now.finding_runs))
-        ++ member_tokens (codes "cause_runs") (list_of (map run_value shown.now.cause_runs))) }
-{
-    write_run_or_null(out, "clean_run", shown.clean_run)?;
-    write_runs(out, "finding_runs", shown.finding_runs)?;
-    write_runs(out, "cause_runs", shown.cause_runs)
-}
-
 /// What a document tells beside its report.
 pub fn write_about(
     alloc: Global,
     out: &mut Pretty,
     notes: &Notes<'_>,
     shown: &Shown<'_>,
+    runs: &Runs,
 ) -> Result<(), AllocError>
-    ensures { OnOk result (out.new ≡ out.old ++ member_tokens (codes "about") (about_value notes.now shown.now)) }
+    ensures { OnOk result (out.new ≡ out.old ++ member_tokens (codes "about") (about_value notes.now shown.now runs.now)) }
 {
     out.token(Token::Key("about"))?;
     out.token(Token::BeginObject)?;
     write_made(out, notes, shown.settings)?;
     write_plans(alloc, out, shown)?;
-    write_told_runs(out, shown)?;
+    write_runs(out, runs)?;
     out.token(Token::EndObject)
 }

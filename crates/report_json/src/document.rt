@@ -12,6 +12,7 @@ use crate::about::{Notes, Shown, write_about};
 use crate::growth::{write_growth, write_points};
 use crate::members::{write_nonzero, write_number, write_text};
 use crate::plans::{write_clean, write_counts, write_findings, write_not_passed};
+use crate::runs::Runs;
 use campaign_plans::CampaignPlans;
 use itoa::Buffer;
 use json::{Pretty, Token};
@@ -63,28 +64,30 @@ fn write_results<N: Names>(
     write_growth(alloc, out, names, &report.growth)
 }
 
-fn write_document<N: Names>(
+fn written<N: Names>(
     alloc: Global,
-    out: &mut Pretty,
     names: &N,
     report: &Report<'_>,
     notes: &Notes<'_>,
     shown: &Shown<'_>,
-) -> Result<(), AllocError>
+    runs: &Runs,
+) -> Result<Pretty, AllocError>
     requires counts { length report.now.census ≡ length (N.points names.now) }
     requires reached { IfSome report.now.growth (λ growth. length growth.reached ≡ length (N.points names.now)) }
     requires verdicts { length report.now.verdicts ≡ length shown.now.plans }
-    ensures { OnOk result (out.new ≡ out.old
-        ++ json_tokens (document_of (N.points names.now) (N.code_text names.now) report.now notes.now shown.now)) }
+    ensures { IfOk result (λ out. out
+        ≡ json_tokens (document_of (N.points names.now) (N.code_text names.now) report.now notes.now shown.now runs.now)) }
 {
+    let mut out = Pretty::new(alloc);
     out.token(Token::BeginObject)?;
-    write_head(out, names, report)?;
-    write_results(alloc, out, names, report, shown.plans)?;
-    write_about(alloc, out, notes, shown)?;
-    out.token(Token::EndObject)
+    write_head(&mut out, names, report)?;
+    write_results(alloc, &mut out, names, report, shown.plans)?;
+    write_about(alloc, &mut out, notes, shown, runs)?;
+    out.token(Token::EndObject)?;
+    Ok(out)
 }
 
-/// The report as a JSON document, by these names of points and codes, with what is shown beside it: a line for each item and member, and a line
+/// The report as a JSON document, by these names of points and codes, with what is shown beside it and the runs that are told: a line for each item and member, and a line
 /// feed at the end. docs/MACHINES.md tells its members. It is UTF-8, the same for the same report, and a reader of JSON finds that document in it,
 /// whatever characters the names have.
 ///
@@ -96,16 +99,16 @@ pub fn json_text<N: Names>(
     report: &Report<'_>,
     notes: &Notes<'_>,
     shown: &Shown<'_>,
+    runs: &Runs,
 ) -> Result<Vec<u8>, AllocError>
     requires counts { length report.now.census ≡ length (N.points names.now) }
     requires reached { IfSome report.now.growth (λ growth. length growth.reached ≡ length (N.points names.now)) }
     requires verdicts { length report.now.verdicts ≡ length shown.now.plans }
     ensures text { IfOk result (λ text. text.items
-        ≡ text_of (document_of (N.points names.now) (N.code_text names.now) report.now notes.now shown.now)) }
-    ensures reads { OnOk result (IsReadAs (document_of (N.points names.now) (N.code_text names.now) report.now notes.now shown.now)) }
+        ≡ text_of (document_of (N.points names.now) (N.code_text names.now) report.now notes.now shown.now runs.now)) }
+    ensures reads { OnOk result (IsReadAs (document_of (N.points names.now) (N.code_text names.now) report.now notes.now shown.now runs.now)) }
 {
-    let mut out = Pretty::new(alloc);
-    write_document(alloc, &mut out, names, report, notes, shown)?;
+    let out = written(alloc, names, report, notes, shown, runs)?;
     let mut text = out.into_inner();
     text.push(b'\n')?;
     Ok(text)

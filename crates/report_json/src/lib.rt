@@ -10,6 +10,8 @@ mod faults;
 mod growth;
 mod members;
 mod plans;
+mod runs;
 
 pub use about::{Notes, Shown};
 pub use document::json_text;
+pub use runs::{Runs, ShownRun};

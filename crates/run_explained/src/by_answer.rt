@@ -1,11 +1,12 @@
 //! One run of a component that somebody else runs, told hit by hit by what an answer tells of it.
 ghost use Rattle.std.specs.Prelude.{◌≡◌, string_bytes, IfOk};
 ghost use Rattle.action_eval.specs.Answers.{texts};
-ghost use Rattle.run_explained.specs.ByAnswer.{answer_text, answered_hits, has_idle};
+ghost use Rattle.report.specs.ReportText.{text_of};
+ghost use Rattle.run_explained.specs.ByAnswer.{answer_facts, answer_text, answered_hits, has_idle, lines_with};
 
 use crate::hits::{write_hits, write_stop};
 use crate::idle::{leaves_idle, write_idle};
-use crate::told::head_text;
+use crate::told::{ToldRun, head_text};
 use action_eval::{Answered, history};
 use report::Names;
 use scenario_values::Scenario;
@@ -44,6 +45,34 @@ pub fn has_idle(
     Ok(leaves_idle(hits.as_slice(), scenario))
 }
 
+/// What an answer tells of a run of a component that somebody else runs.
+#[derive(Drop)]
+pub struct RunByAnswer<'a> {
+    pub scenario: &'a Scenario,
+    pub verdict: Verdict,
+    /// The points of its hits.
+    pub hits: &'a [u32],
+}
+
+/// The lines of a run with these hits, of which some are told.
+fn lines_with<N: Names>(
+    alloc: Global,
+    names: &N,
+    points: &[&str],
+    run: &RunByAnswer<'_>,
+    hits: &[Answered<'_>],
+    told: &[Answered<'_>],
+) -> Result<String, AllocError>
+    ensures { IfOk result (λ text. string_bytes text
+        ≡ text_of (lines_with (texts points.now) (N.code_text names.now) run.now.scenario.now run.now.verdict hits.now told.now)) }
+{
+    let mut text = head_text(alloc, names, run.verdict)?;
+    write_hits(alloc, &mut text, points, told)?;
+    write_stop(&mut text, Verdict::Pass, hits)?;
+    write_idle(&mut text, hits, run.scenario)?;
+    Ok(text)
+}
+
 /// What an answer tells of a run of a component that somebody else runs, hit by hit: the lines of [`crate::explain`], by the scenario, the verdict
 /// and the points of the hits. Nobody knows the limit of such a component, so no line says that it stopped the run.
 ///
@@ -53,16 +82,31 @@ pub fn explain_answer<N: Names>(
     alloc: Global,
     names: &N,
     points: &[&str],
-    scenario: &Scenario,
-    verdict: Verdict,
-    hits: &[u32],
+    run: &RunByAnswer<'_>,
 ) -> Result<String, AllocError>
-    ensures { IfOk result (λ text. string_bytes text ≡ answer_text (texts points.now) (N.code_text names.now) scenario.now verdict hits.now) }
+    ensures { IfOk result (λ text. string_bytes text
+        ≡ answer_text (texts points.now) (N.code_text names.now) run.now.scenario.now run.now.verdict run.now.hits.now) }
 {
-    let hits = answered_hits(alloc, points, scenario, hits)?;
-    let mut text = head_text(alloc, names, verdict)?;
-    write_hits(alloc, &mut text, points, hits.as_slice())?;
-    write_stop(&mut text, Verdict::Pass, hits.as_slice())?;
-    write_idle(&mut text, hits.as_slice(), scenario)?;
-    Ok(text)
+    let hits = answered_hits(alloc, points, run.scenario, run.hits)?;
+    lines_with(alloc, names, points, run, &hits, &hits)
+}
+
+/// The same, but of the hits the first `most` alone have their lines, as of a run that [`crate::tell`] tells.
+pub fn tell_answer<N: Names>(
+    alloc: Global,
+    names: &N,
+    points: &[&str],
+    run: &RunByAnswer<'_>,
+    most: usize,
+) -> Result<ToldRun, AllocError>
+    ensures { IfOk result (λ told. told
+        ≡ answer_facts most (texts points.now) (N.code_text names.now) run.now.scenario.now run.now.verdict run.now.hits.now) }
+{
+    let hits = answered_hits(alloc, points, run.scenario, run.hits)?;
+    let told = hits.len().min(most);
+    let text = lines_with(alloc, names, points, run, &hits, &hits[..told])?;
+    Ok(ToldRun {
+        text,
+        left_out: hits.len() - told,
+    })
 }

@@ -8,7 +8,7 @@ mod tales;
 mod telling;
 mod told;
 
-pub use by_answer::{explain_answer, has_idle};
+pub use by_answer::{RunByAnswer, explain_answer, has_idle, tell_answer};
 pub use tales::explain_telling;
 pub use telling::{Explained, explain};
 pub use told::{ToldRun, tell};

@@ -81,7 +81,7 @@ RefusesAsks a depth asked why = RefusesBy a depth asked why
 abbrev pub IsTextOf : Form → Description → Given → Answered → ℕ → List ℕ → Type 0
 IsTextOf form outside given a depth text =
     (t : Subject) → IsComponent a.points a.listed t → AgreesWithRuns t (told_in a.book)
-    → text ≡ report_seen_in form (campaign_of outside given depth t) depth (runs_in a)
+    → text ≡ report_seen_in form (campaign_of outside given depth t) (told_in a.book) depth (runs_in a)
 
 abbrev pub IsFirstNumberOf : Description → Given → Answered → ℕ → Option ℕ → Type 0
 IsFirstNumberOf outside given a depth first =

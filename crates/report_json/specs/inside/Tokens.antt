@@ -1,8 +1,10 @@
 -- The tokens that are written one after the other.
-use Rattle.std.specs.Prelude.{List, ℕ, zero, suc, [], ◌∷◌, flat_map}
+use Rattle.std.specs.Prelude.{List, ℕ, zero, suc, [], ◌∷◌, codes, flat_map, Option, None, Some}
 use Rattle.json.specs.Json.{Json}
 use Rattle.json.specs.Token.{Token, key}
 use Rattle.json.specs.Tree.{json_tokens}
+use Rattle.run_explained.specs.Told.{RunFacts}
+use Rattle.report_json.specs.Runs.{run_value}
 use Rattle.report_json.specs.Values.{whole}
 
 -- a member of an object
@@ -17,3 +19,8 @@ nonzero_tokens name (suc n) = member_tokens name (whole (suc n))
 -- values one after the other, as they stand in an array
 abbrev pub all_tokens : List Json → List Token
 all_tokens values = flat_map json_tokens values
+
+-- a member that is the run of the plan that a plan grew from, where it is told
+abbrev pub parent_tokens : Option RunFacts → List Token
+parent_tokens None = []
+parent_tokens (Some parent) = member_tokens (codes "parent") (run_value parent)

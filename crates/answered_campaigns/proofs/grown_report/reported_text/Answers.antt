@@ -1,4 +1,4 @@
-use Rattle.std.proofs.Common.{◌≡◌, ◌≤◌, ◌∙◌, ℕ, List, Some, ap, length, map, subst}
+use Rattle.std.proofs.Common.{◌≡◌, ◌≤◌, ◌∙◌, ℕ, List, Some, ap, length, map, subst, sym}
 use Rattle.std.proofs.lemmas.Result.{IfOk-weaker}
 use Rattle.campaign_given.specs.Description.{Description}
 use Rattle.campaign_given.specs.Given.{Given}
@@ -10,15 +10,25 @@ use Rattle.report.specs.Reports.{CauseFacts, ReportFacts}
 use Rattle.answer_text.specs.Runs.{told_in}
 use Rattle.answered_runs.specs.Answered.{Answered, runs_in}
 use Rattle.answered_runs.specs.Components.{AgreesWithRuns, IsComponent}
-use Rattle.report_json.specs.About.{ShownFacts, without_runs}
+use Rattle.outside_campaign.specs.Campaigns.{code_name, runs_told}
+use Rattle.report_json.specs.About.{ShownFacts, shown_of}
+use Rattle.report_forms.specs.Forms.{text_in}
+use Rattle.report_forms.specs.Runs.{GrownAreFirst}
 use Rattle.target_trait.specs.declared.judgement.Verdict.{Verdict}
-use Rattle.answered_campaigns.proofs.Reports.{cause_within, text_is}
+use Rattle.answered_campaigns.proofs.Reports.{cause_within, grown_first, text_is}
 use Rattle.answered_campaigns.proofs.grown_report.reported_text.Goals as goal
 
 pub causes_of-requires : goal.causes_of-requires
 causes_of-requires c = λ k d within.
     cause_within c.args.answered.now.campaign.now.outside.now c.args.answered.now.campaign.now.settings.now c.args.answered.now.known.now.0 c.args.answered.now.known.now.1 c.args.answered.now.lists.now
     c.args.answered.now.plans.now c.args.verdicts.now c.args.told c.as_slice.result.now c.requires.decided c.as_slice.ensures.value k d within
+
+pub text_in-requires-clause-first : goal.text_in-requires-clause-first
+text_in-requires-clause-first c =
+    let k = c.args.answered.now in
+    let outside : Description = k.campaign.now.outside.now in
+    subst (λ (s : ShownFacts). GrownAreFirst outside.points s) (sym c.shown_of-shown.ensures)
+    (grown_first outside k.campaign.now.settings.now k.known.now.0 k.known.now.1 k.lists.now k.plans.now c.args.verdicts.now c.args.told c.requires.decided)
 
 pub returns : goal.returns
 returns c =
@@ -67,7 +77,7 @@ returns c =
     ∙ ap (λ (x : List ℕ). F c.clean_of.result outside.label given.plans.seed counts k.known.now.1 lists.listed.known.levels.items x c.in_ok-causes.causes.items) c.as_slice-3.ensures.value
     ∙ ap (λ (x : List CauseFacts). F c.clean_of.result outside.label given.plans.seed counts k.known.now.1 lists.listed.known.levels.items most x) causes_are
     ∙ ap (λ (x : Verdict). F x outside.label given.plans.seed counts k.known.now.1 lists.listed.known.levels.items most (map (cause_of k.plans.now) c.args.told.causes.items)) c.clean_of.ensures in
-    let S : ℕ → ℕ → List ℕ → ShownFacts = λ storms listed text. without_runs k.plans.now lists.listed.known.plans storms listed text in
+    let S : ℕ → ℕ → List ℕ → ShownFacts = λ storms listed text. shown_of k.plans.now lists.listed.known.plans storms listed text in
     let shown =
     c.shown_of-shown.ensures
     ∙ ap (λ (n : ℕ). S n c.len-listed.result c.as_str-source.result.now) (ap (λ (g : Given). g.plans.storms) c.settings.view_is)
@@ -75,5 +85,6 @@ returns c =
     ∙ ap (λ (x : List ℕ). S given.plans.storms (length given.plans.listed) x) (c.as_str-source.ensures ∙ ap (λ (g : Given). g.source) c.settings.view_is) in
     IfOk-weaker c.text_in.result _ _
     (λ text is. text_is c.args.form.now outside given k.known.now.0 k.known.now.1 lists k.plans.now c.args.verdicts.now c.args.told counts most _ _ text.items d c.in_ok-census.ensures reaches
-    facts shown is)
+    facts shown
+    (is ∙ ap (λ (a : Answered). text_in c.args.form.now outside.points (code_name outside.codes) (runs_told outside (told_in a.book)) _ _) runs_are))
     c.text_in.ensures

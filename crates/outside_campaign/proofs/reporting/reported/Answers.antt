@@ -48,10 +48,10 @@ returns-clause-text c =
     unmet_is c.args.campaign.now.outside.now c.args.campaign.now.settings.now c.args.answers.now (texts c.as_slice-in-Told.result.now) (told_in c.in_ok-known.known) c.by_census-plans.result c.in_ok-unmet-in-Told.unmet points c.in_ok-known.ensures.known plans
     c.in_ok-unmet-in-Told.ensures in
     reported_is c.args.form.now c.args.campaign.now.outside.now c.args.campaign.now.settings.now c.args.answers.now (verdicts_in (told_in c.in_ok-known.known)) c.by_census-plans.result c.in-Told.verdicts.items c.in-Told.findings.items c.report_of-report.result
-    c.in_ok-text-in-Told.text.items known plans h.1
+    (told_in c.in_ok-known.known) c.in_ok-text-in-Told.text.items known plans h.1
     (c.report_of-report.ensures ∙ ap (λ (vs : List Verdict). facts c.settings.inside.seed vs c.in_ok-unmet-in-Told.unmet) c.as_slice-in-Told-2.ensures.value
     ∙ ap (λ (s : Given). facts s.plans.seed c.in-Told.verdicts.items c.in_ok-unmet-in-Told.unmet) c.settings.view_is ∙ ap (facts c.args.campaign.now.settings.now.plans.seed c.in-Told.verdicts.items) unmet)
-    c.in_ok-text-in-Told.ensures
+    c.in_ok-known.ensures.known c.in_ok-text-in-Told.ensures
 
 pub returns-clause-first : goal.returns-clause-first
 returns-clause-first c =

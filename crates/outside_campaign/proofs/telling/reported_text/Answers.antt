@@ -1,7 +1,8 @@
-use Rattle.std.proofs.Common.{◌≡◌, Option, ap, sym, subst, ◌∙◌, length}
+use Rattle.std.proofs.Common.{◌≡◌, Option, ap, refl, sym, subst, ◌∙◌, length}
 use Rattle.std.specs.Prelude.{IfSome}
 use Rattle.report.specs.Reports.{GrowthFacts}
 use Rattle.report_json.specs.About.{ShownFacts}
+use Rattle.report_forms.specs.Runs.{GrownAreFirst}
 use Rattle.outside_campaign.proofs.telling.reported_text.Goals as goal
 
 pub text_in-requires-clause-counts : goal.text_in-requires-clause-counts
@@ -13,3 +14,7 @@ text_in-requires-clause-reached c =
 
 pub text_in-requires-clause-verdicts : goal.text_in-requires-clause-verdicts
 text_in-requires-clause-verdicts c = c.requires.each ∙ sym (ap (λ (s : ShownFacts). length s.plans) c.shown_of-shown.ensures)
+
+pub text_in-requires-clause-first : goal.text_in-requires-clause-first
+text_in-requires-clause-first c =
+    subst (λ (s : ShownFacts). GrownAreFirst c.args.campaign.now.outside.now.points s) (sym c.shown_of-shown.ensures) refl

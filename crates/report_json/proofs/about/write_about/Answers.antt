@@ -1,7 +1,8 @@
 use Rattle.std.proofs.Common.{◌++◌, map, codes, length, ap, ◌∙◌}
 use Rattle.std.proofs.lemmas.Result.{on_ok_weaker}
 use Rattle.json.specs.Json.{string}
-use Rattle.report_json.specs.About.{NotesFacts, ShownFacts, grown_value, listed_from, plans_between, run_or_null, run_value, storms_from}
+use Rattle.report_json.specs.About.{NotesFacts, ShownFacts, grown_value, listed_from, plans_between, storms_from}
+use Rattle.report_json.specs.Runs.{RunsFacts, or_null, run_value, shown_value}
 use Rattle.report_json.specs.Values.{list_of, scenario_value}
 use Rattle.report_json.specs.inside.Tokens.{member_tokens}
 use Rattle.report_json.proofs.Lists.{key_first, ten_members}
@@ -11,6 +12,7 @@ pub returns : goal.returns
 returns c =
     let notes : NotesFacts = c.args.notes.now in
     let shown : ShownFacts = c.args.shown.now in
+    let runs : RunsFacts = c.args.runs.now in
     on_ok_weaker c.token-3.result
     (λ ends. key_first c.args.out.now (codes "about") _ c.in_ok-token.ensures.ok
     (ten_members c.token.new.self (member_tokens (codes "program_version") (string notes.version)) (member_tokens (codes "told_by") (string notes.told_by))
@@ -18,12 +20,12 @@ returns c =
     (member_tokens (codes "storms") (list_of (map scenario_value (plans_between (storms_from shown) (listed_from shown) shown.plans))))
     (member_tokens (codes "listed") (list_of (map scenario_value (plans_between (listed_from shown) (length shown.plans) shown.plans))))
     (member_tokens (codes "grown") (list_of (map grown_value shown.grown)))
-    (member_tokens (codes "clean_run") (run_or_null shown.clean_run))
-    (member_tokens (codes "finding_runs") (list_of (map run_value shown.finding_runs)))
-    (member_tokens (codes "cause_runs") (list_of (map run_value shown.cause_runs)))
+    (member_tokens (codes "clean_run") (or_null run_value runs.clean))
+    (member_tokens (codes "finding_runs") (list_of (map (or_null shown_value) runs.findings)))
+    (member_tokens (codes "cause_runs") (list_of (map (or_null shown_value) runs.causes)))
     c.in_ok-token-2.ensures.ok
     (c.in_ok-write_made.ensures ∙ ap (λ (s : ShownFacts). c.token-2.new.self ++ member_tokens (codes "program_version") (string notes.version)
     ++ member_tokens (codes "told_by") (string notes.told_by) ++ member_tokens (codes "command") (string notes.command)
     ++ member_tokens (codes "settings") (string s.settings)) c.shown.view_is)
-    c.in_ok-write_plans.ensures c.in_ok-write_told_runs.ensures ends))
+    c.in_ok-write_plans.ensures c.in_ok-write_runs.ensures ends))
     c.token-3.ensures.ok

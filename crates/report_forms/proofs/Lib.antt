@@ -1,0 +1,2 @@
+mod Parents
+mod EachShown
