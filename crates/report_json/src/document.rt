@@ -87,9 +87,9 @@ fn written<N: Names>(
     Ok(out)
 }
 
-/// The report as a JSON document, by these names of points and codes, with what is shown beside it and the runs that are told: a line for each item and member, and a line
-/// feed at the end. docs/MACHINES.md tells its members. It is UTF-8, the same for the same report, and a reader of JSON finds that document in it,
-/// whatever characters the names have.
+/// The report as a JSON document, by these names of points and codes, with what is shown beside it and the runs that are told: a line for each item
+/// and member, and a line feed at the end. docs/MACHINES.md tells its members. It is UTF-8, the same for the same report, and a reader of JSON
+/// finds that document in it, whatever characters the names have.
 ///
 /// The census has to have a count for each of the points, and so has what is reached, of a campaign that has a depth; and there has to be a
 /// verdict for each plan that is shown. An error means that memory was refused.

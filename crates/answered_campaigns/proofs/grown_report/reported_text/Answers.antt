@@ -67,6 +67,8 @@ returns c =
     let causes_are : c.in_ok-causes.causes.items ≡ map (cause_of k.plans.now) c.args.told.causes.items =
     c.in_ok-causes.ensures ∙ ap (map (cause_of k.plans.now)) c.as_slice.ensures.value in
     let counts = c.in_ok-census.census.items in
+    let report : ReportFacts =
+    F c.clean_of.result c.as_str.result.now c.settings.inside.seed c.as_slice-4.result.now c.known.inside.depth c.as_slice-2.result.now c.as_slice-3.result.now c.in_ok-causes.causes.items in
     let most = c.in_ok-reached.reached.items in
     let facts =
     ap (λ (x : List ℕ). F c.clean_of.result x c.settings.inside.seed c.as_slice-4.result.now c.known.inside.depth c.as_slice-2.result.now c.as_slice-3.result.now c.in_ok-causes.causes.items) label_is
@@ -86,5 +88,5 @@ returns c =
     IfOk-weaker c.text_in.result _ _
     (λ text is. text_is c.args.form.now outside given k.known.now.0 k.known.now.1 lists k.plans.now c.args.verdicts.now c.args.told counts most _ _ text.items d c.in_ok-census.ensures reaches
     facts shown
-    (is ∙ ap (λ (a : Answered). text_in c.args.form.now outside.points (code_name outside.codes) (runs_told outside (told_in a.book)) _ _) runs_are))
+    (is ∙ ap (λ (a : Answered). text_in c.args.form.now outside.points (code_name outside.codes) (runs_told outside (told_in a.book)) report c.shown_of-shown.result) runs_are))
     c.text_in.ensures
