@@ -105,9 +105,9 @@ oddly middle_unmapped
 is 'the rest of a mapping of which a part went' '0 T' "$status $(left contents > "$here/said"; left live > "$here/said"; tr -d '\0' < "$here/data/a")"
 is 'lasts' '1 create a -' "$(pending)"
 oddly killed
-is 'what was stored by a process that was killed' '137 1 store old 4096 at 0' "$status $(pending)"
+is 'what was stored by a process that was killed' '137 1 store old 10 at 0' "$status $(pending)"
 oddly left_quickly
-is 'and by one that leaves quickly' '0 1 store old 4096 at 0' "$status $(pending)"
+is 'and by one that leaves quickly' '0 1 store old 10 at 0' "$status $(pending)"
 
 # By the file, not by its name.
 mkdir -p "$here/other"
