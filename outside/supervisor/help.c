@@ -12,7 +12,7 @@ const char help[] =
     "Options:\n"
     "  --order <settled|next>\n"
     "                      of several threads that want to make a call under the root one goes on, the one that was made first, and only when every\n"
-    "                      thread of the run rests; with `next`, order::next is hit before each call for which two or more wait, and a return lets the\n"
+    "                      thread of the run rests; sleeps end behind all calls; with `next`, order::next is hit before each call for which two or more wait, and a return lets the\n"
     "                      next one go first\n"
     "  --pin               random bytes of the system are the same each time, and addresses aren't random\n"
     "  -h, --help          writes this\n"

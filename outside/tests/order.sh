@@ -1,0 +1,62 @@
+# The order of calls, random bytes, and what the words of the supervisor say of them. Sourced by `test`, behind supervisor.sh.
+
+# An order of calls: the same each time, and by the scenario. The two shells are two threads; the second goes first where a return says so,
+# and the two opens and the two writes of each are asked for while both wait.
+both='(echo a1 >> log; echo a2 >> log) & (echo b1 >> log; echo b2 >> log) & wait'
+# in_order ORDER SCENARIO: what the shells wrote, in order
+in_order() {
+    new
+    under FAILPOINTS="$2" timeout -s KILL 60 "$supervisor" --order "$1" sh -c "$both" 2> "$here/faults"
+    paste -s -d ' ' "$here/data/log"
+}
+is 'in order' 'a1 a2 b1 b2' "$(in_order settled none)"
+is 'no point of the order where none is asked for' '4*open;4*write' "$(hits | tr ';' '\n' | sort | uniq -c | awk '{ print $1 "*" $2 }' | paste -s -d ';')"
+is 'the order is asked' 'a1 a2 b1 b2 order::next;open;order::next;write;order::next;open;order::next;write;open;write;open;write' \
+    "$(in_order next none) $(hits)"
+is 'the other goes first' 'b1 b2 a1 a2' "$(in_order next order::next=return)"
+is 'once both have opened the other writes first' 'b1 a1 a2 b2' "$(in_order next 'order::next=2*return')"
+gcc -std=gnu11 -O1 -Wall -Wextra -Werror -o "$here/writers" tests/writers.c -pthread
+alike() {
+    for _ in $(seq "$1"); do
+        new
+        run none --order settled "$here/writers"
+        cut -f 2,4,5,7,8 "$here/run/trace" | cksum
+    done | sort -u | wc -l
+}
+is 'four threads and a process go alike' 1 "$(alike 10)"
+new
+run none --order settled sh -c 'while :; do :; done & p=$!; echo x > a; echo y >> a; kill $p'
+is 'a thread that never rests is given up once, and told' '0 xy faults: not seen: late, the order of calls while a thread never rests: sh' \
+    "$status $(tr -d '\n' < "$here/data/a") $faults"
+
+# Sleeps: one ends when no other call waits, however short it was, and a signal ends it too.
+new
+run none --order settled "$oddities" overslept
+is 'a sleep ends behind all calls' '0 late' "$status $(tail -c 4 "$here/data/a")"
+new
+run none --order settled "$oddities" woken
+is 'or by a signal' '0' "$status$faults"
+
+# Random bytes.
+draws='import os, tempfile; tempfile.mkstemp(dir="."); print(hash("a"), os.urandom(4), open("/dev/urandom", "rb").read(4), id(os))'
+# random_twice [--pin]: how many different answers two runs give
+random_twice() {
+    for _ in 1 2; do
+        new
+        run none "$@" python3 -c "$draws"
+        printf '%s\n' "$status $said $(ls "$here/data" | paste -s -d ' ')"
+    done | sort -u | wc -l
+}
+is 'random bytes differ' 2 "$(random_twice)"
+is 'pinned, they and addresses are the same each time' 1 "$(random_twice --pin)"
+new
+run order::next=1*return --order next --pin sh -c '"$0" draws & "$0" draws & wait' "$oddities"
+is 'who waits for them may be overtaken, and is not asked' '0 order::next' "$status $(cut -f 2 "$here/run/trace" | sort -u | grep order)"
+
+for wrong in '--order' '--order any' '--pinned' '--'; do
+    new
+    # shellcheck disable=SC2086
+    run none $wrong
+    is "a word it has no meaning for: $wrong" '98 faults: usage: faults [--order settled|next] [--pin] [--] COMMAND.., or faults --help' "$status $faults"
+done
+
