@@ -29,6 +29,38 @@ run none --order settled sh -c 'while :; do :; done & p=$!; echo x > a; echo y >
 is 'a thread that never rests is given up once, and told' '0 xy faults: not seen: late, the order of calls while a thread never rests: sh' \
     "$status $(tr -d '\n' < "$here/data/a") $faults"
 
+# A record that is lost only where a thread is overtaken between two calls. What is judged is what the program left.
+gcc -std=gnu11 -O1 -Wall -Wextra -Werror -o "$here/race" tests/race.c -pthread
+cat > "$here/race.sh" <<'END'
+#!/bin/sh
+# race.sh SCENARIO, with ORDER and SOUND
+here=$(mktemp -d) && trap 'rm -rf "$here"' EXIT
+mkdir "$here/data" && printf '\0' > "$here/data/log" && "$outside/out/powercut" begin "$here/run" "$here/data" || exit 2
+said=$(cd "$here/data" && FAULTS_ROOT=$here/data FAULTS_RUN=$here/run FAILPOINTS=$1 timeout 20 "$supervisor" --order "$ORDER" "$race" "$SOUND")
+held=$(tail -c +2 "$here/data/log" | head -c "$(head -c 1 "$here/data/log" | od -An -tu1 | tr -d ' ')")
+verdict=pass
+for each in $(echo "$said" | sed 's/done //'); do case $held in *$each*) ;; *) verdict='fail lost' ;; esac; done
+printf '%s\t%s\t%s\n' "$verdict" "$1" "$("$outside/census" --hits "$here/run/trace")"
+END
+chmod 755 "$here/race.sh"
+race=$here/race
+export outside supervisor race
+mkdir "$here/proved" && ln -s "${PAKLOUR:-$outside/../dist/paklour-x86_64-linux}" "$here/proved/paklour"
+# raced ORDER SOUND POINTS: what a campaign of one fault says of runs that fail, over these points beside those of files
+raced() {
+    ORDER=$1 SOUND=$2
+    export ORDER SOUND
+    rm -f "$here/raced" "$here/race.toml"
+    printf '%s\n' 'target = "outside"' 'depth = 1' '[outside]' 'label = "race"' 'codes = ["lost"]' \
+        'points = ["sys::open", "sys::read", "sys::write", "sys::fsync"'"${3-}"']' > "$here/race.toml"
+    PATH=$here/proved:$PATH ./loop --brief "$here/race.toml" "$here/raced" "$here/race.sh" 2> "$here/faults" |
+        sed -n 's/^counts pass [0-9]* //p; s/^reduced //p' | paste -s -d ' '
+}
+is 'no fault loses the record' 'unresolved 0' "$(raced settled '')"
+# They wait four times, and each has read before the other has counted where the order is another the first, second or third time, or from the second or third on.
+is 'one that is overtaken does' 'unresolved 0 lost 5 order::next=1*return' "$(raced next '' ', "order::next"')"
+is 'and none is, where a lock is held' 'unresolved 0' "$(raced next sound ', "order::next"')"
+
 # Sleeps: one ends when no other call waits, however short it was, and a signal ends it too.
 new
 run none --order settled "$oddities" overslept
