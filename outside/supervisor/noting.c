@@ -59,10 +59,9 @@ bool may_come_later(const struct file_facts *before, uint64_t at, uint64_t lengt
 static void copy_bytes(enum kind kind, const struct key *file, int in, uint64_t at, uint64_t length) {
     static char bytes[65536];
     struct note note = {.kind = kind, .file = *file, .at = at, .length = length, .size = sizeof note + length};
-    int out = open_notes();
     uint64_t place = state->noted, copied = 0;
     struct iovec head = {&note, sizeof note};
-    bool written = in >= 0 && write_parts_at(out, &head, 1, place);
+    bool written = in >= 0 && write_parts_at(&head, 1, place);
     while (written && copied < length) {
         uint64_t left = length - copied;
         ssize_t got = pread(in, bytes, left < sizeof bytes ? left : sizeof bytes, (off_t)(at + copied));
@@ -71,11 +70,10 @@ static void copy_bytes(enum kind kind, const struct key *file, int in, uint64_t 
             memset(bytes, 0, (size_t)got);
         }
         struct iovec part = {bytes, (size_t)got};
-        written = write_parts_at(out, &part, 1, place + sizeof note + copied);
+        written = write_parts_at(&part, 1, place + sizeof note + copied);
         copied += (uint64_t)got;
     }
     if (!written) refuse("can't keep", strerror(errno));
-    close(out);
     state->noted += note.size;
 }
 

@@ -19,11 +19,11 @@ gcc -std=gnu11 -O1 -Wall -Wextra -Werror -o "$here/writers" tests/writers.c -pth
 alike() {
     for _ in $(seq "$1"); do
         new
-        run none --order settled "$here/writers"
+        run none --order settled "$here/writers" 6
         cut -f 2,4,5,7,8 "$here/run/trace" | cksum
     done | sort -u | wc -l
 }
-is 'four threads and a process go alike' 1 "$(alike 10)"
+is 'six threads and a process go alike' 1 "$(alike 10)"
 new
 run none --order settled sh -c 'while :; do :; done & p=$!; echo x > a; echo y >> a; kill $p'
 is 'a thread that never rests is given up once, and told' '0 xy faults: not seen: late, the order of calls while a thread never rests: sh' \

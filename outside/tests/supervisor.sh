@@ -20,6 +20,7 @@ for link in /proc/self/fd/%d /dev/fd/%d /proc/thread-self/fd/%d "/proc/self/root
     is "by ${link#*self/root}" '0 old old,1 resize old to 0,2 write old 7 at 0 by proc' \
         "$status $(grep open "$here/run/trace" | cut -f 5 | paste -s -d ' '),$(pending) $(cat "$here/data/old")"
 done
+# A library that is preloaded read the list itself, and crashed.
 oddly bad_parts
 is 'memory that is not there' '0 EFAULT EFAULT EFAULT EINVAL' "$status $(cut -f 8 "$here/run/trace" | sed 1d | tr -d ' ' | paste -s -d ' ')"
 oddly read_only
@@ -41,6 +42,7 @@ oddly moves
 is 'folders that it moves to' '0 here here/a here b here/c' "$status $(cut -f 5 "$here/run/trace" | paste -s -d ' ')"
 oddly at_once "$oddities"
 is 'what it lets go is free at once' 0 "$status$faults"
+# A library that makes the calls itself leaves no place where a thread is cancelled: the program hung.
 oddly cancelled
 is 'a thread that is cancelled' '0 open' "$status $(hits)"
 oddly stormy 2000
@@ -70,7 +72,9 @@ new
 run none "$supervisor" "$oddities" raw
 is 'a system that forbids its filter' 1 "$(grep -c '^faults: the system lacks seccomp .*, or forbids it: Device or resource busy$' "$here/faults")"
 for call in 'SYS_seccomp the system lacks seccomp with SECCOMP_FILTER_FLAG_WAIT_KILLABLE_RECV (Linux 5.19), or forbids it' \
-    'SYS_pidfd_getfd the system lacks pidfd_getfd, or forbids it' 'SYS_process_vm_readv the system forbids process_vm_readv'; do
+    'SYS_pidfd_open the system lacks pidfd_open, or forbids it' 'SYS_pidfd_getfd the system lacks pidfd_getfd, or forbids it' \
+    'SYS_openat2 the system lacks openat2, or forbids it' 'SYS_process_vm_readv the system forbids process_vm_readv' \
+    'SYS_process_vm_writev the system forbids process_vm_writev'; do
     new
     under timeout 20 "$oddities" denied "$(printf '#include <sys/syscall.h>\n%s' "${call%% *}" | gcc -E -P - | tail -n 1)" \
         "$supervisor" "$oddities" raw > "$here/said" 2>&1
@@ -94,7 +98,8 @@ new
 run 'sys::read=1*return(HALF);sys::write=1*return(HALF)' "$oddities" pipes_by_name
 is 'half of a write of it' 3 "$(grep write "$here/run/trace" | cut -f 8 | tr -d ' ')"
 
-# Shared mappings.
+# Shared mappings, each of which a library that was preloaded missed, or fell over: it didn't see mprotect, crashed as it read memory that was closed, took what was
+# mapped over for the file, forgot the rest of one of which a part went, and had no end to look at of a program that left quickly.
 for case in made_writable closed_memory; do
     oddly "$case"
     is "$case: what was stored lasts" '0 N123456789' "$status $(left lasting > "$here/said"; cat "$here/data/old")"
@@ -109,7 +114,7 @@ is 'what was stored by a process that was killed' '137 1 store old 10 at 0' "$st
 oddly left_quickly
 is 'and by one that leaves quickly' '0 1 store old 10 at 0' "$status $(pending)"
 
-# By the file, not by its name.
+# By the file, not by its name. A library that went by names missed a file that is cut short through a link elsewhere, and lost one that was exchanged.
 mkdir -p "$here/other"
 new
 ln "$here/data/old" "$here/other/hard"
@@ -163,7 +168,8 @@ new
 run 'sys::write=1*off->panic' sh -c 'setsid sh -c "while :; do echo x; done" > a & setsid sleep 76542 & sleep 0.1; echo y > b; echo z > b'
 is 'a panic ends what has left its session too' '99 ' "$status $(pgrep -f 'sleep 76542')"
 
-# A disk that is full under the run's folder, programs with rights of their own, and another root.
+# A disk that is full under the run's folder (it killed the program by SIGBUS where a library kept the notes in it), programs with rights of their own, and another
+# root.
 if [ "$(id -u)" = 0 ] && unshare -m true 2> "$here/faults"; then
     new
     mkdir -p "$here/small"
@@ -195,10 +201,32 @@ if [ "$(id -u)" = 0 ] && unshare -m true 2> "$here/faults"; then
 
     oddly closed_process
     is 'a process that nobody may look into, but root' '0 open' "$status $(hits)"
-    new
-    cp "$supervisor" "$here/faults_of_all" && chown -R 65534 "$here/data" "$here/run"
-    is 'and not by another' "98 faults: not followed, the system lets nobody look into: odd" "$(cd "$here/data" && setpriv --reuid 65534 --regid 65534 \
-        --clear-groups env FAULTS_ROOT="$here/data" FAULTS_RUN="$here/run" "$here/faults_of_all" "$oddities" closed_process 2> "$here/faults"; echo "$? $(cat "$here/faults")")"
+    # By a user who may do nothing but that, also in a container of his own: with other users, mounts, processes and network.
+    cp "$supervisor" "$here/faults_of_all" && cp "$oddities" "$here/odd_of_all" && cp out/powercut "$here/cut_of_all"
+    # by_user [unshare WORD..] -- CASE: on new files; the end, and what the power cut leaves of `old`
+    by_user() {
+        within=
+        while [ "$1" != -- ]; do
+            within="$within $1"
+            shift
+        done
+        new
+        rm -rf "$here/run" && mkdir -m 777 "$here/by_user" && chown -R 65534 "$here/data"
+        # shellcheck disable=SC2086
+        (cd "$here/data" && setpriv --reuid 65534 --regid 65534 --clear-groups $within sh -c '"$1/cut_of_all" begin "$1/by_user/run" "$1/data" &&
+            FAULTS_ROOT=$1/data FAULTS_RUN=$1/by_user/run "$1/faults_of_all" "$1/odd_of_all" "$2"
+            echo $? && "$1/cut_of_all" cut "$1/by_user/run" "$1/data" && cat "$1/data/old"' by_user "$here" "$2" 2>&1) | paste -s -d ' '
+        rm -rf "$here/by_user"
+    }
+    is 'as an ordinary user' '0 V123456789' "$(by_user -- in_vfork)"
+    for container in '-U' '-Urm' '-Urmpf --mount-proc' '-Urn'; do
+        # shellcheck disable=SC2086
+        setpriv --reuid 65534 --regid 65534 --clear-groups unshare $container true 2> "$here/faults" || { echo "skipped unshare $container"; continue; }
+        # shellcheck disable=SC2086
+        is "in a container of his: unshare $container" '0 V123456789' "$(by_user unshare $container -- in_vfork)"
+    done
+    is 'who may not look into a process' 'faults: not followed, the system lets nobody look into: odd_of_all 98' \
+        "$(by_user -- closed_process | sed 's/ 98 .*/ 98/')"
     new
     cp "$oddities" "$here/set_id" && chown 65534 "$here/set_id" && chmod 4755 "$here/set_id"
     run none "$here/set_id" raw
@@ -244,7 +272,13 @@ has perl && speaks Perl perl "$languages/store.pl"
 has rustc Rust && rustc -o "$here/store" "$languages/store.rs" && speaks Rust "$here/store"
 has node && speaks Node node "$languages/store.mjs"
 has javac Java && javac -d "$here" "$languages/Store.java" && speaks Java java -cp "$here" Store
-has go && (cp "$languages/store.go" "$here" && cd "$here" && GOCACHE="$here/go" CGO_ENABLED=0 go build -o store store.go) && speaks Go "$here/store"
+# By Go alone, with the C library, and static with that.
+linked='CGO_ENABLED=1 -tags=linked'
+for way in CGO_ENABLED=0 "$linked" "$linked -ldflags=-extldflags=-static"; do
+    # shellcheck disable=SC2086,SC2046
+    has go && (cp "$languages"/*.go "$here" && cd "$here" && env GOCACHE="$here/go" "${way%% *}" go build $(echo "$way" | cut -d ' ' -s -f 2-) -o store *.go) &&
+        speaks "Go, $way" "$here/store"
+done
 
 # Random files: what was noted is what there is.
 mkdir -p "$here/random"
