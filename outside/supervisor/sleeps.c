@@ -1,9 +1,11 @@
 /* Sleeps by the clock, where calls have an order. One ends once its time is over and no other call waits; of several the one first whose time
-   would be over first if nothing but sleeps took time. So it is no matter how quickly the machine does what lies between. */
+   would be over first if nothing but sleeps took time. So it is no matter how quickly the machine does what lies between. In a process of several
+   threads one may wait in a loop for what another does once it has slept, as in programs in Go: there they are as long as the system makes them. */
 #define _GNU_SOURCE
 #include "supervisor.h"
 
 #include <errno.h>
+#include <stdlib.h>
 #include <time.h>
 
 static const uint64_t A_SECOND = 1000000000, LONGEST = 2000000000;
@@ -30,6 +32,13 @@ static bool read_length(const struct call *call, uint64_t *length) {
     return true;
 }
 
+/* Once others were there they may be again. */
+static bool has_company(struct thread *thread) {
+    const char *count = thread->has_company ? NULL : status_of(thread, "Threads:");
+    if (count && atoi(count) > 1) thread->has_company = true;
+    return thread->has_company;
+}
+
 void serve_sleep(struct call *call) {
     uint64_t length;
     if (call->sleeps_until) {
@@ -37,7 +46,7 @@ void serve_sleep(struct call *call) {
         if (call->sleeps_until > slept) slept = call->sleeps_until;
         return finish(call, 0);
     }
-    if (!read_length(call, &length)) return go_on(call);
+    if (has_company(call->thread) || !read_length(call, &length)) return go_on(call);
     call->hit.wakes = now() + length;
     call->sleeps_until = slept + length + 1;
     call->waits_turn = true;

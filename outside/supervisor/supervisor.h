@@ -105,6 +105,7 @@ struct thread {
     uint64_t seen;   /* when it was known to be alive */
     int mask;        /* its umask, or -1 where that has to be asked */
     bool is_elsewhere; /* its root or its mounts aren't ours */
+    bool has_company;  /* its process had other threads */
     int folder;      /* where its names begin, or -1; `moves` is the count of changes of that by which it is known */
     struct facts of_folder;
     uint64_t moves;

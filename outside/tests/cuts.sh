@@ -98,9 +98,9 @@ new
 rm -rf "$here/run"
 truncate -s 1G "$here/data/holes" && printf end >> "$here/data/holes"
 out/powercut begin "$here/run" "$here/data"
-go none open holes pwrite begin fallocate 3 4096 1073700000 fsync create made ftruncate 1073741824 folder . fsync
+go none open holes pwrite begin fallocate 3 4096 4096000 fsync create made ftruncate 1073741824 folder . fsync
 for state in 'lasting 0' 'live 1073741824'; do
-    left "${state% *}" > /dev/null
+    out/powercut cut "$here/run" "$here/data" "${state% *}"
     is "sparse files stay sparse: $state" "1073741827 begin end ${state#* } yes" "$(stat -c %s "$here/data/holes") $(head -c 5 "$here/data/holes") \
 $(tail -c 3 "$here/data/holes") $(stat -c %s "$here/data/made") \
 $([ "$(du -skc "$here/run" "$here/data" | tail -n 1 | cut -f 1)" -lt 4000 ] && echo yes)"
