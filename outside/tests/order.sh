@@ -69,6 +69,12 @@ new
 run none --order settled "$oddities" woken
 is 'or by a signal' '0' "$status$faults"
 
+new
+run none --order settled sh -c '(while [ ! -e ../slept ]; do : > a; done) & sleep 0.01; : > ../slept; wait'
+rm -f "$here/slept"
+is 'where calls never end it ends all the same, which is told' \
+    "0 faults: not seen: late, a sleep before which other calls went for two seconds: $(readlink -f "$(command -v sleep)")" "$status $faults"
+
 # Random bytes.
 draws='import os, tempfile; tempfile.mkstemp(dir="."); print(hash("a"), os.urandom(4), open("/dev/urandom", "rb").read(4), id(os))'
 # random_twice [--pin]: how many different answers two runs give

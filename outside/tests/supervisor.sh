@@ -283,5 +283,13 @@ done
 # Random files: what was noted is what there is.
 mkdir -p "$here/random"
 is 'random files' '110 trees equal' "$(tests/random_files.py "$here/random" "$outside/out" "$supervisor" "$here/random_files" 0 30)"
+# A page of a mapped file that is a hole once a range before it was taken out, which file systems in memory don't do.
+disk=$(mktemp -d -p /var/tmp)
+case $(stat -f -c %T "$disk") in
+ext2/ext3 | xfs)
+    is 'random files on a disk' '3 trees equal' "$(tests/random_files.py "$disk" "$outside/out" "$supervisor" "$here/random_files" 12 13)" ;;
+*) echo 'skipped random files on a disk: no file system that takes out ranges' ;;
+esac
+rm -rf "$disk"
 is 'killed at some moment' '20 kills, nothing torn or silent' \
     "$(tests/random_files.py "$here/random" "$outside/out" "$supervisor" "$here/random_files" 0 20 killed)"
