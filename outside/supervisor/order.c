@@ -7,6 +7,7 @@
 #include <errno.h>
 #include <stdio.h>
 #include <stdlib.h>
+#include <sys/wait.h>
 #include <time.h>
 
 enum { MOST_THREADS = 4096, MOST_PIDS = 4194304, TRIES_AT_ONCE = 4 };
@@ -82,14 +83,25 @@ static bool read_text_of(int file, char *text, size_t room) {
 }
 
 /* The number that the system gave last, to a thread of this run or of another: no call that begins one has to be looked at, so that a signal
-   doesn't end one with EINTR. */
-static int last_begun(void) {
+   doesn't end one with EINTR. Zero where that isn't told. */
+static int last_number(void) {
     static int file = -1;
     char text[128];
     if (file < 0) file = open("/proc/loadavg", O_RDONLY | O_CLOEXEC);
     const char *last = read_text_of(file, text, sizeof text) ? strrchr(text, ' ') : NULL;
-    if (!last) lose("the system lacks /proc/loadavg", strerror(errno));
-    return atoi(last);
+    return last ? atoi(last) : 0;
+}
+
+/* In some containers that file is made up: then who is there is listed each time. */
+static bool tells_numbers(void) {
+    static int tells = -1;
+    if (tells >= 0) return tells;
+    int before = last_number();
+    pid_t made = fork();
+    if (!made) _exit(0);
+    while (made > 0 && waitpid(made, NULL, 0) < 0 && errno == EINTR) continue;
+    tells = last_number() != before;
+    return tells;
 }
 
 /* ---- at rest */
@@ -123,14 +135,15 @@ static bool look(struct looked *thread, uint64_t *turns) {
 static bool all_rest(void) {
     static int listed_until;
     uint64_t turns[2] = {0};
-    int begun = last_begun();
-    if (begun != listed_until) list_all();
+    bool told = tells_numbers();
+    int begun = last_number();
+    if (!told || begun != listed_until) list_all();
     listed_until = begun;
     unsettled = NULL;
     for (int look_number = 0; look_number < 2; look_number++)
         for (int i = 0; i < count; i++)
             if (!look(&all[i], &turns[look_number])) return false;
-    return turns[0] == turns[1] && last_begun() == begun;
+    return turns[0] == turns[1] && (told ? last_number() == begun : list_once());
 }
 
 static uint64_t since;
