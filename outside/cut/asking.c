@@ -53,8 +53,8 @@ static bool has_halves(const struct change *change) {
 
 /* Asks for each pending change; what is torn is its first half from here on. */
 static void ask(struct asking *asking, struct replay *replay) {
-    for (size_t i = 0; i < replay->pending_count; i++) {
-        struct change *change = replay->changes[replay->pending[i]];
+    for (size_t i = 0; i < replay->pending.count; i++) {
+        struct change *change = replay->pending.list[i];
         change->kept = returns(asking, &asking->keep, change);
         bool may_tear = asking->tears && change->kept && has_halves(change);
         if (may_tear && returns(asking, &asking->tear, change)) change->length /= 2;

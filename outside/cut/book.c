@@ -1,13 +1,14 @@
 #define _GNU_SOURCE
 #include "book.h"
 
-#include "../run/whole.h"
+#include "copy.h"
 
 #include <errno.h>
 #include <fcntl.h>
 #include <stdio.h>
 #include <stdlib.h>
 #include <sys/stat.h>
+#include <unistd.h>
 
 void refuse(const char *what, const char *why) {
     fprintf(stderr, "powercut: %s: %s\n", what, why);
@@ -59,12 +60,10 @@ static void write_name(FILE *out, int folder, const char *name, const struct key
 /* ---- a file's contents */
 
 static void note_contents(int folder, const char *name, int note) {
-    char bytes[65536];
-    ssize_t length;
     int in = openat(folder, name, O_RDONLY | O_NOFOLLOW | O_CLOEXEC);
     must(in >= 0, name);
-    while ((length = read(in, bytes, sizeof bytes)) > 0) must(write_whole(note, bytes, (size_t)length), name);
-    must(!length && !close(note), name);
+    copy_whole(in, note, name);
+    must(!close(note), name);
     close(in);
 }
 

@@ -1,6 +1,8 @@
 #define _GNU_SOURCE
 #include "lay.h"
 
+#include "copy.h"
+
 #include <errno.h>
 #include <fcntl.h>
 #include <stdio.h>
@@ -15,16 +17,6 @@ bool open_noted(const char *book, const struct file *file, int *in) {
     return *in >= 0;
 }
 
-/* Copies to the same place, up to so many bytes or the end. */
-static void copy(int in, int out, uint64_t at, uint64_t length, const char *path) {
-    char bytes[65536];
-    for (ssize_t got; length > 0; at += (uint64_t)got, length -= (uint64_t)got) {
-        got = pread(in, bytes, length < sizeof bytes ? length : sizeof bytes, (off_t)at);
-        must(got >= 0, path);
-        if (!got) return;
-        must(pwrite(out, bytes, (size_t)got, (off_t)at) == got, path);
-    }
-}
 
 static void write_bytes(int out, const char *bytes, uint64_t at, uint64_t length, const char *path) {
     while (length > 0) {
@@ -35,28 +27,29 @@ static void write_bytes(int out, const char *bytes, uint64_t at, uint64_t length
 }
 
 /* Where bytes that came later are: in the first copy after them that has them, else in the file as the cut found it. */
-static void write_later(const struct replay *replay, const struct change *change, int out, const char *path) {
-    const struct late_copy *found = NULL;
-    for (const struct late_copy *copy = change->file->copies; copy; copy = copy->next) {
-        bool has_it = copy->at <= change->at && change->at + change->length <= copy->at + copy->length;
-        if (copy->noted > change->noted && has_it) found = copy;
-    }
+static void write_later(const struct replay *replay, const struct change *change, const struct late_copy *after, int out,
+    const char *path) {
+    const struct late_copy *found = after;
+    while (found && !(found->at <= change->at && change->at + change->length <= found->at + found->length)) found = found->next;
     if (found) return write_bytes(out, replay->notes + found->bytes + (change->at - found->at), change->at, change->length, path);
     int in;
     if (!open_noted(replay->live, change->file, &in)) return;
-    copy(in, out, change->at, change->length, path);
+    copy_part(in, out, change->at, change->length, path);
     close(in);
 }
 
+/* A hole, where the file system has holes. */
 static void write_zeros(int out, uint64_t at, uint64_t length, const char *path) {
     static const char zeros[65536];
+    if (!length || !fallocate(out, FALLOC_FL_PUNCH_HOLE | FALLOC_FL_KEEP_SIZE, (off_t)at, (off_t)length)) return;
     for (uint64_t part; length > 0; at += part, length -= part) {
         part = length < sizeof zeros ? length : sizeof zeros;
         write_bytes(out, zeros, at, part, path);
     }
 }
 
-static void apply(const struct replay *replay, const struct change *change, int out, const char *path) {
+/* `after` are the copies that were made after that change. */
+static void apply(const struct replay *replay, const struct change *change, const struct late_copy *after, int out, const char *path) {
     struct stat told;
     uint64_t length = change->length;
     must(!fstat(out, &told), path);
@@ -64,7 +57,7 @@ static void apply(const struct replay *replay, const struct change *change, int 
     if ((change->kind == STORED || change->kind == CLEARED) && length > room) length = room;
     if (change->kind == RESIZED) must(!ftruncate(out, (off_t)change->at), path);
     else if (change->kind == CLEARED) write_zeros(out, change->at, length, path);
-    else if (change->later) write_later(replay, change, out, path);
+    else if (change->later) write_later(replay, change, after, out, path);
     else write_bytes(out, replay->notes + change->bytes, change->at, length, path);
 }
 
@@ -72,11 +65,14 @@ static void apply(const struct replay *replay, const struct change *change, int 
 void write_contents(const struct replay *replay, const struct file *file, bool all, int out, const char *path) {
     int in;
     if (open_noted(replay->base, file, &in)) {
-        copy(in, out, 0, UINT64_MAX, path);
+        copy_whole(in, out, path);
         close(in);
     }
-    for (const struct change *change = file->first; change; change = change->next_of_file)
-        if (all || change->lasts || change->kept) apply(replay, change, out, path);
+    const struct late_copy *after = file->first_copy;
+    for (const struct change *change = file->first; change; change = change->next_of_file) {
+        while (after && after->noted <= change->noted) after = after->next;
+        if (all || change->lasts || change->kept) apply(replay, change, after, out, path);
+    }
 }
 
 /* ---- files and folders */
@@ -93,7 +89,7 @@ static void lay_file(const struct laying *laying, struct file *file, int folder,
     int in, out = openat(folder, name, O_RDWR | O_CREAT | O_EXCL | O_NOFOLLOW | O_CLOEXEC, 0600);
     must(out >= 0, laying->path);
     if (laying->contents == AS_THEY_ARE && open_noted(replay->live, file, &in)) {
-        copy(in, out, 0, UINT64_MAX, laying->path);
+        copy_whole(in, out, laying->path);
         close(in);
     } else {
         write_contents(replay, file, laying->contents == AS_THEY_ARE, out, laying->path);

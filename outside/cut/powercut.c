@@ -139,7 +139,7 @@ static uint64_t length_of_trace(const char *run) {
 
 /* The first cut finds the run as its programs left it, and later ones go by that. */
 static void find_cut(struct state *state, const char *run) {
-    lock_state(state);
+    lock_state(state, run);
     if (!state->cut.done) {
         state->cut.noted = state->noted;
         state->cut.number = state->number;
@@ -233,8 +233,8 @@ static void tell_pending(const char *run) {
     static struct replay replay;
     struct state *state = state_with_root(run);
     read_run(&replay, run, state, state->cut.done ? state->cut.noted : state->noted);
-    for (size_t i = 0; i < replay.pending_count; i++) {
-        const struct change *change = replay.changes[replay.pending[i]];
+    for (size_t i = 0; i < replay.pending.count; i++) {
+        const struct change *change = replay.pending.list[i];
         printf("%zu\t%s\t%s\t", i + 1, kind_of(change), change->shown);
         if (change->kind == RESIZED) printf("to %llu\n", (unsigned long long)change->at);
         else if (is_contents(change))

@@ -1,6 +1,8 @@
 #define _GNU_SOURCE
 #include "replay.h"
 
+#include "lasting.h"
+
 #include <errno.h>
 #include <fcntl.h>
 #include <stdio.h>
@@ -9,12 +11,19 @@
 #include <sys/stat.h>
 #include <unistd.h>
 
-enum { SYSTEM_BLOCK = 4096 };
-
 static void *made(size_t size) {
     void *memory = calloc(1, size);
     must(memory, "memory");
     return memory;
+}
+
+void add_to(struct changes *changes, struct change *change) {
+    if (changes->count == changes->room) {
+        changes->room = changes->room ? 2 * changes->room : 4;
+        changes->list = realloc(changes->list, changes->room * sizeof *changes->list);
+        must(changes->list, "memory");
+    }
+    changes->list[changes->count++] = change;
 }
 
 /* ---- files and names */
@@ -121,69 +130,6 @@ static char *shown_names(const struct change *change) {
     return both;
 }
 
-/* ---- which changes last */
-
-bool is_contents(const struct change *change) { return change->kind >= WRITTEN; }
-
-static bool lasts_whole(const struct change *change) { return change->lasts && (!change->other_folder || change->other_lasts); }
-
-/* Lets go of the pending changes that last by now. */
-static void settle(struct replay *replay) {
-    size_t left = 0;
-    for (size_t i = 0; i < replay->pending_count; i++)
-        if (!lasts_whole(replay->changes[replay->pending[i]])) replay->pending[left++] = replay->pending[i];
-    replay->pending_count = left;
-}
-
-/* Names that a sync of the file itself makes last, and those of the folders that lead to it. */
-static void sync_own_names(struct replay *replay, struct file *file, uint64_t noted) {
-    for (int depth = 0; file && depth < 100; depth++, file = file->known_folder)
-        for (size_t i = 0; i < replay->pending_count; i++) {
-            struct change *change = replay->changes[replay->pending[i]];
-            bool names_it = change->kind != UNLINKED && (change->file == file || change->other_file == file);
-            if (!is_contents(change) && names_it && change->noted < noted) change->lasts = change->other_lasts = true;
-        }
-}
-
-static bool is_synced(const struct change *change, const struct note *note, const struct file *file) {
-    if (change->noted >= note->at || change->lost) return false;
-    if (note->kind == SYNCED_ALL) return true;
-    if (!is_contents(change) || change->file != file) return false;
-    if (note->kind == SYNCED || change->kind == RESIZED) return true;
-    return change->at >= note->from && change->at + change->length <= note->from + note->length;
-}
-
-static void sync_changes(struct replay *replay, const struct note *note) {
-    struct file *file = file_of(replay, &note->file);
-    for (size_t i = 0; i < replay->pending_count; i++) {
-        struct change *change = replay->changes[replay->pending[i]];
-        if (is_synced(change, note, file)) change->lasts = change->other_lasts = true;
-        if (note->kind != SYNCED || is_contents(change) || change->noted >= note->at) continue;
-        if (change->folder == file) change->lasts = true;
-        if (change->other_folder == file) change->other_lasts = true;
-    }
-    if (replay->sync_names && note->kind == SYNCED) sync_own_names(replay, file, note->at);
-    settle(replay);
-}
-
-static void lose_changes(struct replay *replay, const struct note *note) {
-    struct file *file = file_of(replay, &note->file);
-    for (size_t i = 0; i < replay->pending_count; i++) {
-        struct change *change = replay->changes[replay->pending[i]];
-        bool has_bytes = is_contents(change) && change->kind != RESIZED;
-        if (has_bytes && change->file == file && change->noted < note->at) change->lost = true;
-    }
-}
-
-/* A block that is written to is dirty again, with all that is in it. */
-static void dirty_again(struct replay *replay, const struct file *file, uint64_t at, uint64_t length) {
-    uint64_t from = at / SYSTEM_BLOCK * SYSTEM_BLOCK, to = (at + length + SYSTEM_BLOCK - 1) / SYSTEM_BLOCK * SYSTEM_BLOCK;
-    for (size_t i = 0; i < replay->pending_count; i++) {
-        struct change *change = replay->changes[replay->pending[i]];
-        if (change->lost && change->file == file && change->at < to && change->at + change->length > from) change->lost = false;
-    }
-}
-
 /* ---- the notes, one by one */
 
 /* A note, which may begin at any byte, and what follows it. */
@@ -208,14 +154,8 @@ static struct record record_at(const struct replay *replay, uint64_t at) {
 static struct change *add_change(struct replay *replay, const struct change *from) {
     struct change *change = made(sizeof *change);
     *change = *from;
-    if (replay->count == replay->room) {
-        replay->room = replay->room ? 2 * replay->room : 1024;
-        replay->changes = realloc(replay->changes, replay->room * sizeof *replay->changes);
-        replay->pending = realloc(replay->pending, replay->room * sizeof *replay->pending);
-        must(replay->changes && replay->pending, "memory");
-    }
-    replay->pending[replay->pending_count++] = replay->count;
-    replay->changes[replay->count++] = change;
+    add_to(&replay->changes, change);
+    await_sync(replay, change);
     return change;
 }
 
@@ -239,7 +179,7 @@ static void add_contents(struct replay *replay, const struct record *record) {
     };
     uint64_t end = note->at + note->length, at = note->at;
     if (note->kind == RESIZED) whole.length = 0;
-    if (replay->forgets && note->kind != RESIZED) dirty_again(replay, whole.file, note->at, note->length);
+    if (replay->forgets && note->kind != RESIZED) dirty_again(whole.file, note->at, note->length);
     if (note->kind == RESIZED || !note->length) return add_part(replay, whole, note->at, whole.length);
     while (at < end) {
         uint64_t to = note->length > replay->block ? (at / replay->block + 1) * replay->block : end;
@@ -255,8 +195,10 @@ static void add_copy(struct replay *replay, const struct record *record) {
     struct file *file = file_of(replay, &record->note.file);
     struct late_copy *copy = made(sizeof *copy);
     *copy = (struct late_copy){.noted = record->at, .at = record->note.at, .length = record->note.length,
-                               .bytes = (uint64_t)(record->bytes - replay->notes), .next = file->copies};
-    file->copies = copy;
+                               .bytes = (uint64_t)(record->bytes - replay->notes)};
+    if (file->last_copy) file->last_copy->next = copy;
+    else file->first_copy = copy;
+    file->last_copy = copy;
 }
 
 static void set_known(struct file *file, struct file *folder, const char *name) {
@@ -308,7 +250,7 @@ static void map_notes(struct replay *replay) {
 }
 
 void read_run(struct replay *replay, const char *run, const struct state *state, uint64_t noted) {
-    *replay = (struct replay){.noted = noted, .block = state->block, .sync_names = state->sync_names};
+    *replay = (struct replay){.noted = noted, .block = state->block, .names_last = (enum names_last)state->names_last};
     snprintf(replay->run, sizeof replay->run, "%s", run);
     joined(replay->base, run, "kept");
     joined(replay->live, run, "live");
@@ -322,6 +264,8 @@ void read_run(struct replay *replay, const char *run, const struct state *state,
         struct record record = record_at(replay, at);
         read_record(replay, &record);
     }
+    for (size_t i = 0; i < replay->changes.count; i++)
+        if (!lasts_whole(replay->changes.list[i])) add_to(&replay->pending, replay->changes.list[i]);
 }
 
 /* ---- names as changes leave them */
@@ -336,8 +280,8 @@ static void apply_names(struct replay *replay, const struct change *change, bool
 void names_of_changes(struct replay *replay, bool all) {
     clear_names(replay);
     read_folder(replay, replay->root, replay->base, true);
-    for (size_t i = 0; i < replay->count; i++) {
-        const struct change *change = replay->changes[i];
+    for (size_t i = 0; i < replay->changes.count; i++) {
+        const struct change *change = replay->changes.list[i];
         bool whole = all || change->kept;
         if (!is_contents(change)) apply_names(replay, change, whole || change->lasts, whole || change->other_lasts);
     }

@@ -5,6 +5,12 @@
 #include "book.h"
 
 struct file;
+struct change;
+
+struct changes {
+    struct change **list;
+    size_t count, room;
+};
 
 /* A name in a folder, and what it leads to now; null where it leads to nothing. */
 struct name {
@@ -31,7 +37,7 @@ struct change {
     struct change *next_of_file;
 };
 
-/* Bytes that were noted late, as they were then. */
+/* Bytes that were noted late, as they were then; in the order of the notes. */
 struct late_copy {
     uint64_t noted, at, length, bytes;
     struct late_copy *next;
@@ -43,7 +49,8 @@ struct file {
     bool in_base;           /* it was there as the run began */
     struct name *names;     /* of a folder */
     struct change *first, *last; /* of its contents */
-    struct late_copy *copies;
+    struct late_copy *first_copy, *last_copy;
+    struct changes contents, lost, entries, names_of_it; /* what waits for a sync: of its bytes, in it, of a name of it */
     struct file *known_folder; /* a name that it has or had */
     const char *known_name;
     char *laid;             /* where a cut laid it */
@@ -57,10 +64,10 @@ struct replay {
     char run[LONG_PATH], base[LONG_PATH], live[LONG_PATH];
     char *notes; /* all of them */
     uint64_t noted, block;
-    bool sync_names, forgets;
-    struct change **changes; /* in the order in which they were made */
-    size_t count, room;
-    size_t *pending, pending_count; /* those that don't last, by number; kept in order */
+    enum names_last names_last;
+    bool forgets;
+    struct changes changes, pending;         /* all, and those that don't last; in the order in which they were made */
+    struct changes all_names, all_contents;  /* what waits for a sync of anything */
     struct file *root, *files[HASHES];
     struct name *names[HASHES];
 };
@@ -69,7 +76,9 @@ struct replay {
 void read_run(struct replay *replay, const char *run, const struct state *state, uint64_t noted);
 
 /* Whether a change is contents. */
-bool is_contents(const struct change *change);
+static inline bool is_contents(const struct change *change) { return change->kind >= WRITTEN; }
+
+void add_to(struct changes *changes, struct change *change);
 
 /* Lets names be as they were as the run began, then as the changes that last or are kept leave them; or as all leave them. */
 void names_of_changes(struct replay *replay, bool all);

@@ -1,6 +1,7 @@
 #define _GNU_SOURCE
 #include "unseen.h"
 
+#include "copy.h"
 #include "lay.h"
 
 #include <fcntl.h>
@@ -45,16 +46,6 @@ static bool is_expected(const char *run, const char *path) {
 }
 
 /* ---- a file's contents */
-
-static bool same_bytes(int one, int other) {
-    char first[16384], second[16384];
-    for (off_t at = 0;;) {
-        ssize_t length = pread(one, first, sizeof first, at), beside = pread(other, second, sizeof second, at);
-        if (length != beside || length < 0 || memcmp(first, second, (size_t)length)) return false;
-        if (!length) return true;
-        at += length;
-    }
-}
 
 /* Whether a file's changes, all of them, give what it held at the cut. */
 static bool is_explained(const struct replay *replay, const struct file *file) {

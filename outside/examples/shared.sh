@@ -38,10 +38,14 @@ verdict() {
     exit 0
 }
 
-# traced: gives the trace to who asked for it, numbered anew, since `commit` puts two together; so its hits have no order, and aren't told
+# traced: gives the trace to who asked for it, numbered anew, since `commit` puts two together; so its hits have no order, and aren't told. A run that
+# tries the same for ever has more hits than an answer may have.
 traced() {
     [ -z "${TRACE-}" ] || awk -F '\t' -v OFS='\t' '{ $1 = NR } 1' "$here/run/trace" > "$TRACE"
-    [ -z "${HITS-}" ] || hits="	$("$outside/census" --hits "$here/run/trace")" || exit 2
+    [ -n "${HITS-}" ] || return 0
+    hits='	-'
+    [ "$(wc -l < "$here/run/trace")" -le 65536 ] || verdict unresolved
+    hits="	$("$outside/census" --hits "$here/run/trace")" || exit 2
 }
 
 # met: a fault that was never met wasn't tried

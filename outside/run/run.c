@@ -2,8 +2,10 @@
 #include "run.h"
 
 #include <errno.h>
+#include <fcntl.h>
 #include <stdio.h>
 #include <string.h>
+#include <unistd.h>
 
 struct counter *counter_named(struct state *state, const char *name) {
     uint32_t place = 2166136261u;
@@ -16,10 +18,22 @@ struct counter *counter_named(struct state *state, const char *name) {
     return NULL;
 }
 
-void lock_state(struct state *state) {
+/* The system ends the write of a process that is killed between two pages of the file. */
+static void cut_off_last_line(const char *run) {
+    char path[LONG_PATH], byte;
+    snprintf(path, sizeof path, "%s/trace", run);
+    int trace = open(path, O_RDWR | O_CLOEXEC);
+    off_t length = trace < 0 ? 0 : lseek(trace, 0, SEEK_END), whole = length;
+    while (whole > 0 && pread(trace, &byte, 1, whole - 1) == 1 && byte != '\n') whole--;
+    if (whole < length && ftruncate(trace, whole)) return; /* then who reads it says so */
+    if (trace >= 0) close(trace);
+}
+
+void lock_state(struct state *state, const char *run) {
     if (pthread_mutex_lock(&state->mutex) != EOWNERDEAD) return;
     pthread_mutex_consistent(&state->mutex);
     state->torn = true;
+    cut_off_last_line(run);
 }
 
 void add_unseen(struct state *state, const char *what, const char *name) {

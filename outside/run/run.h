@@ -28,6 +28,9 @@ struct later {
     bool never; /* the file is mapped for writing: its bytes are copied at once */
 };
 
+/* With which sync a change of names lasts: that of its folder, that of the file too, or that of anything. */
+enum names_last { WITH_FOLDER, WITH_FILE, WITH_ANY };
+
 /* The file `state` of a run's folder. */
 struct state {
     pthread_mutex_t mutex; /* between processes, and taken over where its holder was killed */
@@ -41,7 +44,7 @@ struct state {
     uint64_t number;       /* hits so far */
     uint64_t noted;        /* bytes of the notes so far */
     uint64_t block;        /* a kept write of more bytes is one change for each block of so many */
-    int sync_names;        /* a sync of a file makes its names last too */
+    int names_last;        /* as enum names_last has it */
     struct {               /* where the first cut found the run, so that states can be laid in turn */
         int done;
         uint64_t noted, number, trace;
@@ -62,7 +65,7 @@ void add_unseen(struct state *state, const char *what, const char *name);
 enum { UNSEEN_LINE = MOST_UNSEEN * (MOST_UNSEEN_TEXT + 2) + 64 };
 size_t unseen_line(struct state *state, char *line);
 
-/* Takes the run for one process, also from a holder that was killed. */
-void lock_state(struct state *state);
+/* Takes the run in that folder for one process, also from a holder that was killed: of its trace the last line is cut off, where that has no end. */
+void lock_state(struct state *state, const char *run);
 
 #endif

@@ -74,7 +74,7 @@ static void add_condition(struct steps *steps, const struct row *row) {
 static bool is_looked_at(const struct row *row, const struct looks *looks) {
     if (row->where == ON_SOCKETS) return looks->sockets;
     if (row->where == PINNED) return looks->random;
-    if (row->where == ORDERED) return looks->forks;
+    if (row->where == ORDERED) return looks->order;
     return true;
 }
 

@@ -6,7 +6,7 @@
 
 /* Which parts of the table are looked at beside those that always are. */
 struct looks {
-    bool sockets, random, forks;
+    bool sockets, random, order;
 };
 
 /* Sets the filter for this thread and all that it starts. Answers the listener, or -1 with errno. */

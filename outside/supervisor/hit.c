@@ -42,7 +42,7 @@ static long end_of_trace(void) {
 static int locks;
 
 void lock_run(void) {
-    if (!locks++) lock_state(state);
+    if (!locks++) lock_state(state, run_folder);
 }
 
 void unlock_run(void) {

@@ -8,6 +8,7 @@
 #include <errno.h>
 #include <fcntl.h>
 #include <linux/futex.h>
+#include <linux/openat2.h>
 #include <poll.h>
 #include <signal.h>
 #include <stdio.h>
@@ -162,22 +163,30 @@ static _Noreturn void run_keeper(pid_t supervisor, char **words, const struct lo
 static int hear_listener(void) {
     char probe;
     int handle = (int)syscall(SYS_pidfd_open, shared->command, 0);
-    int listener = handle < 0 ? -1 : (int)syscall(SYS_pidfd_getfd, handle, shared->listener, 0);
+    if (handle < 0) refuse("the system lacks pidfd_open, or forbids it", strerror(errno));
+    int listener = (int)syscall(SYS_pidfd_getfd, handle, shared->listener, 0);
     if (listener < 0) refuse("the system lacks pidfd_getfd, or forbids it", strerror(errno));
     struct iovec here = {&probe, 1}, there = {shared, 1};
     if (process_vm_readv(shared->command, &here, 1, &there, 1, 0) != 1)
         refuse("the system forbids process_vm_readv", strerror(errno));
+    if (process_vm_writev(shared->command, &here, 1, &there, 1, 0) != 1)
+        refuse("the system forbids process_vm_writev", strerror(errno));
     close(handle);
     return listener;
 }
 
-static void check_children(void) {
+/* What can be known before the command is there. Without openat2 names with a folder in them would go unseen. */
+static void check_system(void) {
+    struct open_how how = {.flags = O_PATH | O_CLOEXEC};
+    int folder = (int)syscall(SYS_openat2, AT_FDCWD, "/", &how, sizeof how);
+    if (folder < 0) refuse("the system lacks openat2, or forbids it", strerror(errno));
+    close(folder);
     if (access("/proc/thread-self/children", R_OK)) refuse("the system lacks /proc/PID/task/TID/children", strerror(errno));
 }
 
 int start_command(char **words, const struct looks *looks) {
     pid_t supervisor = getpid();
-    check_children();
+    check_system();
     shared = mmap(NULL, sizeof *shared, PROT_READ | PROT_WRITE, MAP_SHARED | MAP_ANONYMOUS, -1, 0);
     if (shared == MAP_FAILED || pipe2(hearing, O_CLOEXEC)) refuse("memory", strerror(errno));
     sigprocmask(SIG_SETMASK, NULL, &signals_before);

@@ -322,7 +322,7 @@ int main(int count, char **words) {
     int first = read_options(count, words);
     if (first >= count) refuse("usage", usage);
     read_variables();
-    struct looks looks = {.sockets = sees_sockets, .random = is_pinned, .forks = is_ordered()};
+    struct looks looks = {.sockets = sees_sockets, .random = is_pinned, .order = is_ordered()};
     know_root();
     listener = start_command(words + first, &looks);
     set_signals();

@@ -58,9 +58,11 @@ static void read_before(struct mapped *file) {
 
 /* ---- what was stored */
 
+/* The last page ends where the file does: what is stored behind that is nowhere. */
 static void note_page(struct mapped *file, size_t at, const char *bytes) {
-    struct iovec page = {(void *)bytes, PAGE};
-    note_bytes(STORED, &file->key, at, &page, 1, PAGE);
+    size_t length = file->length - at < PAGE ? file->length - at : PAGE;
+    struct iovec page = {(void *)bytes, length};
+    note_bytes(STORED, &file->key, at, &page, 1, length);
     memcpy(file->before + at, bytes, PAGE);
 }
 
@@ -111,11 +113,14 @@ void mapped_was_resized(const struct key *key) {
     if (file) make_room(file, length_of(file));
 }
 
+/* A hole may be by now where there were bytes, so holes are read too. */
 bool mapped_was_changed(const struct key *key) {
     struct mapped *file = written_mapped(key);
     if (!file) return false;
-    if (file->length != length_of(file)) note_length(key, length_of(file));
-    note_stores_of(file);
+    size_t length = length_of(file);
+    if (file->length != length) note_length(key, length);
+    make_room(file, length);
+    note_data(file, 0, length);
     return true;
 }
 

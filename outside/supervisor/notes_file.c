@@ -1,5 +1,5 @@
-/* Where notes go: a part of the file of notes in memory, so that a short record costs no call. Its room on the disk is taken before, so
-   that a disk without any is told. */
+/* Where notes go. Short records go to a part of the file that is in memory, so that one costs no call; its room on the disk is taken before, so
+   that a disk without any is told. A long one is a call, which costs less than the faults of fresh pages would. */
 #define _GNU_SOURCE
 #include "notes_file.h"
 
@@ -9,16 +9,18 @@
 #include <stdio.h>
 #include <sys/mman.h>
 
-enum { WINDOW = 1 << 18, LONGEST = WINDOW / 4 };
+enum { WINDOW = 1 << 16, LONGEST = 2000 };
 
 static char *window;
 static uint64_t window_from;
 static bool has_windows = true;
 
-int open_notes(void) {
+static int notes_file(void) {
+    static int notes = -1;
     char name[LONG_PATH];
+    if (notes >= 0) return notes;
     snprintf(name, sizeof name, "%s/changes", run_folder);
-    int notes = open(name, O_RDWR | O_CLOEXEC);
+    notes = open(name, O_RDWR | O_CLOEXEC);
     if (notes < 0) refuse("can't keep", strerror(errno));
     return notes;
 }
@@ -29,22 +31,20 @@ static bool move_window(void) {
     if (window && from == window_from) return true;
     if (window) munmap(window, 2 * WINDOW);
     window = NULL;
-    int notes = open_notes();
     hold_signals();
-    has_windows = !fallocate(notes, 0, (off_t)from, 2 * WINDOW);
+    has_windows = !fallocate(notes_file(), 0, (off_t)from, 2 * WINDOW);
     let_signals();
     if (!has_windows && errno != EOPNOTSUPP) refuse("can't keep", strerror(errno));
-    char *memory = has_windows ? mmap(NULL, 2 * WINDOW, PROT_READ | PROT_WRITE, MAP_SHARED, notes, (off_t)from) : MAP_FAILED;
-    close(notes);
+    char *memory = has_windows ? mmap(NULL, 2 * WINDOW, PROT_READ | PROT_WRITE, MAP_SHARED, notes_file(), (off_t)from) : MAP_FAILED;
     if (memory == MAP_FAILED) return false;
     window = memory;
     window_from = from;
     return true;
 }
 
-bool write_parts_at(int file, struct iovec *parts, int count, uint64_t at) {
+bool write_parts_at(struct iovec *parts, int count, uint64_t at) {
     while (count > 0) {
-        ssize_t length = pwritev(file, parts, count < IOV_MAX ? count : IOV_MAX, (off_t)at);
+        ssize_t length = pwritev(notes_file(), parts, count < IOV_MAX ? count : IOV_MAX, (off_t)at);
         if (length < 0) return false;
         at += (uint64_t)length;
         for (; count > 0 && (size_t)length >= parts->iov_len; count--) length -= (ssize_t)parts++->iov_len;
@@ -56,15 +56,8 @@ bool write_parts_at(int file, struct iovec *parts, int count, uint64_t at) {
     return true;
 }
 
-static bool write_in_file(struct iovec *parts, int count) {
-    int notes = open_notes();
-    bool written = write_parts_at(notes, parts, count, state->noted);
-    close(notes);
-    return written;
-}
-
 bool append_note(struct iovec *parts, int count, uint64_t size) {
-    if (size > LONGEST || !has_windows || !move_window()) return write_in_file(parts, count);
+    if (size > LONGEST || !has_windows || !move_window()) return write_parts_at(parts, count, state->noted);
     char *to = window + (state->noted - window_from);
     for (int i = 0; i < count; i++) to = mempcpy(to, parts[i].iov_base, parts[i].iov_len);
     return true;

@@ -9,8 +9,7 @@
 /* Puts a record of that size behind the last one; parts that are used up may change. */
 bool append_note(struct iovec *parts, int count, uint64_t size);
 
-/* For a record that is written part by part: the file itself, and all parts at that place. */
-int open_notes(void);
-bool write_parts_at(int file, struct iovec *parts, int count, uint64_t at);
+/* For a record that is written part by part: all parts at that place of the file. */
+bool write_parts_at(struct iovec *parts, int count, uint64_t at);
 
 #endif

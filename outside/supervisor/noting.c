@@ -56,26 +56,28 @@ bool may_come_later(const struct file_facts *before, uint64_t at, uint64_t lengt
     return true;
 }
 
+/* So many bytes of a file; zeros where it was cut short meanwhile. */
+static void read_whole_at(int in, char *bytes, size_t length, uint64_t at) {
+    size_t done = 0;
+    for (ssize_t got; done < length && (got = pread(in, bytes + done, length - done, (off_t)(at + done))) > 0;) done += (size_t)got;
+    memset(bytes + done, 0, length - done);
+}
+
+/* The first part is written with the record's head, and a short record is that part alone. */
 static void copy_bytes(enum kind kind, const struct key *file, int in, uint64_t at, uint64_t length) {
     static char bytes[65536];
     struct note note = {.kind = kind, .file = *file, .at = at, .length = length, .size = sizeof note + length};
-    int out = open_notes();
-    uint64_t place = state->noted, copied = 0;
-    struct iovec head = {&note, sizeof note};
-    bool written = in >= 0 && write_parts_at(out, &head, 1, place);
-    while (written && copied < length) {
-        uint64_t left = length - copied;
-        ssize_t got = pread(in, bytes, left < sizeof bytes ? left : sizeof bytes, (off_t)(at + copied));
-        if (got <= 0) { /* cut short meanwhile */
-            got = left < sizeof bytes ? (ssize_t)left : (ssize_t)sizeof bytes;
-            memset(bytes, 0, (size_t)got);
-        }
-        struct iovec part = {bytes, (size_t)got};
-        written = write_parts_at(out, &part, 1, place + sizeof note + copied);
-        copied += (uint64_t)got;
-    }
+    uint64_t copied = 0;
+    bool written = in >= 0;
+    do {
+        size_t some = length - copied < sizeof bytes ? (size_t)(length - copied) : sizeof bytes;
+        struct iovec parts[] = {{&note, sizeof note}, {bytes, some}};
+        if (written) read_whole_at(in, bytes, some, at + copied);
+        if (copied) written = written && write_parts_at(parts + 1, 1, state->noted + sizeof note + copied);
+        else written = written && append_note(parts, 2, note.size);
+        copied += some;
+    } while (copied < length);
     if (!written) refuse("can't keep", strerror(errno));
-    close(out);
     state->noted += note.size;
 }
 

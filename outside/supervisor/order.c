@@ -7,6 +7,7 @@
 #include <errno.h>
 #include <stdio.h>
 #include <stdlib.h>
+#include <sys/wait.h>
 #include <time.h>
 
 enum { MOST_THREADS = 4096, MOST_PIDS = 4194304, TRIES_AT_ONCE = 4 };
@@ -14,7 +15,6 @@ enum { MOST_THREADS = 4096, MOST_PIDS = 4194304, TRIES_AT_ONCE = 4 };
 static const uint64_t LONGEST = 2000000000; /* nanoseconds, until a thread that doesn't rest is given up */
 
 static enum order how;
-static uint64_t forks, listed_forks; /* threads that were begun, and how many of those when they were listed */
 
 void set_order(enum order order) { how = order; }
 bool is_ordered(void) { return how != AS_THEY_COME; }
@@ -23,11 +23,6 @@ bool may_go(struct call *call) {
     if (!is_ordered() || call->chosen) return true;
     call->waits_turn = true;
     return false;
-}
-
-void serve_fork(struct call *call) {
-    forks++;
-    go_on(call);
 }
 
 /* ---- the threads, whose files of /proc are kept open */
@@ -60,18 +55,26 @@ static bool list(pid_t process, pid_t thread) {
     return true;
 }
 
-static void list_all(void) {
+static bool list_once(void) {
+    int before = count;
     listed_count = 0;
     each_thread(list);
-    for (int i = 0; i < count; i++) close(all[i].stat), close(all[i].turns);
+    bool same = listed_count == before;
+    for (int i = 0; i < before; i++) {
+        same = same && all[i].number == listed[i].number;
+        close(all[i].stat), close(all[i].turns);
+    }
     memcpy(all, listed, (size_t)listed_count * sizeof *all);
     count = listed_count;
+    return same;
 }
 
-/* ---- at rest */
+/* Until it is the same twice: of one whose parent ends meanwhile the parent is another. */
+static void list_all(void) {
+    for (int i = 0; i < 5 && !list_once(); i++) continue;
+}
 
-static bool (*has_call)(int thread);
-static struct looked *unsettled; /* the first that isn't at rest */
+/* ---- what was begun */
 
 static bool read_text_of(int file, char *text, size_t room) {
     ssize_t length = pread(file, text, room - 1, 0);
@@ -79,13 +82,39 @@ static bool read_text_of(int file, char *text, size_t room) {
     return length > 0;
 }
 
+/* The number that the system gave last, to a thread of this run or of another: no call that begins one has to be looked at, so that a signal
+   doesn't end one with EINTR. Zero where that isn't told. */
+static int last_number(void) {
+    static int file = -1;
+    char text[128];
+    if (file < 0) file = open("/proc/loadavg", O_RDONLY | O_CLOEXEC);
+    const char *last = read_text_of(file, text, sizeof text) ? strrchr(text, ' ') : NULL;
+    return last ? atoi(last) : 0;
+}
+
+/* In some containers that file is made up: then who is there is listed each time. */
+static bool tells_numbers(void) {
+    static int tells = -1;
+    if (tells >= 0) return tells;
+    int before = last_number();
+    pid_t made = fork();
+    if (!made) _exit(0);
+    while (made > 0 && waitpid(made, NULL, 0) < 0 && errno == EINTR) continue;
+    tells = last_number() != before;
+    return tells;
+}
+
+/* ---- at rest */
+
+static bool (*has_call)(int thread);
+static struct looked *unsettled; /* the first that isn't at rest */
+
 /* Who waits for a child that has its memory sleeps as one that waits for a disk does. */
 static bool waits_for_child(int thread) {
     char text[128];
     int file = open_proc(thread, "syscall"), number = read_text_of(file, text, sizeof text) ? atoi(text) : -1;
     close(file);
-    const struct row *row = row_of(number);
-    return row && row->serve == serve_fork;
+    return number == SYS_vfork || number == SYS_clone || number == SYS_clone3;
 }
 
 /* Mixes in how often it had a turn on a processor. False where it isn't at rest. */
@@ -104,18 +133,17 @@ static bool look(struct looked *thread, uint64_t *turns) {
 
 /* Who waits, in two looks, and had no turn between them. What a thread began is there once it rests. */
 static bool all_rest(void) {
+    static int listed_until;
     uint64_t turns[2] = {0};
-    uint64_t begun = forks;
-    if (listed_forks != forks) list_all();
+    bool told = tells_numbers();
+    int begun = last_number();
+    if (!told || begun != listed_until) list_all();
+    listed_until = begun;
     unsettled = NULL;
     for (int look_number = 0; look_number < 2; look_number++)
         for (int i = 0; i < count; i++)
             if (!look(&all[i], &turns[look_number])) return false;
-    if (turns[0] != turns[1]) return false;
-    if (listed_forks == begun) return true;
-    list_all();
-    listed_forks = begun;
-    return false;
+    return turns[0] == turns[1] && (told ? last_number() == begun : list_once());
 }
 
 static uint64_t since;
@@ -133,7 +161,7 @@ bool is_settled(bool (*waits)(int thread)) {
     has_call = waits;
     if (!tries++) since = now();
     bool is_late = now() - since > LONGEST;
-    if (forks && !is_late && !all_rest()) {
+    if (!is_late && !all_rest()) {
         if (tries > TRIES_AT_ONCE) nanosleep(&(struct timespec){0, 20000}, NULL);
         return false;
     }
@@ -147,8 +175,16 @@ bool is_settled(bool (*waits)(int thread)) {
 /* Numbers are given in turn, and begin again. */
 static int age_of(const struct call *call) { return ((int)call->told.pid - command() + MOST_PIDS) % MOST_PIDS; }
 
-static int by_age(const void *one, const void *other) {
-    return age_of(*(struct call *const *)one) - age_of(*(struct call *const *)other);
+/* Sleeps come behind all calls. */
+static int by_turn(const void *first, const void *second) {
+    const struct call *one = *(struct call *const *)first, *other = *(struct call *const *)second;
+    if (one->sleeps_until != other->sleeps_until) return one->sleeps_until < other->sleeps_until ? -1 : 1;
+    return age_of(one) - age_of(other);
+}
+
+/* Whether the scenario is asked: who wants random bytes, which is no point, gets them, and sleeps wait for all others. */
+static bool is_asked(const struct call *first, const struct call *second) {
+    return how == ASKED && first->row->point != POINTS && !second->sleeps_until;
 }
 
 /* Whether the scenario lets a call go that is first of several. */
@@ -164,8 +200,8 @@ size_t next_of(struct call *const *calls, size_t calls_count) {
     size_t first = 0, which = 0;
     if (calls_count > MOST_THREADS) calls_count = MOST_THREADS;
     memcpy(sorted, calls, calls_count * sizeof *sorted);
-    qsort(sorted, calls_count, sizeof *sorted, by_age);
-    while (how == ASKED && first + 1 < calls_count && !goes_first(sorted[first])) first++;
+    qsort(sorted, calls_count, sizeof *sorted, by_turn);
+    while (first + 1 < calls_count && is_asked(sorted[first], sorted[first + 1]) && !goes_first(sorted[first])) first++;
     while (calls[which] != sorted[first]) which++;
     return which;
 }

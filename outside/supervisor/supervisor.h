@@ -3,7 +3,7 @@
    command; thread.c reaches into a thread, parts.c into its memory; known.c and find.c say which files are under the root; hit.c
    counts, traces and answers, by lines of trace.c; noting.c says what is noted, notes_file.c where; variables.c reads what was
    given. What a power cut shares is in ../run. The others are the calls: opens.c, bytes.c, copies.c, lengths.c, syncs.c, names.c
-   and maps.c of files, streams.c of pipes and sockets, pin.c of random bytes, programs.c of what is no point. */
+   and maps.c of files, streams.c of pipes and sockets, pin.c of random bytes, sleeps.c of time, programs.c of what is no point. */
 #ifndef SUPERVISOR_H
 #define SUPERVISOR_H
 
@@ -41,6 +41,7 @@ struct call {
     short events;
     size_t moved;     /* bytes of a transfer that is under way */
     uint64_t gives_up; /* when a wait for more is over, or 0 */
+    uint64_t sleeps_until; /* of a sleep, in the time of sleeps alone; else 0 */
     int held[MOST_HELD], held_count; /* descriptors that are closed once it is served */
 };
 
@@ -71,6 +72,11 @@ void interrupt(struct call *call);
 /* Or it waits: until that descriptor is ready. */
 void wait_for(struct call *call, int file, short events);
 
+/* Whether a sleep's time is over, and was so long ago; and what a signal does to it. */
+bool has_slept(const struct call *call);
+bool is_overdue(const struct call *call);
+void end_sleep(struct call *call);
+
 /* ---- the run */
 
 /* Ends every process of the run, and this one with that status. */
@@ -99,6 +105,7 @@ struct thread {
     uint64_t seen;   /* when it was known to be alive */
     int mask;        /* its umask, or -1 where that has to be asked */
     bool is_elsewhere; /* its root or its mounts aren't ours */
+    bool has_company;  /* its process had other threads */
     int folder;      /* where its names begin, or -1; `moves` is the count of changes of that by which it is known */
     struct facts of_folder;
     uint64_t moves;

@@ -87,10 +87,8 @@ const struct row table[] = {
     {SYS_setns, POINTS, serve_root, .where = ALWAYS},
     {SYS_io_uring_setup, POINTS, serve_ring, .where = ALWAYS},
     {SYS_io_setup, POINTS, serve_requests, .where = ALWAYS},
-    {SYS_fork, POINTS, serve_fork, .where = ORDERED},
-    {SYS_vfork, POINTS, serve_fork, .where = ORDERED},
-    {SYS_clone, POINTS, serve_fork, .where = ORDERED},
-    {SYS_clone3, POINTS, serve_fork, .where = ORDERED},
+    {SYS_nanosleep, POINTS, serve_sleep, ORDERED, .bytes = 1, .other_at = 2},
+    {SYS_clock_nanosleep, POINTS, serve_sleep, ORDERED, .mode = 1, .flags = 2, .bytes = 3, .other_at = 4},
     {SYS_getrandom, POINTS, serve_random, PINNED, .bytes = 1, .length = 2},
 };
 const size_t table_length = sizeof table / sizeof *table;

@@ -72,6 +72,6 @@ void serve_receive(struct call *call);
 void serve_one_message(struct call *call);
 void serve_all_messages(struct call *call);
 void serve_random(struct call *call);
-void serve_fork(struct call *call);
+void serve_sleep(struct call *call);
 
 #endif

@@ -32,13 +32,26 @@ static void read_failpoints(void) {
     }
 }
 
-/* Whether a variable has its one word; it may be left out. */
-static bool is_word(const char *name, const char *word) {
-    char what[64];
+/* Which of its words a variable has, or -1: it may be left out. */
+static int word_of(const char *name, const char *const *words) {
+    char what[128], *end = stpcpy(stpcpy(what, name), " is ");
     const char *value = getenv(name);
-    snprintf(what, sizeof what, "%s is %s or isn't set", name, word);
-    if (value && strcmp(value, word)) refuse(what, value);
-    return value;
+    if (!value) return -1;
+    for (int i = 0; words[i]; i++) {
+        if (!strcmp(value, words[i])) return i;
+        end = stpcpy(stpcpy(end, words[i]), " or ");
+    }
+    strcpy(end, "isn't set");
+    refuse(what, value);
+}
+
+static bool is_word(const char *name, const char *word) { return word_of(name, (const char *const[]){word, NULL}) == 0; }
+
+/* A file's own sync makes its names last too, or a sync of anything does. */
+static enum names_last read_sync(void) {
+    static const char *const words[] = {[WITH_FOLDER] = "strict", [WITH_FILE] = "names", [WITH_ANY] = "journal", NULL};
+    int word = word_of("FAULTS_SYNC", words);
+    return word < 0 ? WITH_FOLDER : (enum names_last)word;
 }
 
 static uint64_t read_block(void) {
@@ -88,14 +101,14 @@ void read_variables(void) {
     sees_sockets = is_word("FAULTS_SOCKETS", "1");
     read_failpoints();
     if (!where || !in) refuse("isn't set", where ? "FAULTS_RUN" : "FAULTS_ROOT");
-    forgets = is_word("FAULTS_FSYNC", "once");
+    forgets = word_of("FAULTS_FSYNC", (const char *const[]){"again", "once", NULL}) != 0;
     if (!realpath(in, run_folder)) refuse("FAULTS_RUN isn't a run's folder", in);
-    bool sync_names = is_word("FAULTS_SYNC", "names");
+    enum names_last names_last = read_sync();
     uint64_t block = read_block();
     map_state();
     tell_stranger();
     state->block = block;
-    state->sync_names = sync_names;
+    state->names_last = names_last;
     snprintf(notes, sizeof notes, "%s/changes", run_folder);
     is_kept = !access(notes, F_OK);
     set_root(where);

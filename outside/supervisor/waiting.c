@@ -44,7 +44,7 @@ static int time_left(void) {
 }
 
 static bool may_be_served(const struct call *call, short ready) {
-    if (call->waits_turn) return false;
+    if (call->waits_turn) return is_overdue(call);
     if (call->hit.wakes > now()) return false;
     return call->waits_for < 0 || ready || (call->gives_up && call->gives_up <= now());
 }
@@ -65,13 +65,15 @@ static void serve_again(size_t which) {
     serve(&call);
 }
 
-/* One that waits for a descriptor may be interrupted, as in the system. */
+/* One that waits for a descriptor, or sleeps, may be interrupted, as in the system. */
 static void interrupt_one(size_t which) {
     struct call call;
-    if (list[which].waits_for < 0 || !has_signal(thread_of((int)list[which].told.pid))) return;
+    bool may_be = list[which].waits_for >= 0 || list[which].sleeps_until;
+    if (!may_be || !has_signal(thread_of((int)list[which].told.pid))) return;
     take(which, &call);
     call.thread = thread_of((int)call.told.pid);
-    interrupt(&call);
+    if (call.sleeps_until) end_sleep(&call);
+    else interrupt(&call);
 }
 
 /* ---- turns */
@@ -89,29 +91,32 @@ static size_t all_turns(struct call **calls) {
     return count;
 }
 
+/* Where sleeps alone wait, the first one's time has to be over. */
+static bool turn_may_come(void) {
+    const struct call *first = NULL;
+    for (size_t i = 0; i < length; i++)
+        if (list[i].waits_turn && (!first || list[i].sleeps_until < first->sleeps_until)) first = &list[i];
+    return first && (!first->sleeps_until || has_slept(first));
+}
+
 /* Once all rest, and no call has come meanwhile, one goes. */
 static void take_turn(int listener) {
     struct call *calls[length + 1];
     size_t count = all_turns(calls);
-    if (!count || !is_settled(waits_here) || poll(&(struct pollfd){listener, POLLIN, 0}, 1, 0) != 0) return;
+    if (!count || !turn_may_come() || !is_settled(waits_here) || poll(&(struct pollfd){listener, POLLIN, 0}, 1, 0) != 0) return;
     struct call *next = calls[next_of(calls, count)];
     next->waits_turn = false;
     next->chosen = true;
     serve_again((size_t)(next - list));
 }
 
-static bool waits_turn(void) {
-    for (size_t i = 0; i < length; i++)
-        if (list[i].waits_turn) return true;
-    return false;
-}
 
 void wait_for_any(int listener) {
     size_t count = length;
     struct pollfd files[count + 1];
     files[count] = (struct pollfd){listener, POLLIN, 0};
     for (size_t i = 0; i < count; i++) files[i] = (struct pollfd){list[i].waits_for, list[i].events, 0};
-    poll(files, count + 1, waits_turn() ? 0 : time_left());
+    poll(files, count + 1, turn_may_come() ? 0 : time_left());
     for (size_t i = count; i-- > 0;) {
         bool over = !still_waits(&list[i]);
         list[i].is_answered = false;

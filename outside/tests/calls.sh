@@ -101,15 +101,15 @@ fails 'vdprintf fails' sys::write 'create a vdprint bc vdprint bc' 'create 0,vdp
 # Shared mappings.
 fails 'msync fails' sys::fsync 'open old map 10 store 0 ab msync 0 10 msync 0 10' 'open 0,map 0,store 0,msync EIO,msync 0'
 try none open old map 10 store 0 ab msync 0 10 store 4 yz
-is 'what msync makes last' '1 store old 4096 at 0:old=ab23456789 ' "$(pending):$(kept none)"
+is 'what msync makes last' '1 store old 10 at 0:old=ab23456789 ' "$(pending):$(kept none)"
 is 'and what was stored behind it' 'old=ab23yz6789 ' "$(kept power::keep=return)"
 is 'a shared mapping is told' 'faults: not seen: each store into the mapping of old' "$faults"
 noted 'fsync of a mapped file' 'open old map 10 store 0 ab fsync' '' 'old=ab23456789 '
-noted 'a mapping that is taken away' 'open old map 10 store 0 ab unmap' '1 store old 4096 at 0' 'old=ab23456789 '
+noted 'a mapping that is taken away' 'open old map 10 store 0 ab unmap' '1 store old 10 at 0' 'old=ab23456789 '
 try none open old map 10 store 0 ab quit 3
-is 'and at an end by _Exit' '3 1 store old 4096 at 0' "$status $(pending)"
+is 'and at an end by _Exit' '3 1 store old 10 at 0' "$status $(pending)"
 try 'sys::fsync=1*panic' open old map 10 store 0 ab fsync
-is 'and at a panic' '99 1 store old 4096 at 0' "$status $(pending)"
+is 'and at a panic' '99 1 store old 10 at 0' "$status $(pending)"
 try none create a fill 12288 fsync folder . fsync open a map 12288 store 1 a store 8192 b msync 8192 1
 is 'a sync of a part of it' '1 store a 4096 at 0' "$(pending)"
 try none create a fill 4096 fsync folder . fsync open a map 4096 ftruncate 8192 remap 8192 store 4096 a msync 0 8192

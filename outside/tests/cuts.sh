@@ -60,16 +60,21 @@ is 'a folder under another name' 'old=0123456789 way/ way/in=inside ' "$(left la
 try 'sys::fsync=1*return' open old write ab fsync
 is 'a sync that failed keeps nothing' 'old=0123456789 ' "$(left lasting | sed 's|sub/.*||')"
 try 'sys::fsync=1*return' open old write ab fsync fsync
-is 'a second one keeps all' 'old=ab23456789 ' "$(left lasting | sed 's|sub/.*||')"
-FAULTS_FSYNC=once
-export FAULTS_FSYNC
-try 'sys::fsync=1*return' open old write ab fsync fsync
-is 'with once, what the failed one lost stays lost' 'old=0123456789 ' "$(left lasting | sed 's|sub/.*||')"
+is 'nor does a second one keep what the failed one lost' 'old=0123456789 ' "$(left lasting | sed 's|sub/.*||')"
 try 'sys::fsync=1*return' open old write ab fsync write c fsync
-is 'with once, a block written again is kept' 'old=abc3456789 ' "$(left lasting | sed 's|sub/.*||')"
+is 'but for a block that is written again' 'old=abc3456789 ' "$(left lasting | sed 's|sub/.*||')"
+try 'sys::fsync=1*return' create a write b fsync folder . fsync sync
+is 'nor does a sync of all' 'a= old=0123456789 ' "$(left lasting | sed 's|sub/.*||')"
+for word in again once; do
+    FAULTS_FSYNC=$word
+    export FAULTS_FSYNC
+    [ $word = again ] && expected='old=ab23456789 ' || expected='old=0123456789 '
+    try 'sys::fsync=1*return' open old write ab fsync fsync
+    is "FAULTS_FSYNC=$word" "$expected" "$(left lasting | sed 's|sub/.*||')"
+done
 FAULTS_FSYNC=twice
 try none open old
-is 'FAULTS_FSYNC is once' '98 faults: FAULTS_FSYNC is once or isn'"'"'t set: twice' "$status $faults"
+is 'FAULTS_FSYNC is again or once' '98 faults: FAULTS_FSYNC is again or once or isn'"'"'t set: twice' "$status $faults"
 unset FAULTS_FSYNC
 
 try 'sys::fsync=1*off->panic' create a write b fsync folder . fsync
@@ -87,6 +92,29 @@ try none open old write ab fsync
 left lasting > /dev/null
 rm "$here/data/old"
 is 'a look at one state changes no other' 'old=ab23456789 ' "$(left lasting | sed 's|sub/.*||')"
+
+# Sparse files stay sparse, those that the run finds and those that it makes.
+new
+rm -rf "$here/run"
+truncate -s 1G "$here/data/holes" && printf end >> "$here/data/holes"
+out/powercut begin "$here/run" "$here/data"
+go none open holes pwrite begin fallocate 3 4096 4096000 fsync create made ftruncate 1073741824 folder . fsync
+for state in 'lasting 0' 'live 1073741824'; do
+    out/powercut cut "$here/run" "$here/data" "${state% *}"
+    is "sparse files stay sparse: $state" "1073741827 begin end ${state#* } yes" "$(stat -c %s "$here/data/holes") $(head -c 5 "$here/data/holes") \
+$(tail -c 3 "$here/data/holes") $(stat -c %s "$here/data/made") \
+$([ "$(du -skc "$here/run" "$here/data" | tail -n 1 | cut -f 1)" -lt 4000 ] && echo yes)"
+done
+
+# Time grows as changes and syncs do: of the square of them a second is too short.
+new
+run none python3 -c 'import os
+for number in range(20000):
+    file = os.open(str(number), os.O_CREAT | os.O_WRONLY)
+    os.write(file, b"x")
+    os.fsync(file)
+    os.close(file)'
+is 'many files, and a sync for each' '0 20000' "$status $(prlimit --cpu=1 out/powercut pending "$here/run" | wc -l)"
 
 # What is refused, with nothing changed.
 try none open old

@@ -150,21 +150,30 @@ is 'with each of its names' ':a= b= old=0123456789 ' "$(pending):$(kept none)"
 try none unlink old create old write b fsync
 is 'over an unlink of the name that is pending' '1 unlink old -:old=b ' "$(pending):$(kept none)"
 is 'which is older, kept or not' 'old=b ' "$(kept power::keep=return)"
+FAULTS_SYNC=journal
+try none create a create b write x open a fsync
+is 'with journal, a sync of any file makes all names last' '1 write b 1 at 0:a= b= old=0123456789 ' "$(pending):$(kept none)"
+try none rename old sub/new mkdir new open sub/in fsync unlink sub/in
+is 'of any folder, and none that come later' '1 unlink sub/in -:new/ sub/ sub/in=inside sub/new=0123456789 ' "$(pending):$(left keep none)"
+try none create a write b log old write x
+is 'as a write that syncs by itself does' '1 write a 1 at 0:a= old=0123456789x ' "$(pending):$(kept none)"
+try sys::fsync=return create a open old fsync
+is 'and one that fails does not' '1 create a -:old=0123456789 ' "$(pending):$(kept none)"
+FAULTS_SYNC=strict
+try none create a write b fsync
+is 'strict is what it is where nothing is set' '1 create a -:old=0123456789 ' "$(pending):$(kept none)"
 FAULTS_SYNC=name
 try none open old
-is 'FAULTS_SYNC is names' "98 faults: FAULTS_SYNC is names or isn't set: name" "$status $faults"
+is 'FAULTS_SYNC is one of three' "98 faults: FAULTS_SYNC is strict or names or journal or isn't set: name" "$status $faults"
 unset FAULTS_SYNC
 
-# A failed sync whose blocks the system takes for clean.
-FAULTS_FSYNC=once
-export FAULTS_FSYNC
+# A failed sync, whose blocks the system takes for clean.
 try 'sys::fsync=1*return' open old write ab fsync pwrite ab fsync
-is 'with once, a block written again with the same bytes is kept' 'old=ab23456789 ' "$(kept none)"
+is 'a block written again with the same bytes is kept' 'old=ab23456789 ' "$(kept none)"
 try 'sys::fsync=1*return' create a write bc fsync folder . fsync create a write bc fsync
-is 'with once, a file that is cut short and written again is kept' 'a=bc old=0123456789 ' "$(kept none)"
+is 'a file that is cut short and written again is kept' 'a=bc old=0123456789 ' "$(kept none)"
 try 'sys::fsync=1*return' create a fill 8192 fsync folder . fsync open a fsync pwrite z fsync
-is 'with once, the other blocks stay lost' '1 write a 4096 at 4096' "$(pending)"
-unset FAULTS_FSYNC
+is 'the other blocks stay lost' '1 write a 4096 at 4096' "$(pending)"
 
 # The cut's own hits.
 try 'sys::write=1*off->1*return' create a write b write c

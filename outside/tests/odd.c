@@ -363,6 +363,35 @@ static int denied(char **words) {
     return 126;
 }
 
+/* A parent, whose calls go first, that sleeps for much less time than its child writes. */
+static int overslept(char **words) {
+    int file = open("a", O_CREAT | O_RDWR | O_APPEND, 0644), status;
+    (void)words;
+    pid_t made = fork();
+    for (int i = 0; !made && i < 100; i++)
+        if (write(file, "x", 1) != 1) _exit(1);
+    if (!made) _exit(0);
+    usleep(100);
+    return write(file, "late", 4) != 4 || waitpid(made, &status, 0) < 0 || status;
+}
+
+static int woken(char **words) {
+    struct itimerval soon = {{0, 0}, {0, 30000}};
+    struct timespec long_time = {20, 0}, rest = {0, 0};
+    (void)words;
+    sigaction(SIGALRM, &(struct sigaction){.sa_handler = nothing, .sa_flags = SA_RESTART}, NULL);
+    setitimer(ITIMER_REAL, &soon, NULL);
+    if (old(O_RDONLY) < 0 || nanosleep(&long_time, &rest) != -1 || errno != EINTR) return wrong("a sleep");
+    return rest.tv_sec < 10 || rest.tv_sec > 19 ? wrong("the rest of it") : 0;
+}
+
+/* Random bytes, which a thread waits for where they are the same each time, between two calls. */
+static int draws(char **words) {
+    char bytes[8];
+    (void)words;
+    return old(O_RDONLY) < 0 || syscall(SYS_getrandom, bytes, 8, 0) != 8 || old(O_RDONLY) < 0;
+}
+
 static int moves(char **words) {
     (void)words;
     if (mkdir("here", 0755) || chdir("here") || close(open("a", O_CREAT | O_RDWR, 0644)) || chdir("..")) return wrong("chdir");
@@ -382,7 +411,7 @@ static const struct {
     {"middle_unmapped", middle_unmapped}, {"killed", killed}, {"left_quickly", left_quickly}, {"cancelled", cancelled},
     {"stormy", stormy}, {"in_vfork", in_vfork}, {"spawns", spawns}, {"by_descriptor", by_descriptor}, {"leaves", leaves},
     {"sleeps", sleeps}, {"rings", rings}, {"short_call", short_call}, {"denied", denied}, {"moves", moves}, {"waits_often", waits_often},
-    {"pipes_by_name", pipes_by_name},    {"closed_process", closed_process},
+    {"pipes_by_name", pipes_by_name},    {"closed_process", closed_process}, {"overslept", overslept}, {"woken", woken}, {"draws", draws},
 };
 
 int main(int count, char **words) {

@@ -4,7 +4,7 @@ cut leaves.
 
 Where all was synced, what lasts is the tree as the program left it; whatever was synced, all kept is that tree, also where each write might
 have been torn, and so is `live`. Of a tree the names, kinds, modes, contents, links and targets are compared. With `killed` the supervisor is
-killed at some moment: then all of the run ends, each line of the trace is whole, `live` is the tree, and where all kept isn't, that is told.
+killed at some moment: then all of the run ends, `live` is the tree, each line of the trace is whole once it was cut, and where all kept isn't, that is told.
 Prints a line for each difference, or how many trees were equal, or kills were.
 """
 import hashlib
@@ -63,8 +63,6 @@ def killed(folder, out, supervisor, program, seed):
         running.kill()
         running.stdout.read()  # each process of the run has it, so its end is that of all
     as_left, found = tree(data), []
-    with open(os.path.join(run, "trace"), encoding="utf-8") as trace:
-        found += [f"seed {seed}: {line}" for line in trace if line.count("\t") != 7 or not line.endswith("\n")]
     for state in (["keep", "power::keep=return"], ["live"]):
         cut = subprocess.run([powercut, "cut", run, data, *state], stderr=subprocess.PIPE, text=True, check=False)
         if "nothing ran under the supervisor" in cut.stderr:
@@ -72,6 +70,8 @@ def killed(folder, out, supervisor, program, seed):
         told = "changed, and" in cut.stderr  # where that is all that is known of a store into a mapping, the cut is refused
         if cut.returncode != 0 and not (told and cut.returncode == 2) or (not told and differences(as_left, tree(data))):
             found.append(f"seed {seed}: {state[0]}: {cut.returncode} {cut.stderr} {differences(as_left, tree(data))}")
+    with open(os.path.join(run, "trace"), encoding="utf-8") as trace:
+        found += [f"seed {seed}: {line}" for line in trace if line.count("\t") != 7 or not line.endswith("\n")]
     return found, 1
 
 

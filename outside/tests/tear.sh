@@ -59,6 +59,12 @@ try none create a fill 4096 fsync folder . fsync open a map 4096 store 1 a store
 is 'a store has half of its page' '1 store a 4096 at 0:4096 a keep 1 return,tear 1 return' \
     "$(pending):$(torn "$all" > "$here/said"; echo "$(stat -c %s "$here/data/a") $(tr -d x < "$here/data/a")") $(cut_hits)"
 
+try none open old map 10 store 0 abcdefgh unmap
+is 'of a short file half of what it has' '1 store old 10 at 0:old=abcde56789 ' "$(pending):$(torn "$all")"
+try none create a fill 4100 fsync folder . fsync open a map 4100 store 4096 abcd unmap
+is 'and so has one of the last page' '1 store a 4 at 4096:4100 abxx' \
+    "$(pending):$(torn "$all" > "$here/said"; echo "$(stat -c %s "$here/data/a") $(tail -c 4 "$here/data/a")")"
+
 # Long writes: each block by itself.
 try none create a fill 4097 folder . fsync
 is 'a torn block, and a byte that has no half' '4097 2049 keep 1 return,tear 1 return,keep 2 return' \

@@ -51,6 +51,13 @@ if command -v strace > "$here/said" && strace -o "$here/calls" true 2> "$here/fa
     under strace -qq -o "$here/calls" -P "$here/data/a" -e trace=statx -e inject=statx:signal=KILL "$supervisor" "$component" create a > "$here/said" 2>&1
     is 'a change that was killed before its note' "powercut: changed, and nobody saw how: a: the supervisor was killed as it noted a change old=0123456789 " \
         "$(left lasting 2>&1 | paste -s -d ' ' | sed 's|sub/.*||')"
+    # One that is killed as it writes a line of the trace may leave a part of it, where the line goes over two pages.
+    new
+    under strace -qq -o "$here/calls" -P "$here/run/trace" -e trace=write -e inject=write:signal=KILL:when=2 "$supervisor" "$component" open old \
+        write ab > "$here/said" 2>&1
+    printf '2\tsys::wri' >> "$here/run/trace"
+    is 'of a line of the trace all is there, or nothing' 'old=ab23456789 sys::open' \
+        "$(left live 2>&1 | paste -s -d ' ' | sed 's|sub/.*||')$(cut -f 2 "$here/run/trace" | paste -s -d ' ')"
 else
     echo 'skipped a change that was killed before its note: no strace'
 fi

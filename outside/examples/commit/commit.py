@@ -8,7 +8,9 @@ Logs are files, so their writes and syncs are points of the supervisor. FLAW:
   sound            where it isn't set
   lazy_prepare     a prepare record is written, and not synced before the vote
   early_end        the coordinator forgets a transaction whatever was acknowledged
-  abort_on_doubt   a coordinator whose commit record failed tells the participants to abort, though the record may last"""
+  abort_on_doubt   a coordinator whose commit record failed tells the participants to abort, though the record may last
+With TOGETHER the participants are asked at once, and keep one log, which each opens for a record of its own:
+  looks_for_end    it looks for the log's end and writes there, and not by O_APPEND"""
 import os
 import socket
 import sys
@@ -16,6 +18,7 @@ import sys
 from paklour_points import hit
 
 FLAW = os.environ.get("FLAW", "sound")
+TOGETHER = bool(os.environ.get("TOGETHER"))
 NAMES = ("a", "b")
 GONE = 3  # another process is gone, or the outcome is in doubt: recovery decides
 
@@ -44,6 +47,27 @@ class Log:
         return self.is_whole
 
 
+class SharedLog:
+    """The log of both participants. A record has a line feed before it and a mark behind it, since the other's may stand there by half."""
+
+    def __init__(self, folder, name):
+        self.path, self.name = log_name(folder, "participants"), name
+        self.is_whole = True
+
+    def append(self, record, is_forced):
+        line = f"\n{self.name} {record};".encode()
+        try:
+            file = os.open(self.path, os.O_WRONLY | (0 if FLAW == "looks_for_end" else os.O_APPEND))
+            end = os.lseek(file, 0, os.SEEK_END)
+            self.is_whole = self.is_whole and (os.pwrite(file, line, end) if FLAW == "looks_for_end" else os.write(file, line)) == len(line)
+            if self.is_whole and is_forced:
+                os.fsync(file)
+            os.close(file)
+        except OSError:
+            self.is_whole = False
+        return self.is_whole
+
+
 class Peer:
     """The other end of a socket."""
 
@@ -67,7 +91,7 @@ class Peer:
 
 
 def participant(folder, name, coordinator):
-    log = Log(folder, name)
+    log = (SharedLog if TOGETHER else Log)(folder, name)
     coordinator.end.sendall(b"ready\n")
     while True:
         what, _, number = coordinator.hear().partition(" ")
@@ -87,11 +111,16 @@ def tell(text):
     os.write(1, f"{text}\n".encode())
 
 
+def asked(participants, point, text, answer):
+    """Those that give that answer: asked in turn, or all at once."""
+    if TOGETHER:
+        sent = [each for each in participants if each.send(point, text)]
+        return [each for each in sent if each.hear() == answer]
+    return [each for each in participants if each.send(point, text) and each.hear() == answer]
+
+
 def transact(log, participants, number):
-    voted = []
-    for each in participants:
-        if each.send("commit::send_prepare", f"prepare {number}") and each.hear() == "yes":
-            voted.append(each)
+    voted = asked(participants, "commit::send_prepare", f"prepare {number}", "yes")
     decides = len(voted) == len(participants)
     is_kept = decides and log.append(f"commit {number}", True)
     if decides and not is_kept and FLAW != "abort_on_doubt":
@@ -102,8 +131,8 @@ def transact(log, participants, number):
             each.send("commit::send_outcome", f"abort {number}")
         return
     tell(f"done {number}")
-    heard = [each.send("commit::send_outcome", f"commit {number}") and each.hear() == "ack" for each in participants]
-    if all(heard) or FLAW == "early_end":
+    heard = asked(participants, "commit::send_outcome", f"commit {number}", "ack")
+    if len(heard) == len(participants) or FLAW == "early_end":
         log.append(f"end {number}", FLAW == "early_end")
 
 
@@ -138,7 +167,11 @@ def run(folder, transactions):
 
 
 def records(folder, name):
-    """The whole lines of a log."""
+    """The whole records of a log."""
+    if TOGETHER and name in NAMES:
+        with open(log_name(folder, "participants"), encoding="utf-8", errors="replace") as log:
+            whole = [line.strip() for line in log]
+        return set(line[2:-1] for line in whole if line.startswith(name) and line.endswith(";"))
     with open(log_name(folder, name), encoding="utf-8", errors="replace") as log:
         return set(line[:-1] for line in log if line.endswith("\n"))
 

@@ -1,6 +1,7 @@
 // store write FOLDER FROM UPTO: opens a LevelDB, or with ROCKSDB defined a RocksDB, and commits the batches FROM to UPTO, each of two
 // keys, each synced; writes `done N` when batch N was acknowledged.
 // store check FOLDER UPTO DONE..: opens it and writes what became of the batches: ok, or the first promise that is broken.
+// THREADS says by how many threads at once, each of which takes the next batch of its own turn: 1.
 // SIZE is how long a value is, 100 bytes and a number behind them. PARANOID, where it is set, opens for writing with the store's
 // `paranoid_checks`.
 #ifdef ROCKSDB
@@ -13,11 +14,14 @@ using namespace rocksdb;
 using namespace leveldb;
 #endif
 
+#include <atomic>
 #include <cstdio>
 #include <cstdlib>
 #include <cstring>
 #include <set>
 #include <string>
+#include <thread>
+#include <vector>
 
 static std::string key(int batch, int part) {
     char name[32];
@@ -42,10 +46,10 @@ static DB *opened(const char *folder, bool is_writing) {
     return store;
 }
 
-static int write_batches(DB *store, int from, int upto) {
+static int write_batches(DB *store, int from, int upto, int step) {
     WriteOptions synced;
     synced.sync = true;
-    for (int batch = from; batch < upto; batch++) {
+    for (int batch = from; batch < upto; batch += step) {
         WriteBatch both;
         for (int part = 0; part < 2; part++) both.Put(key(batch, part), value(batch, part));
         Status status = store->Write(synced, &both);
@@ -56,6 +60,17 @@ static int write_batches(DB *store, int from, int upto) {
         dprintf(1, "done %d\n", batch);
     }
     return 0;
+}
+
+static int write_by_threads(DB *store, int from, int upto) {
+    const char *said = getenv("THREADS");
+    int count = said ? atoi(said) : 1;
+    std::atomic<int> status{0};
+    std::vector<std::thread> threads;
+    for (int i = 1; i < count; i++) threads.emplace_back([&, i] { status |= write_batches(store, from + i, upto, count); });
+    status |= write_batches(store, from, upto, count);
+    for (std::thread &each : threads) each.join();
+    return status;
 }
 
 static const char *judged(DB *store, int upto, const std::set<int> &done) {
@@ -89,7 +104,7 @@ int main(int count, char **words) {
     int status = 0;
     std::set<int> done;
     for (int i = 4; i < count; i++) done.insert(atoi(words[i]));
-    if (is_writing) status = write_batches(store, atoi(words[3]), *done.begin());
+    if (is_writing) status = write_by_threads(store, atoi(words[3]), *done.begin());
     else puts(judged(store, atoi(words[3]), done));
     delete store;
     return status;

@@ -1,0 +1,66 @@
+/* Sleeps by the clock, where calls have an order. One ends once its time is over and no other call waits; of several the one first whose time
+   would be over first if nothing but sleeps took time. So it is no matter how quickly the machine does what lies between. In a process of several
+   threads one may wait in a loop for what another does once it has slept, as in programs in Go: there they are as long as the system makes them. */
+#define _GNU_SOURCE
+#include "supervisor.h"
+
+#include <errno.h>
+#include <stdlib.h>
+#include <time.h>
+
+static const uint64_t A_SECOND = 1000000000, LONGEST = 2000000000;
+
+static uint64_t slept; /* the time in which nothing but sleeps takes time */
+
+static bool is_common(clockid_t clock) {
+    return clock == CLOCK_REALTIME || clock == CLOCK_MONOTONIC || clock == CLOCK_BOOTTIME || clock == CLOCK_TAI;
+}
+
+static uint64_t nanoseconds(const struct timespec *time) { return (uint64_t)time->tv_sec * A_SECOND + (uint64_t)time->tv_nsec; }
+
+/* How long a sleep is to be; false where it is none of those that are held, or one that the system refuses. */
+static bool read_length(const struct call *call, uint64_t *length) {
+    const struct row *row = call->row;
+    clockid_t clock = row->mode ? (clockid_t)argument(call, row->mode) : CLOCK_REALTIME;
+    struct timespec asked, time;
+    if (!is_common(clock) || read_memory(call->thread, argument(call, row->bytes), &asked, sizeof asked) != sizeof asked) return false;
+    if (asked.tv_sec < 0 || asked.tv_nsec < 0 || (uint64_t)asked.tv_nsec >= A_SECOND) return false;
+    *length = nanoseconds(&asked);
+    if (!(argument(call, row->flags) & TIMER_ABSTIME)) return true;
+    if (clock_gettime(clock, &time)) return false;
+    *length = *length > nanoseconds(&time) ? *length - nanoseconds(&time) : 0;
+    return true;
+}
+
+/* Once others were there they may be again. */
+static bool has_company(struct thread *thread) {
+    const char *count = thread->has_company ? NULL : status_of(thread, "Threads:");
+    if (count && atoi(count) > 1) thread->has_company = true;
+    return thread->has_company;
+}
+
+void serve_sleep(struct call *call) {
+    uint64_t length;
+    if (call->sleeps_until) {
+        if (!call->chosen) unseen("late, a sleep before which other calls went for two seconds:", program_of(call->thread));
+        if (call->sleeps_until > slept) slept = call->sleeps_until;
+        return finish(call, 0);
+    }
+    if (has_company(call->thread) || !read_length(call, &length)) return go_on(call);
+    call->hit.wakes = now() + length;
+    call->sleeps_until = slept + length + 1;
+    call->waits_turn = true;
+}
+
+bool has_slept(const struct call *call) { return call->hit.wakes <= now(); }
+
+bool is_overdue(const struct call *call) { return call->sleeps_until && call->hit.wakes + LONGEST <= now(); }
+
+/* Where the call says so, it is told how much of the time is left. */
+void end_sleep(struct call *call) {
+    const struct row *row = call->row;
+    uint64_t time = now(), left = call->hit.wakes > time ? call->hit.wakes - time : 0, to = argument(call, row->other_at);
+    struct timespec rest = {(time_t)(left / A_SECOND), (long)(left % A_SECOND)};
+    if (to && !(argument(call, row->flags) & TIMER_ABSTIME)) write_memory(call->thread, to, &rest, sizeof rest);
+    finish(call, -EINTR);
+}

@@ -1,0 +1,5 @@
+//go:build linked
+
+package main
+
+import "C" // so that the C library is linked
