@@ -8,9 +8,13 @@ from pathlib import Path
 
 from . import definition, programs, script
 from .answers import DIFFERS, Answers, Stopped
+from .bounds import Bounds
 from .campaign import Campaign
+from .disk import disk_of
 from .paklour import Paklour
 from .processes import WITHIN, Processes
+from .records import Records
+from .room import Room
 from .run import Runner
 from .settings import Settings
 from .shown import show
@@ -96,8 +100,8 @@ def run_harness(loop: str, options: dict[str, str], path: str, processes: Proces
     settings = Settings(harness, folder, answers, options.get("--settings"), depth_of(options), kinds_of(options))
     work = Work(note)
     try:
-        runner = Runner(harness, work, processes, whole_number(options.get("--seconds", "60")), bytes_of(options.get("--bytes", "1G")))
-        decider = decider_of(runner, settings, bytes_of(options.get("--room", "1G")), "--every-run" in options)
+        runner = Runner(harness, work, processes, room_of(options, work.folder))
+        decider = decider_of(runner, settings, "--every-run" in options)
         runner.prepare()
         if "--try" in options:
             return watched(decider, options["--try"])
@@ -105,6 +109,11 @@ def run_harness(loop: str, options: dict[str, str], path: str, processes: Proces
     finally:
         processes.end()
         work.end()
+
+
+def room_of(options: dict[str, str], folder: Path) -> Room:
+    bounds = Bounds(whole_number(options.get("--seconds", "60")), bytes_of(options.get("--bytes", "1G")))
+    return Room(disk_of(str(folder)), bytes_of(options.get("--room", "1G")), bounds, Records())
 
 
 def depth_of(options: dict[str, str]) -> int | None:

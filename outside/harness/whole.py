@@ -15,7 +15,6 @@ from .definition import Harness
 from .judging import UNRESOLVED
 from .outcome import Outcome
 from .paklour import Paklour
-from .records import Records
 from .run import Runner
 from .settings import Settings
 from .shown import show
@@ -195,5 +194,5 @@ def findings(report: bytes, codes: list[str]) -> list[str]:
     return list(dict.fromkeys(found))
 
 
-def decider_of(runner: Runner, settings: Settings, room: int, every_run: bool) -> Decider:
-    return Decider(runner, Records(room), settings.asking(), settings.depth or 64, every_run)
+def decider_of(runner: Runner, settings: Settings, every_run: bool) -> Decider:
+    return Decider(runner, settings.asking(), settings.depth or 64, every_run)

@@ -150,6 +150,24 @@ class Trees(Campaigns):
             change(folder)
             self.assertNotEqual(tree.digest(folder), before, name)
 
+    def test_holes_are_not_read(self):
+        """Of four terabytes, four hundred bytes are there, in two places."""
+        folder = self.here / "sparse"
+        folder.mkdir()
+        with open(folder / "large", "wb") as file:
+            file.write(b"a" * 200)
+            file.seek(1 << 40)
+            file.write(b"b" * 200)
+            file.truncate(4 << 40)
+        tree.copy(str(folder), f"{self.here}/copied")
+        self.assertEqual(tree.digest(folder), tree.digest(f"{self.here}/copied"))
+        self.assertEqual((self.here / "copied" / "large").stat().st_size, 4 << 40)
+        self.assertLess(tree.size(f"{self.here}/copied"), 1 << 20)
+        with open(folder / "large", "r+b") as file:
+            file.seek((1 << 40) + 199)
+            file.write(b"c")
+        self.assertNotEqual(tree.digest(folder), tree.digest(f"{self.here}/copied"))
+
 
 if __name__ == "__main__":
     unittest.main()
