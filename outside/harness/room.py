@@ -21,6 +21,7 @@ from .shown import show_once
 
 LOOKS_EVERY = 0.05  # seconds
 LOOKS_LESS = 4  # times as long as a look takes pass before the next
+LEAST = 16 << 20  # bytes that always stay free
 SHARE = 4  # a campaign takes one in so many of the bytes that are free when it begins
 
 Made = TypeVar("Made")
@@ -112,7 +113,7 @@ class Room:
             raise Crowded from error
 
     def full(self) -> str:
-        return f"{self.disk.folder}: {self.disk.free()} bytes are free, and a campaign leaves {self.stays_free}: go on with another TMPDIR"
+        return f"{self.disk.folder}: {self.disk.free()} bytes are free, too few for a run that took {self.largest}: go on with another TMPDIR"
 
     # ---- its folder
 
@@ -179,7 +180,9 @@ class Room:
     # ---- looking
 
     def is_short(self) -> bool:
-        return self.disk.free() < self.stays_free
+        """One that is made alone may go further: to twice what a run took."""
+        stays = min(self.stays_free, max(2 * self.largest, LEAST)) if self.is_alone else self.stays_free
+        return self.disk.free() < stays
 
     def watch(self) -> None:
         tick = threading.Event()
