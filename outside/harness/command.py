@@ -100,7 +100,7 @@ def run_harness(loop: str, options: dict[str, str], path: str, processes: Proces
     settings = Settings(harness, folder, answers, options.get("--settings"), depth_of(options), kinds_of(options))
     work = Work(note)
     try:
-        runner = Runner(harness, work, processes, room_of(options, work.folder))
+        runner = Runner(harness, work, processes, room_of(options, work.folder.parent))
         decider = decider_of(runner, settings, "--every-run" in options)
         runner.prepare()
         if "--try" in options:

@@ -189,7 +189,8 @@ class Room:
         took = 0.0
         while not tick.wait(max(LOOKS_EVERY, LOOKS_LESS * took)):
             begun = time.monotonic()
-            self.look()
+            with contextlib.suppress(FileNotFoundError):  # a run's folder goes meanwhile
+                self.look()
             took = time.monotonic() - begun
 
     def look(self) -> None:
