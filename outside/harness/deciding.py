@@ -107,6 +107,11 @@ class Decider:
     def run_again(self, text: str, looks_up: LooksUp) -> Outcome:
         return self.room.within(lambda: self.run(text, looks_up))
 
+    def passes(self, **variables: str) -> bool:
+        """Whether the run without faults does, with these in the environment of its programs."""
+        decider = Decider(self.runner.with_variables(**variables), self.asking, self.depth, every_run=True)
+        return decider.run_again("none", LooksUp.NONE).verdict == PASS
+
     def run(self, text: str, looks_up: LooksUp) -> Outcome:
         record = self.runner.make(text)
         outcome = self.finish(record, len(record.points) + 1, text, looks_up)

@@ -1,9 +1,11 @@
 """One run of a program under a scenario, from the files that it finds to those that a power cut leaves."""
 
+import copy
 import os
 import subprocess
 import sys
 import threading
+from dataclasses import replace
 from pathlib import Path
 
 from . import programs, tree
@@ -39,6 +41,12 @@ class Runner:
 
     def environment(self, folder: Path, **more: str) -> dict[str, str]:
         return LINUX | os.environ | {"HARNESS": str(self.harness.folder), "TMPDIR": str(folder / "tmp")} | self.harness.variables | more
+
+    def with_variables(self, **variables: str) -> "Runner":
+        """The same with more of its environment."""
+        other = copy.copy(self)
+        other.harness = replace(self.harness, variables=self.harness.variables | variables)
+        return other
 
     def start(self, words: list[str], folder: Path, said: Path, **variables: str) -> tuple[int, str]:
         """Runs a step in the data's folder; its status, and why it says nothing."""

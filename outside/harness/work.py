@@ -33,7 +33,7 @@ class Note:
         self.digest = digest
         known = json.loads(path.read_text()) if path.exists() else {}
         if answered and known.get("harness") != digest:
-            raise Stopped(f"{path.parent}/answers are those of another harness: take them away, and begin anew")
+            raise Stopped(f"{path.parent}/answers are those of another harness, or of other variables FAULTS_..: take them away, and begin anew")
         left = Path(known.get("work", ""))
         if left.name.startswith(PREFIX) and left.is_dir():
             tree.remove(str(left))

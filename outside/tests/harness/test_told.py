@@ -182,6 +182,16 @@ class Shown(Campaigns):
         self.assertEqual(lines, ["power::keep 1 (log) is kept [return]", "power::tear 1 (log) is kept by half [return]"])
         self.assertEqual(done.out.splitlines()[-1], "fail lost: of what is pending 1 (write log 22 at 23) is kept by half")
 
+    def test_which_file_system_a_run_without_faults_trusts(self):
+        """A new file is synced, and its folder isn't; or a name comes after each sync."""
+        folder = self.harness(run="#!/bin/sh\nprintf new > note && sync note && echo saved\n", judge=JUDGES)
+        told = self.loop("--into", self.here, folder).told
+        self.assertIn("loop: it passes with FAULTS_SYNC=names in the environment of the loop: a file's own sync makes its name last too\n", told)
+        told = self.loop("--into", self.here / "other", NOTE, FLAW="no_folder_sync").told
+        self.assertIn("loop: it fails with FAULTS_SYNC=journal and names too: ", told)
+        told = self.loop("--into", self.here / "named", NOTE, FLAW="no_folder_sync", FAULTS_SYNC="names").told
+        self.assertNotIn("FAULTS_SYNC", told)
+
     def test_it_stops_at_the_first(self):
         done = self.loop("-j", 1, "-x", "--into", self.here, NOTE, FLAW="unchecked_sync")
         self.assertEqual(done.status, 1)

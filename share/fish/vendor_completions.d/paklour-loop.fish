@@ -14,6 +14,8 @@ complete -c paklour-loop -l try -x -d 'shows one run, hit by hit, and ends with 
 complete -c paklour-loop -l whole -d 'writes the whole report'
 complete -c paklour-loop -l junit -d 'leaves junit.xml too'
 complete -c paklour-loop -l json -d 'leaves report.json too'
+complete -c paklour-loop -l shard -x -d 'of N machines this is the Kth, and tries its share'
+complete -c paklour-loop -l join -r -d 'takes over the answers of the folders below that one, and then goes on'
 complete -c paklour-loop -l every-run -d 'runs and judges each plan, whatever is known'
 complete -c paklour-loop -l room -x -d 'what all runs together may take on the disk, as 500M'
 complete -c paklour-loop -l bytes -x -d 'what one run may write'
