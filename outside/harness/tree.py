@@ -5,6 +5,7 @@ import os
 import shutil
 import stat
 from collections.abc import Iterator
+from fnmatch import fnmatchcase
 from typing import BinaryIO
 
 BLOCK = 1 << 20
@@ -56,14 +57,14 @@ def digest_of_parts(file: BinaryIO, length: int) -> bytes:
     return state.digest()
 
 
-def digest(folder: str) -> bytes:
-    """Of names, contents, links and modes."""
+def digest(folder: str, leaves_out: tuple[str, ...] = ()) -> bytes:
+    """Of names, contents, links and modes; of files with a name of these patterns without their contents."""
     state = hashlib.sha256()
     first_name: dict[int, str] = {}
     for name, told in entries(folder):
         same = first_name.setdefault(told.st_ino, name)
         state.update(repr((name, told.st_mode, same)).encode())
-        if same == name:
+        if same == name and not any(fnmatchcase(name, pattern) for pattern in leaves_out):
             state.update(contents_of(f"{folder}/{name}", told))
     return state.digest()
 

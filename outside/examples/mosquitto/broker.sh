@@ -6,7 +6,7 @@ start() {
     printf '%s\n' "listener 0 $socket" 'allow_anonymous true' 'persistence true' 'persistence_location ./' 'autosave_interval 0' \
         "user $(id -un)" > "$TMPDIR/config"
     : > "$TMPDIR/told"
-    mosquitto -c "$TMPDIR/config" > "$TMPDIR/told" 2>&1 &
+    /usr/sbin/mosquitto -c "$TMPDIR/config" > "$TMPDIR/told" 2>&1 &
     broker=$!
     until grep -q ' running$' "$TMPDIR/told"; do
         kill -0 "$broker" 2>> "$TMPDIR/log" || return

@@ -86,6 +86,20 @@ class Follows(Campaigns):
         self.assertLess(known[2], small[2])
 
 
+class Unjudged(Campaigns):
+    def judgements(self, name, **more):
+        folder = self.harness(run="#!/bin/sh\ndate +%N > log; sync log .; printf new > new && sync new && mv new note && sync . && echo saved\n",
+            judge="#!/bin/sh\n[ ! -s \"$SAID\" ] || [ -s note ] || { echo lost; exit 1; }\n", **more)
+        done = self.loop("-j", 2, "--no-kinds", "--into", self.here / name, folder)
+        self.assertEqual(done.status, 0, done.told)
+        shutil.rmtree(folder)
+        return int(re.search(r"(\d+) judgements", done.told)[1])
+
+    def test_what_the_judge_does_not_look_into(self):
+        """A file with the time makes each state another, but where it is said not to count."""
+        self.assertLess(2 * self.judgements("left_out", unjudged="log\n"), self.judgements("all"))
+
+
 class Torn(Campaigns):
     """What is kept by half is another cut of a run that is known. Of two writes to a file, the second is never synced."""
 

@@ -3,6 +3,7 @@
 import os
 import sys
 import unittest
+from pathlib import Path
 
 from .base import OUTSIDE, Campaigns
 
@@ -149,6 +150,15 @@ class Trees(Campaigns):
             folder = self.made(name)
             change(folder)
             self.assertNotEqual(tree.digest(folder), before, name)
+
+    def test_what_is_left_out(self):
+        folder = self.made("judged")
+        before = tree.digest(folder, ("sub/t*",)), tree.digest(folder, ("sub/t*", "on?"))
+        Path(folder, "one").write_text("2")
+        self.assertNotEqual(tree.digest(folder, ("sub/t*",)), before[0], "it has another name too")
+        self.assertEqual(tree.digest(folder, ("sub/t*", "on?")), before[1])
+        Path(folder, "more").touch()
+        self.assertNotEqual(tree.digest(folder, ("sub/t*", "on?")), before[1])
 
     def test_holes_are_not_read(self):
         """Of four terabytes, four hundred bytes are there, in two places."""
