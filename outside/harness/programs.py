@@ -42,7 +42,7 @@ class Tools:
         is_expected = status in (0, may_end_with)
         if not is_expected:
             self.room.look()  # it may be that there is none
-        if why := self.room.why_ended(run.parent):
+        if why := self.room.want(run.parent):
             raise TooLarge(why)
         if not is_expected:
             raise Stopped(told or f"{program.name} ended with {status}")

@@ -165,9 +165,12 @@ class Room:
 
     def why_ended(self, folder: Path) -> str:
         """Why the run was ended, or an empty text where it wasn't."""
-        making = self.makings[folder]
-        if not making.is_crowded:
-            return making.why
+        return self.want(folder) or self.makings[folder].why
+
+    def want(self, folder: Path) -> str:
+        """That there is no room for the run, or an empty text where there is."""
+        if not self.makings[folder].is_crowded:
+            return ""
         if not self.is_alone:
             raise Crowded
         if self.is_short():

@@ -1,6 +1,7 @@
 """Scenarios, hits and digests, by worked examples."""
 
 import os
+import signal
 import sys
 import unittest
 from pathlib import Path
@@ -160,23 +161,33 @@ class Trees(Campaigns):
         Path(folder, "more").touch()
         self.assertNotEqual(tree.digest(folder, ("sub/t*", "on?")), before[1])
 
-    def test_holes_are_not_read(self):
-        """Of four terabytes, four hundred bytes are there, in two places."""
-        folder = self.here / "sparse"
+    def sparse(self, name, length):
+        """A file of that length, of which four hundred bytes are there, in two places."""
+        folder = self.here / name
         folder.mkdir()
         with open(folder / "large", "wb") as file:
             file.write(b"a" * 200)
-            file.seek(1 << 40)
+            file.seek(length // 4)
             file.write(b"b" * 200)
-            file.truncate(4 << 40)
-        tree.copy(str(folder), f"{self.here}/copied")
-        self.assertEqual(tree.digest(folder), tree.digest(f"{self.here}/copied"))
-        self.assertEqual((self.here / "copied" / "large").stat().st_size, 4 << 40)
-        self.assertLess(tree.size(f"{self.here}/copied"), 1 << 20)
-        with open(folder / "large", "r+b") as file:
+            file.truncate(length)
+        return folder
+
+    def test_holes_are_not_read(self):
+        """It takes no time, and would take hours."""
+        self.addCleanup(signal.alarm, 0)
+        signal.alarm(20)
+        before = tree.digest(self.sparse("sparse", 4 << 40))
+        with open(self.here / "sparse" / "large", "r+b") as file:
             file.seek((1 << 40) + 199)
             file.write(b"c")
-        self.assertNotEqual(tree.digest(folder), tree.digest(f"{self.here}/copied"))
+        self.assertNotEqual(tree.digest(self.here / "sparse"), before)
+
+    def test_holes_are_not_copied(self):
+        folder = self.sparse("sparse", 100 << 20)
+        tree.copy(str(folder), f"{self.here}/copied")
+        self.assertEqual(tree.digest(folder), tree.digest(f"{self.here}/copied"))
+        self.assertEqual((folder / "large").read_bytes(), (self.here / "copied" / "large").read_bytes())
+        self.assertLess(tree.size(f"{self.here}/copied"), 1 << 20)
 
 
 if __name__ == "__main__":

@@ -101,6 +101,11 @@ class Unresolved(Campaigns):
         line = self.first_line(run="#!/bin/sh\n: > here; yes | head -c 3000000\n", judge=JUDGES)
         self.assertEqual("unresolved: it wrote more than 1048576 bytes: none", line)
 
+    def test_one_that_is_shown(self):
+        folder = self.harness(run="#!/bin/sh\nhead -c 3000000 /dev/zero > here\n", judge=JUDGES)
+        done = self.loop("--bytes", "1M", folder, "--try", "none")
+        self.assertEqual((done.status, done.out.splitlines()[-1]), (0, "unresolved: it wrote more than 1048576 bytes: without any fault"), done.told)
+
     def test_what_it_began_is_ended(self):
         folder = self.harness(run=f"#!/bin/sh\n: > here; setsid sleep 77 & echo $! > {self.here}/pid; sleep 30\n", judge=JUDGES)
         self.assertEqual(self.loop("--seconds", 1, folder).status, 2)
