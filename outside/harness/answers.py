@@ -17,6 +17,10 @@ class Stopped(Exception):
         self.status = status
 
 
+def whole_lines(text: bytes) -> list[str]:
+    return text.decode("utf-8", "surrogateescape").split("\n")[:-1]
+
+
 class Answers:
     """One loop at a time has them. Stopped at any moment, it goes on by them later."""
 
@@ -39,7 +43,7 @@ class Answers:
 
     def lines(self) -> list[str]:
         """Those that end: what a killed writer left of the last one is none."""
-        return self.text().decode("utf-8", "surrogateescape").split("\n")[:-1]
+        return whole_lines(self.text())
 
     def cut_torn(self) -> None:
         """Takes back what is behind the last whole line."""

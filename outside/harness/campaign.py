@@ -53,10 +53,10 @@ class Campaign:
             self.tell()
         self.paklour.look()
 
-    def grow(self, after: Callable[[str], None] = lambda answer: None) -> None:
-        """Tries what is asked until nothing is; each answer that was kept is handed on."""
+    def grow(self, after: Callable[[str], None] = lambda answer: None, mine: Callable[[list[str]], list[str]] = lambda asked: asked) -> None:
+        """Tries what is asked until nothing is, or nothing of one's own; each answer that was kept is handed on."""
         before: list[str] = []
-        while asked := self.paklour.asks():
+        while asked := mine(self.paklour.asks()):
             if asked == before:
                 raise Stopped(f"{self.engine.name} answers nothing that is asked")
             before, self.waiting, known = asked, len(asked), self.answers.count

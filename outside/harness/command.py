@@ -8,18 +8,24 @@ from pathlib import Path
 
 from . import definition, programs, script
 from .answers import DIFFERS, Answers, Stopped
+from .bounds import Bounds
 from .campaign import Campaign
+from .disk import disk_of
 from .paklour import Paklour
 from .processes import WITHIN, Processes
+from .records import Records
+from .room import Room
 from .run import Runner
 from .settings import Settings
+from .shard import join, shard_of
 from .shown import show
 from .watching import watched
 from .whole import FORMS, Asked, Whole, decider_of
 from .words import ASK_HELP, Usage, as_called, bytes_of, shows_progress, split, usage_of, whole_number, write_help
 from .work import Note, Work
 
-WITH_VALUE = {"-j", "--seconds", "--engine", "--script", "--depth", "--try", "--into", "--room", "--bytes", "--failures", "--settings"}
+WITH_VALUE = {"-j", "--seconds", "--engine", "--script", "--depth", "--try", "--into", "--room", "--bytes", "--failures", "--settings", "--shard",
+    "--join"}
 FLAGS = {*ASK_HELP, "--brief", "--strict", "--progress", "--no-recheck", "--hits", "-x", "--every-run", "--kinds", "--no-kinds", "--whole", "--junit",
     "--json"}
 
@@ -80,7 +86,8 @@ def asked_of(loop: str, options: dict[str, str], path: str) -> Asked:
     failures = 1 if "-x" in options else whole_number(options["--failures"]) if "--failures" in options else None
     words = [as_called(loop), path, *(["--into", options["--into"]] if "--into" in options else [])]
     return Asked(shlex.join(words), whole_number(options.get("-j", os.environ.get("PROCESSES") or "4")), shows_progress(options),
-        "--whole" not in options, "--strict" in options, [form for form in FORMS if form in options], failures)
+        "--whole" not in options, "--strict" in options, [form for form in FORMS if form in options], failures,
+        shard_of(options["--shard"]) if "--shard" in options else None)
 
 
 def run_harness(loop: str, options: dict[str, str], path: str, processes: Processes) -> int:
@@ -88,16 +95,18 @@ def run_harness(loop: str, options: dict[str, str], path: str, processes: Proces
     programs.check_built()
     harness = definition.read(path)
     folder = Path(options.get("--into", harness.folder))
-    folder.mkdir(exist_ok=True)
+    folder.mkdir(parents=True, exist_ok=True)
     asked = asked_of(loop, options, path)
     answers = Answers(str(folder / "answers"))
     answers.cut_torn()
     note = None if "--try" in options else Note(folder / "campaign.json", harness.digest(), answers.count)
+    if "--join" in options:
+        join(Path(options["--join"]), harness.digest(), answers)
     settings = Settings(harness, folder, answers, options.get("--settings"), depth_of(options), kinds_of(options))
     work = Work(note)
     try:
-        runner = Runner(harness, work, processes, whole_number(options.get("--seconds", "60")), bytes_of(options.get("--bytes", "1G")))
-        decider = decider_of(runner, settings, bytes_of(options.get("--room", "1G")), "--every-run" in options)
+        runner = Runner(harness, work, processes, room_of(options, work.folder.parent))
+        decider = decider_of(runner, settings, "--every-run" in options)
         runner.prepare()
         if "--try" in options:
             return watched(decider, options["--try"])
@@ -105,6 +114,11 @@ def run_harness(loop: str, options: dict[str, str], path: str, processes: Proces
     finally:
         processes.end()
         work.end()
+
+
+def room_of(options: dict[str, str], folder: Path) -> Room:
+    bounds = Bounds(whole_number(options.get("--seconds", "60")), bytes_of(options.get("--bytes", "1G")))
+    return Room(disk_of(str(folder)), bytes_of(options.get("--room", "1G")), bounds, Records())
 
 
 def depth_of(options: dict[str, str]) -> int | None:

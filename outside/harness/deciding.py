@@ -9,14 +9,17 @@ import shutil
 import threading
 from pathlib import Path
 
-from . import programs, tree
+from . import tree
 from .answers import DIFFERS, Stopped
 from .definition import ALL_STATES, Harness
 from .judging import PASS, UNRESOLVED, Judge, Judgement, LooksUp
 from .outcome import Outcome
-from .records import Key, Records, key_of, lasting_faults
-from .run import Record, Runner
+from .record import Record
+from .records import Key, key_of, lasting_faults
+from .room import TooLarge
+from .run import Runner
 from .scenario import Scenario, Unreadable, hits_text, keeping, scenario_of
+from .trace import trace_of
 
 ONE_IN = 20  # of what follows is tried
 NAMES = {"create", "mkdir", "symlink", "link", "unlink", "rmdir", "rename", "exchange"}
@@ -37,11 +40,13 @@ def is_tried(scenario: str) -> bool:
 
 
 class Decider:
-    def __init__(self, runner: Runner, records: Records, asking: str | None, depth: int, every_run: bool):
+    def __init__(self, runner: Runner, asking: str | None, depth: int, every_run: bool):
         self.runner = runner
+        self.tools = runner.tools
+        self.room = runner.room
         self.harness: Harness = runner.harness
         self.judge = Judge(runner)
-        self.records = records
+        self.records = runner.room.records
         self.asking = asking  # the state of a power cut that asks the scenario; None where it isn't asked
         self.depth = depth  # a run with so many faults has no others that follow
         self.every_run = every_run
@@ -70,9 +75,15 @@ class Decider:
             self.made_bases.add(key)
         if is_new:
             record = self.runner.make(scenario_of(key))
-            self.keep(key_of(programs.trace(record.run)), record)
+            self.keep(key_of(trace_of(record.run)), record)
 
     def decide(self, text: str) -> Outcome:
+        outcome = self.room.within(lambda: self.decided(text))
+        with self.lock:
+            self.followed += outcome.follows
+        return outcome
+
+    def decided(self, text: str) -> Outcome:
         base = self.base_of(text)
         if base is None:
             self.make_base(text)
@@ -80,39 +91,52 @@ class Decider:
         outcome = self.follow(text, *base) if base else None
         if outcome is None:
             outcome = self.run(text, LooksUp.NONE if self.every_run else LooksUp.ALL)
-        if outcome.follows:
-            with self.lock:
-                self.followed += 1
-            if is_tried(text):
-                self.try_out(outcome)
+        if outcome.follows and is_tried(text):
+            self.try_out(outcome)
         return outcome
 
     def try_out(self, followed: Outcome) -> Outcome:
         """Runs and judges it, whatever is known of it."""
+        tried = self.run(followed.scenario, LooksUp.NONE)
         with self.lock:
             self.tried += 1
-        tried = self.run(followed.scenario, LooksUp.NONE)
         if (tried.verdict, tried.hits) != (followed.verdict, followed.hits):
             raise Differs(followed, tried)
         return tried
+
+    def run_again(self, text: str, looks_up: LooksUp) -> Outcome:
+        return self.room.within(lambda: self.run(text, looks_up))
+
+    def passes(self, **variables: str) -> bool:
+        """Whether the run without faults does, with these in the environment of its programs."""
+        decider = Decider(self.runner.with_variables(**variables), self.asking, self.depth, every_run=True)
+        return decider.run_again("none", LooksUp.NONE).verdict == PASS
 
     def run(self, text: str, looks_up: LooksUp) -> Outcome:
         record = self.runner.make(text)
         outcome = self.finish(record, len(record.points) + 1, text, looks_up)
         outcome.follows = outcome.judgement.is_known
-        self.keep(key_of(programs.trace(record.run)[:len(record.points)]), record)
+        self.keep(key_of(trace_of(record.run)[:len(record.points)]), record)
         return outcome
 
     def keep(self, key: Key, record: Record) -> None:
         ends = any(fault.answer.startswith("panic") for fault in key)
+        size = tree.size(record.folder)
         if record.why or ends or len(key) >= self.depth or self.every_run:
             tree.remove(record.folder)
+            self.room.end(record.folder, size)
         else:
-            self.records.give(key, record)
+            self.room.end(record.folder, size)
+            self.records.give(key, record, size)
+            self.room.make_way()
 
     def follow(self, text: str, key: Key, hit: int) -> Outcome | None:
         """Lays it out from the run that it follows from, which is made again where it wasn't kept; None where that run doesn't tell."""
-        record = self.records.take(key) or self.made_again(key)
+        record = self.records.take(key)
+        if record:
+            self.room.begin(record.folder)
+        else:
+            record = self.made_again(key)
         outcome = None if record.why else self.finish(record, hit, text, LooksUp.ALL)
         if outcome:
             outcome.follows = True
@@ -131,15 +155,21 @@ class Decider:
     def finish(self, record: Record, hit: int, text: str, looks_up: LooksUp) -> Outcome | None:
         """Cuts the power of a run at that hit, goes on where the harness has an `again`, and judges what is left."""
         if record.why:
-            return Outcome(text, Judgement(UNRESOLVED, record.why), programs.trace(record.run))
+            return Outcome(text, Judgement(UNRESOLVED, record.why), trace_of(record.run))
+        try:
+            return self.finished(record, hit, text, looks_up)
+        except TooLarge as found:
+            return Outcome(text, Judgement(UNRESOLVED, str(found)), trace_of(record.run))
+
+    def finished(self, record: Record, hit: int, text: str, looks_up: LooksUp) -> Outcome | None:
         run, said = record.run, record.said()
         is_end = hit == len(record.points) + 1
         if "again" in self.harness.steps or not is_end:
             if not record.is_cut:
-                programs.cut(record.run, record.data)
+                self.tools.cut(record.run, record.data)
             run = record.folder / "rewound"
             shutil.rmtree(run, ignore_errors=True)
-            length = programs.rewind(record.run, run, hit, text)
+            length = self.tools.rewind(record.run, run, hit, text)
             if length is None:
                 return None
             said = said if length < 0 else said[:length]
@@ -153,25 +183,25 @@ class Decider:
         more = record.folder / "said_again"
         more.unlink(missing_ok=True)
         state = [self.asking, text] if self.asking else ["lasting"]
-        pending = programs.pending(run) if "power::" in text else []
-        if not programs.cut(run, record.data, *state, goes_on=True):
-            return Outcome(text, Judgement(UNRESOLVED, "the scenario pauses"), programs.trace(run))
+        pending = self.tools.pending(run) if "power::" in text else []
+        if not self.tools.cut(run, record.data, *state, goes_on=True):
+            return Outcome(text, Judgement(UNRESOLVED, "the scenario pauses"), trace_of(run))
         _, why = self.runner.under("again", run, record.folder, text, more)
         if why:
-            return Outcome(text, Judgement(UNRESOLVED, why), programs.trace(run))
+            return Outcome(text, Judgement(UNRESOLVED, why), trace_of(run))
         outcome = self.cut_and_judge(record.folder, run, text, said + more.read_bytes(), looks_up, lays_states=True)
         outcome.pending = pending + outcome.pending
         return outcome
 
     def cut_and_judge(self, folder: Path, run: Path, text: str, said: bytes, looks_up: LooksUp, lays_states: bool) -> Outcome:
         """Judges each state that a power cut may leave, up to the first that breaks a promise."""
-        trace = programs.trace(run)
+        trace = trace_of(run)
         judgements = []
         for state in self.states(run, text, lays_states):
-            if not programs.cut(run, folder / "data", *state):
-                return Outcome(text, Judgement(UNRESOLVED, "the scenario pauses"), programs.trace(run))
+            if not self.tools.cut(run, folder / "data", *state):
+                return Outcome(text, Judgement(UNRESOLVED, "the scenario pauses"), trace_of(run))
             if self.asking:
-                trace = programs.trace(run)
+                trace = trace_of(run)
             judgements.append(self.judge.judge(folder, said, looks_up))
             if judgements[-1].verdict != PASS:
                 break
@@ -179,7 +209,7 @@ class Decider:
         is_known = all(each.is_known for each in judgements)
         outcome = Outcome(text, Judgement(judgement.verdict, judgement.why, is_known), trace)
         if outcome.verdict.startswith("fail"):
-            outcome.pending = programs.pending(run)
+            outcome.pending = self.tools.pending(run)
         return outcome
 
     def states(self, run: Path, text: str, lays_states: bool) -> list[list[str]]:
@@ -187,7 +217,7 @@ class Decider:
         known as it is, but all changes are."""
         if self.asking:
             return [[self.asking, text]]
-        changes = programs.pending(run)
+        changes = self.tools.pending(run)
         names = [int(change[0]) for change in changes if change[1] in NAMES]
         contents = [int(change[0]) for change in changes if change[1] not in NAMES]
         kept = {"lasting": [], "names": names, "contents": contents, "live": sorted(names + contents)}

@@ -29,6 +29,7 @@ class Harness:
     states: tuple[str, ...] = ()  # those that are judged where no power::keep is among the points; else what the scenario keeps
     order: str = "settled"
     pins: bool = True
+    unjudged: tuple[str, ...] = ()  # patterns of names of files into which the judge doesn't look, as logs with times
 
     def digest(self) -> str:
         """Of all on which an answer depends here, but for the program itself."""
@@ -61,7 +62,12 @@ def read_folder(place: Path) -> Harness:
     for file in files:
         if not os.access(file, os.X_OK):
             raise Stopped(f"{file} can't be run: chmod +x")
-    return Harness(place.name, place, files, {file.name: [str(file)] for file in files})
+    harness = Harness(place.name, place, files, {file.name: [str(file)] for file in files})
+    patterns = place / "unjudged"
+    if patterns.exists():
+        harness.unjudged = tuple(patterns.read_text("utf-8").split())
+        harness.files.append(patterns)
+    return harness
 
 
 def read_file(file: Path, name: str) -> Harness:
@@ -72,7 +78,7 @@ def read_file(file: Path, name: str) -> Harness:
     steps = {step: words_of(file, step, told[step]) for step in STEPS if step in told}
     functions = frozenset(step for step in steps if told[step] is None)
     harness = Harness(name, file.parent, [file], steps, functions, told.get("environment", {}), tuple(told.get("states", ())),
-        told.get("order", "settled"), told.get("pin", True))
+        told.get("order", "settled"), told.get("pin", True), tuple(told.get("unjudged", ())))
     if unknown := set(harness.states) - set(ALL_STATES):
         raise Stopped(f"{file}: no such state: {', '.join(sorted(unknown))}")
     if harness.order not in ("settled", "next", "arrival"):

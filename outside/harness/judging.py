@@ -37,7 +37,7 @@ class Judge:
 
     def judge(self, folder: Path, said: bytes, looks_up: LooksUp) -> Judgement:
         """Judges the data of a run's folder, or says what is known of its like."""
-        key = hashlib.sha256(said).digest() + tree.digest(folder / "data")
+        key = hashlib.sha256(said).digest() + tree.digest(folder / "data", self.runner.harness.unjudged)
         known = self.known.get(key) if looks_up != LooksUp.NONE else None
         if known and (looks_up == LooksUp.ALL or known.verdict == PASS):
             return known

@@ -3,8 +3,8 @@
 from dataclasses import dataclass, field
 
 from .judging import Judgement
-from .programs import MOST_HITS
 from .scenario import hits_text
+from .trace import MOST_HITS
 
 
 @dataclass

@@ -1,10 +1,10 @@
-"""Runs that were made, kept as long as there is room: from each of them others follow."""
+"""Runs that were made, kept as long as there is room (room.py): from each of them others follow."""
 
 import threading
 from collections import OrderedDict
 
 from . import tree
-from .run import Record
+from .record import Record
 from .scenario import POWER, Fault, Scenario
 
 Key = frozenset[Fault]
@@ -16,9 +16,8 @@ def key_of(record_trace: list[list[str]]) -> Key:
 
 
 class Records:
-    def __init__(self, room: int):
-        self.room = room
-        self.taken = 0
+    def __init__(self) -> None:
+        self.taken = 0  # bytes on the disk
         self.lock = threading.Lock()
         self.points: dict[Key, list[str]] = {}  # what such a run hits
         self.kept: OrderedDict[Key, list[tuple[Record, int]]] = OrderedDict()
@@ -32,16 +31,18 @@ class Records:
             self.taken -= size
             return record
 
-    def give(self, key: Key, record: Record) -> None:
-        """Keeps it; the ones that weren't used for longest go where there is no room."""
-        size = tree.size(record.folder)
-        gone = []
+    def give(self, key: Key, record: Record, size: int) -> None:
         with self.lock:
             self.points.setdefault(key, record.points)
             self.kept.setdefault(key, []).append((record, size))
             self.kept.move_to_end(key)
             self.taken += size
-            while self.taken > self.room and self.kept:
+
+    def shrink(self, most: int) -> None:
+        """To so many bytes: the ones that weren't used for longest go."""
+        gone = []
+        with self.lock:
+            while self.taken > most and self.kept:
                 _, oldest = self.kept.popitem(last=False)
                 gone += oldest
                 self.taken -= sum(taken for _, taken in oldest)

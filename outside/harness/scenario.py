@@ -116,6 +116,15 @@ def hits_text(points: list[str]) -> str:
     return ";".join(f"{count}*{point}" if count > 1 else point for point, count in stretches)
 
 
+def points_of(hits: str) -> list[str]:
+    """The same back: the points of hits as an answer tells them, in order; none where nobody knows them."""
+    points = []
+    for stretch in hits.split(";") if hits not in ("", "-") else []:
+        count, _, point = stretch.rpartition("*") if stretch[0].isdigit() else ("", "", stretch)
+        points += [point] * int(count or 1)
+    return points
+
+
 def numbered(points: Iterable[str]) -> list[tuple[str, int]]:
     """Each hit with its number among those of its point."""
     counts: Counter[str] = Counter()

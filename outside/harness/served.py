@@ -10,6 +10,7 @@ from pathlib import Path
 from .answers import Stopped
 from .definition import STEP
 from .processes import WITHIN, Processes
+from .room import Room
 from .step import LATE
 
 FOR_EVER = 1 << 30  # seconds
@@ -29,18 +30,27 @@ class Served:
         words = [str(WITHIN), str(FOR_EVER), "-", sys.executable, str(STEP), str(self.file), "--serve"]
         return self.processes.start(words, stdin=subprocess.PIPE, stdout=subprocess.PIPE)
 
-    def call(self, step: str, folder: Path, output: Path, errors: Path, environment: dict[str, str], seconds: int) -> int | None:
-        """Its status; None where it was ended, since it took too long."""
+    def call(self, step: str, folder: Path, output: Path, environment: dict[str, str], room: Room) -> tuple[int, str]:
+        """Its status, and why it says nothing: it was ended, or an empty text."""
         server = self.take()
-        asked = {"step": step, "folder": str(folder), "output": str(output), "errors": str(errors), "environment": environment, "seconds": seconds}
-        try:
-            server.stdin.write(json.dumps(asked).encode() + b"\n")
-            server.stdin.flush()
-            told = server.stdout.readline().decode().strip()
-        except BrokenPipeError:
-            told = ""
+        files = {"folder": str(folder / "data"), "output": str(output), "errors": str(folder / "errors")}
+        asked = {"step": step, "environment": environment, "seconds": room.bounds.seconds} | files
+        with room.watched(server, folder):
+            told = ask(server, json.dumps(asked))
+        if why := room.why_ended(folder):
+            return 0, why
         if not told:
             raise Stopped(f"{self.file}: its Python ended")
         with self.lock:
             self.free.append(server)
-        return None if told == LATE else int(told)
+        return (0, f"ended after {room.bounds.seconds} seconds") if told == LATE else (int(told), "")
+
+
+def ask(server: subprocess.Popen, line: str) -> str:
+    """Its answer; an empty text where it has ended."""
+    try:
+        server.stdin.write(line.encode() + b"\n")
+        server.stdin.flush()
+        return server.stdout.readline().decode().strip()
+    except BrokenPipeError:
+        return ""

@@ -5,7 +5,10 @@ import os
 import shutil
 import stat
 from collections.abc import Iterator
+from fnmatch import fnmatchcase
+from typing import BinaryIO
 
+BLOCK = 1 << 20
 Entry = tuple[str, os.stat_result]  # a name below the folder, and what the system says of it
 
 
@@ -18,25 +21,66 @@ def entries(folder: str, below: str = "") -> Iterator[Entry]:
             yield from entries(folder, name)
 
 
-def contents_of(path: str, mode: int) -> bytes:
-    if stat.S_ISLNK(mode):
+def contents_of(path: str, told: os.stat_result) -> bytes:
+    if stat.S_ISLNK(told.st_mode):
         return os.fsencode(os.readlink(path))
-    if stat.S_ISREG(mode):
+    if stat.S_ISREG(told.st_mode):
         with open(path, "rb", buffering=0) as file:
-            return hashlib.file_digest(file, "sha256").digest()
+            return digest_of_parts(file, told.st_size) if is_sparse(told) else hashlib.file_digest(file, "sha256").digest()
     return b""
 
 
-def digest(folder: str) -> bytes:
-    """Of names, contents, links and modes."""
+def is_sparse(told: os.stat_result) -> bool:
+    return told.st_size > BLOCK and told.st_blocks * 512 < told.st_size
+
+
+def parts(file: int, length: int) -> Iterator[tuple[int, int]]:
+    """Where bytes are, and not holes: beginnings and lengths."""
+    at = 0
+    while at < length:
+        try:
+            at = os.lseek(file, at, os.SEEK_DATA)
+        except OSError:
+            return  # a hole up to the end
+        end = min(os.lseek(file, at, os.SEEK_HOLE), length)
+        yield at, end - at
+        at = end
+
+
+def digest_of_parts(file: BinaryIO, length: int) -> bytes:
+    """A hole of terabytes isn't read."""
+    state = hashlib.sha256(b"%d" % length)
+    for at, size in parts(file.fileno(), length):
+        state.update(b" %d %d " % (at, size))
+        for begin in range(at, at + size, BLOCK):
+            state.update(os.pread(file.fileno(), min(BLOCK, at + size - begin), begin))
+    return state.digest()
+
+
+def digest(folder: str, leaves_out: tuple[str, ...] = ()) -> bytes:
+    """Of names, contents, links and modes; of files with a name of these patterns without their contents."""
     state = hashlib.sha256()
     first_name: dict[int, str] = {}
     for name, told in entries(folder):
         same = first_name.setdefault(told.st_ino, name)
         state.update(repr((name, told.st_mode, same)).encode())
-        if same == name:
-            state.update(contents_of(f"{folder}/{name}", told.st_mode))
+        if same == name and not any(fnmatchcase(name, pattern) for pattern in leaves_out):
+            state.update(contents_of(f"{folder}/{name}", told))
     return state.digest()
+
+
+def copy_file(source: str, target: str, told: os.stat_result) -> None:
+    """Its holes stay holes."""
+    if not is_sparse(told):
+        shutil.copyfile(source, target)
+        return
+    with open(source, "rb", buffering=0) as file, open(target, "xb", buffering=0) as copied:
+        for at, size in parts(file.fileno(), told.st_size):
+            copied.seek(at)
+            while size > 0:
+                size -= os.sendfile(copied.fileno(), file.fileno(), at, size)
+                at = copied.tell()
+        copied.truncate(told.st_size)
 
 
 def copy(source: str, target: str) -> None:
@@ -53,7 +97,7 @@ def copy(source: str, target: str) -> None:
         elif same != name:
             os.link(f"{target}/{same}", f"{target}/{name}")
         elif stat.S_ISREG(told.st_mode):
-            shutil.copyfile(f"{source}/{name}", f"{target}/{name}")
+            copy_file(f"{source}/{name}", f"{target}/{name}", told)
             os.chmod(f"{target}/{name}", stat.S_IMODE(told.st_mode))
     for name, told in reversed(names):
         if stat.S_ISDIR(told.st_mode):
@@ -65,8 +109,9 @@ def size(folder: str) -> int:
     """What it takes on the disk, while a program may change it."""
     total = 0
     try:
-        for entry in os.scandir(folder):
-            total += size(entry.path) if entry.is_dir(follow_symlinks=False) else entry.stat(follow_symlinks=False).st_blocks * 512
+        with os.scandir(folder) as names:
+            for entry in names:
+                total += size(entry.path) if entry.is_dir(follow_symlinks=False) else entry.stat(follow_symlinks=False).st_blocks * 512
     except (FileNotFoundError, PermissionError):
         pass  # gone since it was listed, or closed to us: then it is as good as empty
     return total

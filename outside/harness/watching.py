@@ -3,7 +3,6 @@
 import sys
 from pathlib import Path
 
-from . import programs
 from .deciding import Decider
 from .judging import LooksUp
 from .outcome import Outcome
@@ -40,8 +39,9 @@ def write(line: str) -> None:
 
 def watched(decider: Decider, scenario: str) -> int:
     """Runs it, and ends with 1 where it fails."""
-    record = decider.runner.make(scenario)
-    outcome = decider.finish(record, len(record.points) + 1, scenario, LooksUp.NONE)
+    with decider.room.seat(alone=True):
+        record = decider.runner.make(scenario)
+        outcome = decider.finish(record, len(record.points) + 1, scenario, LooksUp.NONE)
     said = promises_before(record.folder)
     for hit in outcome.trace:
         for line in said.pop(int(hit[0]), []):
@@ -50,7 +50,7 @@ def watched(decider: Decider, scenario: str) -> int:
             tell_end(said)
         write(hit_line(hit))
     tell_end(said)
-    tell_rest(outcome, programs.pending(record.run))
+    tell_rest(outcome, decider.tools.pending(record.run))
     tell_errors(record.folder / "errors")
     return 1 if outcome.verdict.startswith("fail") else 0
 

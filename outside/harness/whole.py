@@ -1,6 +1,7 @@
 """A campaign of a harness, whole: its files, its lines for a person, its end."""
 
 import math
+import os
 import shlex
 import sys
 from collections import Counter
@@ -15,17 +16,19 @@ from .definition import Harness
 from .judging import UNRESOLVED
 from .outcome import Outcome
 from .paklour import Paklour
-from .records import Records
 from .run import Runner
 from .settings import Settings
+from .shard import Shard, places_in
 from .shown import show
 from .telling import failure, group_of
 from .workers import Workers
 
 LOOK_SHARE = 200  # answers of the loop's own can be read; whether runs do the same, the next round sees too
 FORMS = {"--page": "page.html", "--junit": "junit.xml", "--json": "report.json"}
-TRUST = """loop: where only a name is pending, the program trusts its file system with names: FAULTS_SYNC=names in the environment of the loop lets a
-loop: file's own sync make its name last, as ext4, XFS and Btrfs do by default"""
+TRUSTS = {  # what FAULTS_SYNC may be, and what that means
+    "journal": "a sync of anything makes earlier changes of names last, as ext4, XFS and Btrfs do by default",
+    "names": "a file's own sync makes its name last too",
+}
 
 
 @dataclass
@@ -39,6 +42,7 @@ class Asked:
     strict: bool
     forms: list[str]
     failures: int | None  # after how many it stops
+    shard: Shard | None  # of many machines, this one's share
 
 
 class Enough(Exception):
@@ -104,10 +108,20 @@ class Whole:
         if outcome.scenario == "none":
             for change in outcome.pending:
                 show(f"pending: {' '.join(change)}")
-            show(TRUST)
+            self.tell_trust()
             raise Enough
         if self.asked.failures and self.failed >= self.asked.failures:
             raise Enough
+
+    def tell_trust(self) -> None:
+        """Whether the run without faults passes on file systems that promise more of names."""
+        if "FAULTS_SYNC" in os.environ | self.harness.variables:
+            return
+        passing = [word for word in TRUSTS if self.decider.passes(FAULTS_SYNC=word)]
+        for word in passing:
+            show(f"loop: it passes with FAULTS_SYNC={word} in the environment of the loop: {TRUSTS[word]}")
+        if not passing:
+            show(f"loop: it fails with FAULTS_SYNC={' and '.join(TRUSTS)} too: no sync of a file makes good for what is pending")
 
     def tell_again(self, scenario: str) -> None:
         show(f"again: {self.asked.words} --try {shlex.quote(scenario)}")
@@ -119,8 +133,8 @@ class Whole:
         for point in self.settings.unknown_points():
             raise Stopped(f"{self.settings.path}: no program hits {point}")
         try:
-            campaign.grow()
-            return self.report()
+            campaign.grow(mine=self.mine)
+            return self.report() if not self.asked.shard else self.end_of_shard()
         except Enough:
             self.tell_again(self.last_failing)
             self.tell_counts()
@@ -128,6 +142,17 @@ class Whole:
         except Differs as found:
             self.tell_difference(found.followed.verdict, found.tried, found.followed.hits)
             return DIFFERS
+
+    def mine(self, asked: list[str]) -> list[str]:
+        if not self.asked.shard:
+            return asked
+        places = places_in(self.answers)
+        return [text for text in asked if self.asked.shard.has(text, places)]
+
+    def end_of_shard(self) -> int:
+        """A part has no report: whoever joins it with the others writes one, and tries again what fails."""
+        self.tell_counts()
+        return 1 if self.answers.failing else 0
 
     def report(self) -> int:
         status, report = self.paklour.report(*["--strict"] * self.asked.strict)
@@ -195,5 +220,5 @@ def findings(report: bytes, codes: list[str]) -> list[str]:
     return list(dict.fromkeys(found))
 
 
-def decider_of(runner: Runner, settings: Settings, room: int, every_run: bool) -> Decider:
-    return Decider(runner, Records(room), settings.asking(), settings.depth or 64, every_run)
+def decider_of(runner: Runner, settings: Settings, every_run: bool) -> Decider:
+    return Decider(runner, settings.asking(), settings.depth or 64, every_run)

@@ -10,15 +10,18 @@ from pathlib import Path
 
 from . import tree
 from .answers import Stopped
+from .disk import disk_of
 
 PREFIX = "paklour-"
 TRIES = 20  # to take it away
+MEMORY = "/dev/shm"
+ENOUGH = 1 << 30  # bytes that are free there, of which a campaign takes a fourth
 
 
 def temporary() -> str:
-    """In memory, where the system has that: with the syncs of a disk runs take several times as long."""
-    if "TMPDIR" not in os.environ and os.access("/dev/shm", os.W_OK):
-        return "/dev/shm"
+    """In memory, where enough of that is free: with the syncs of a disk runs take several times as long."""
+    if "TMPDIR" not in os.environ and os.access(MEMORY, os.W_OK) and disk_of(MEMORY).free() >= ENOUGH:
+        return MEMORY
     return tempfile.gettempdir()
 
 
@@ -30,7 +33,7 @@ class Note:
         self.digest = digest
         known = json.loads(path.read_text()) if path.exists() else {}
         if answered and known.get("harness") != digest:
-            raise Stopped(f"{path.parent}/answers are those of another harness: take them away, and begin anew")
+            raise Stopped(f"{path.parent}/answers are those of another harness, or of other variables FAULTS_..: take them away, and begin anew")
         left = Path(known.get("work", ""))
         if left.name.startswith(PREFIX) and left.is_dir():
             tree.remove(str(left))

@@ -65,6 +65,6 @@ class Workers:
     def run_again(self, scenarios: list[str]) -> Iterator[Outcome]:
         """Each by a run of its own; what breaks a promise is judged again, and the run without faults."""
         def run(text: str) -> Outcome:
-            return self.decider.run(text, LooksUp.NONE if text == "none" else LooksUp.PASSES)
+            return self.decider.run_again(text, LooksUp.NONE if text == "none" else LooksUp.PASSES)
 
         return self.side_by_side([[text] for text in scenarios], run)

@@ -3,6 +3,7 @@
 import os
 import shutil
 import subprocess
+import sys
 import tempfile
 import unittest
 from dataclasses import dataclass
@@ -41,7 +42,7 @@ class Campaigns(unittest.TestCase):
         self.environment |= {"PATH": f"{self.here}/bin:{os.environ['PATH']}", "TMPDIR": str(self.here)}
 
     def start(self, *words, **variables) -> subprocess.Popen:
-        return subprocess.Popen([LOOP, *map(str, words)], env=self.environment | variables, stdout=subprocess.PIPE, stderr=subprocess.PIPE, text=True)
+        return subprocess.Popen([sys.executable, LOOP, *map(str, words)], env=self.environment | variables, stdout=subprocess.PIPE, stderr=subprocess.PIPE, text=True)
 
     def loop(self, *words, **variables) -> Done:
         with self.start(*words, **variables) as process:

@@ -1,13 +1,23 @@
 """Which flaw is found by the settings that the loop makes, and at which depth: that of table.tsv, and no lower one."""
 
 import os
+import shutil
 import subprocess
+import sys
 import unittest
 
 from .base import LOG, NOTE, OUTSIDE, Campaigns
 
-C = {"note": str(OUTSIDE / "out" / "note"), "log": str(OUTSIDE / "out" / "log")}
-PYTHON = {"note": f"python3 {OUTSIDE}/flaws/note.py", "log": f"python3 {OUTSIDE}/flaws/log.py"}
+NAMES = ("note", "log")
+C = {name: f"{OUTSIDE}/out/{name}" for name in NAMES}
+PYTHON = {name: f"{sys.executable} -S {OUTSIDE}/flaws/{name}.py" for name in NAMES}
+GO = {name: f"{OUTSIDE}/out/{name}-go" for name in NAMES}
+LANGUAGES = [C, PYTHON, *[GO] * bool(shutil.which("go"))]
+
+
+def setUpModule():
+    if GO in LANGUAGES:
+        subprocess.run(["make", "-s", "-C", OUTSIDE, *[f"out/{name}-go" for name in NAMES]], check=True)
 
 
 class Flaws(Campaigns):
@@ -21,20 +31,21 @@ class Flaws(Campaigns):
             kept.unlink()
         return fails[0] if fails else ""
 
-    def both(self, expected, *words):
-        for programs in (C, PYTHON):
+    def each(self, expected, *words):
+        """In each language."""
+        for programs in LANGUAGES:
             self.assertRegex(self.found(*words, programs=programs), f"^{expected}$")
 
     def test_a_sync_that_is_not_looked_at(self):
-        self.both(r"fail lost: the 1st sys::fsync \(new\) fails", NOTE, "unchecked_sync")
+        self.each(r"fail lost: the 1st sys::fsync \(new\) fails", NOTE, "unchecked_sync")
 
     def test_rename_before_the_sync(self):
         self.assertEqual(self.found(NOTE, "rename_first"), "")
         found = r"fail lost: the 1st sys::fsync \(note\) (fails|ends the run), of what is pending 3 \(rename new -> note\) is kept"
-        self.both(found, NOTE, "rename_first", "--depth", 2)
+        self.each(found, NOTE, "rename_first", "--depth", 2)
 
     def test_a_folder_that_is_never_synced(self):
-        self.both("fail lost: without any fault", NOTE, "no_folder_sync")
+        self.each("fail lost: without any fault", NOTE, "no_folder_sync")
 
     def test_a_torn_record(self):
         """The second record has 23 bytes with its sum, a blank and its end; the third, of 22, is never synced."""
@@ -43,13 +54,13 @@ class Flaws(Campaigns):
             self.assertEqual(self.found(LOG, flaw, "--depth", 2), "fail lost: of what is pending 1 (write log 22 at 23) is kept by half")
 
     def test_a_sync_that_is_tried_again(self):
-        self.both(r"fail lost: the 1st sys::fsync \(new\) fails", NOTE, "retry_sync")
+        self.each(r"fail lost: the 1st sys::fsync \(new\) fails", NOTE, "retry_sync")
 
     def test_a_full_disk_in_a_snapshot(self):
-        self.both(r"fail lost: the 2nd sys::write \(new\) .*", LOG, "full_disk")
+        self.each(r"fail lost: the 2nd sys::write \(new\) .*", LOG, "full_disk")
 
     def test_a_short_write(self):
-        self.both(r"fail lost: the 1st sys::write \(new\) does half", NOTE, "short_write")
+        self.each(r"fail lost: the 1st sys::write \(new\) does half", NOTE, "short_write")
         self.assertEqual(self.found(NOTE, "short_write", "--no-kinds"), "")
 
     def test_a_clean_up_that_loses_the_old_file(self):
@@ -57,30 +68,34 @@ class Flaws(Campaigns):
         self.assertRegex(self.found(NOTE, "clean_up", "--depth", 2), r"^fail lost: .*the 2nd sys::link \(note\) fails")
 
     def test_recovery_that_deletes(self):
-        self.both(r"fail lost: the 4th sys::read \(log\) .*", LOG, "recovery_deletes")
+        self.each(r"fail lost: the 4th sys::read \(log\) .*", LOG, "recovery_deletes")
 
     def test_sound_ones(self):
-        self.both("", NOTE, "sound")
-        self.both("", NOTE, "sound", "--depth", 2, "--kinds")
-        self.both("", LOG, "sound")
+        self.each("", NOTE, "sound")
+        self.each("", NOTE, "sound", "--depth", 2, "--kinds")
+        self.each("", LOG, "sound")
 
     def test_a_sound_log_two_faults_deep(self):
         self.assertEqual(self.found(LOG, "sound", "--depth", 2), "")
 
 
 class Languages(unittest.TestCase):
-    def test_both_do_the_same(self):
+    @unittest.skipUnless(GO in LANGUAGES, "go is not installed: its programs aren't tried")
+    def test_go(self):
+        self.assertTrue(all(os.access(program, os.X_OK) for program in GO.values()))
+
+    def test_all_do_the_same(self):
         """Each language writes the same lines and files."""
         for name, words in {"note": ["sound", "one", "two"], "log": ["sound", "add", "one", "sync", "snapshot", "add", "two", "list"]}.items():
             left = []
-            for program in (C, PYTHON):
+            for program in LANGUAGES:
                 folder = OUTSIDE / "out" / f"trial-{name}"
                 subprocess.run(["rm", "-rf", folder], check=True)
                 folder.mkdir()
                 said = subprocess.run([*program[name].split(), *words], cwd=folder, stdout=subprocess.PIPE, check=True).stdout
                 left.append((said, {file: (folder / file).read_bytes() for file in sorted(os.listdir(folder))}))
                 subprocess.run(["rm", "-rf", folder], check=True)
-            self.assertEqual(left[0], left[1])
+            self.assertEqual(left, left[:1] * len(LANGUAGES))
 
 
 if __name__ == "__main__":

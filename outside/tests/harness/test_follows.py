@@ -81,9 +81,23 @@ class Follows(Campaigns):
 
     def test_runs_are_made_again_where_there_is_no_room(self):
         known = self.campaign("known", NOTE, "--depth", 2, FLAW="rename_first")
-        small = self.campaign("small", NOTE, "--depth", 2, "--room", 1, FLAW="rename_first")
+        small = self.campaign("small", NOTE, "--depth", 2, "--room", "2M", FLAW="rename_first")  # two runs take three quarters of that
         self.assertEqual(known[:2], small[:2])
         self.assertLess(known[2], small[2])
+
+
+class Unjudged(Campaigns):
+    def judgements(self, name, **more):
+        folder = self.harness(run="#!/bin/sh\ndate +%N > log; sync log .; printf new > new && sync new && mv new note && sync . && echo saved\n",
+            judge="#!/bin/sh\n[ ! -s \"$SAID\" ] || [ -s note ] || { echo lost; exit 1; }\n", **more)
+        done = self.loop("-j", 2, "--no-kinds", "--into", self.here / name, folder)
+        self.assertEqual(done.status, 0, done.told)
+        shutil.rmtree(folder)
+        return int(re.search(r"(\d+) judgements", done.told)[1])
+
+    def test_what_the_judge_does_not_look_into(self):
+        """A file with the time makes each state another, but where it is said not to count."""
+        self.assertLess(2 * self.judgements("left_out", unjudged="log\n"), self.judgements("all"))
 
 
 class Torn(Campaigns):

@@ -112,10 +112,10 @@ class Pages(unittest.TestCase):
     def test_bash_completes(self):
         self.assertEqual(self.completed("paklour-loop", "--de"), ["--depth"])
         self.assertEqual(self.completed("paklour-loop", "--depth", ""), [])
-        self.assertEqual(self.completed("paklour-loop", "--into", "no"), ["note", "note.c", "note.py"])
+        self.assertEqual(self.completed("paklour-loop", "--into", "no"), ["note", "note.c", "note.go", "note.py"])
         self.assertEqual(self.completed("paklour-loop", "--engine", ""), ["parallel"])
         self.assertEqual(self.completed("paklour-powercut", "re"), ["recover"])
-        self.assertEqual(self.completed("paklour-powercut", "cut", "lo"), ["log", "log.c", "log.py"])
+        self.assertEqual(self.completed("paklour-powercut", "cut", "lo"), ["log", "log.c", "log.go", "log.py"])
         self.assertEqual(self.completed("paklour-faults", "--order", "n"), ["next"])
 
     def test_manuals_format_without_a_warning(self):

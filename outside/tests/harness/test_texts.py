@@ -1,8 +1,10 @@
 """Scenarios, hits and digests, by worked examples."""
 
 import os
+import signal
 import sys
 import unittest
+from pathlib import Path
 
 from .base import OUTSIDE, Campaigns
 
@@ -149,6 +151,43 @@ class Trees(Campaigns):
             folder = self.made(name)
             change(folder)
             self.assertNotEqual(tree.digest(folder), before, name)
+
+    def test_what_is_left_out(self):
+        folder = self.made("judged")
+        before = tree.digest(folder, ("sub/t*",)), tree.digest(folder, ("sub/t*", "on?"))
+        Path(folder, "one").write_text("2")
+        self.assertNotEqual(tree.digest(folder, ("sub/t*",)), before[0], "it has another name too")
+        self.assertEqual(tree.digest(folder, ("sub/t*", "on?")), before[1])
+        Path(folder, "more").touch()
+        self.assertNotEqual(tree.digest(folder, ("sub/t*", "on?")), before[1])
+
+    def sparse(self, name, length):
+        """A file of that length, of which four hundred bytes are there, in two places."""
+        folder = self.here / name
+        folder.mkdir()
+        with open(folder / "large", "wb") as file:
+            file.write(b"a" * 200)
+            file.seek(length // 4)
+            file.write(b"b" * 200)
+            file.truncate(length)
+        return folder
+
+    def test_holes_are_not_read(self):
+        """It takes no time, and would take hours."""
+        self.addCleanup(signal.alarm, 0)
+        signal.alarm(20)
+        before = tree.digest(self.sparse("sparse", 4 << 40))
+        with open(self.here / "sparse" / "large", "r+b") as file:
+            file.seek((1 << 40) + 199)
+            file.write(b"c")
+        self.assertNotEqual(tree.digest(self.here / "sparse"), before)
+
+    def test_holes_are_not_copied(self):
+        folder = self.sparse("sparse", 100 << 20)
+        tree.copy(str(folder), f"{self.here}/copied")
+        self.assertEqual(tree.digest(folder), tree.digest(f"{self.here}/copied"))
+        self.assertEqual((folder / "large").read_bytes(), (self.here / "copied" / "large").read_bytes())
+        self.assertLess(tree.size(f"{self.here}/copied"), 1 << 20)
 
 
 if __name__ == "__main__":

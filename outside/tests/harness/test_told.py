@@ -1,9 +1,11 @@
 """What has to be told, and never passes."""
 
+import json
 import os
 import signal
 import time
 import unittest
+import xml.etree.ElementTree
 
 from .base import JUDGES, LOG, NOTE, SAVES, Campaigns
 
@@ -99,6 +101,11 @@ class Unresolved(Campaigns):
         line = self.first_line(run="#!/bin/sh\n: > here; yes | head -c 3000000\n", judge=JUDGES)
         self.assertEqual("unresolved: it wrote more than 1048576 bytes: none", line)
 
+    def test_one_that_is_shown(self):
+        folder = self.harness(run="#!/bin/sh\nhead -c 3000000 /dev/zero > here\n", judge=JUDGES)
+        done = self.loop("--bytes", "1M", folder, "--try", "none")
+        self.assertEqual((done.status, done.out.splitlines()[-1]), (0, "unresolved: it wrote more than 1048576 bytes: without any fault"), done.told)
+
     def test_what_it_began_is_ended(self):
         folder = self.harness(run=f"#!/bin/sh\n: > here; setsid sleep 77 & echo $! > {self.here}/pid; sleep 30\n", judge=JUDGES)
         self.assertEqual(self.loop("--seconds", 1, folder).status, 2)
@@ -181,6 +188,33 @@ class Shown(Campaigns):
         lines = [" ".join(line.split()[1:]) for line in done.out.splitlines() if " power::" in line]
         self.assertEqual(lines, ["power::keep 1 (log) is kept [return]", "power::tear 1 (log) is kept by half [return]"])
         self.assertEqual(done.out.splitlines()[-1], "fail lost: of what is pending 1 (write log 22 at 23) is kept by half")
+
+    def test_it_stops_at_the_second(self):
+        done = self.loop("-j", 1, "--failures", 2, "--depth", 2, "--into", self.here, NOTE, FLAW="rename_first")
+        self.assertEqual(done.status, 1)
+        fails = [line for line in done.told.splitlines() if line.startswith("fail ")]
+        self.assertEqual(len(fails), 2)
+        self.assertIn("again: ", done.told)
+        self.assertFalse((self.here / "report").exists())
+
+    def test_all_forms_in_one_command(self):
+        done = self.loop("-j", 2, "--junit", "--json", "--progress", "--into", self.here, NOTE, FLAW="unchecked_sync")
+        self.assertEqual(done.status, 1)
+        self.assertEqual(json.loads((self.here / "report.json").read_text())["counts"]["fail"], 1)
+        suite = xml.etree.ElementTree.parse(self.here / "junit.xml").getroot()[0]
+        self.assertEqual((suite.get("tests"), suite.get("failures")), ("17", "1"))
+        self.assertIn("<html", (self.here / "page.html").read_text())
+        self.assertRegex(done.told, r"loop: answered 1, asked 14, failing 0, time left (unknown|0:00:\d\d)\n")
+
+    def test_which_file_system_a_run_without_faults_trusts(self):
+        """A new file is synced, and its folder isn't; or a name comes after each sync."""
+        folder = self.harness(run="#!/bin/sh\nprintf new > note && sync note && echo saved\n", judge=JUDGES)
+        told = self.loop("--into", self.here, folder).told
+        self.assertIn("loop: it passes with FAULTS_SYNC=names in the environment of the loop: a file's own sync makes its name last too\n", told)
+        told = self.loop("--into", self.here / "other", NOTE, FLAW="no_folder_sync").told
+        self.assertIn("loop: it fails with FAULTS_SYNC=journal and names too: ", told)
+        told = self.loop("--into", self.here / "named", NOTE, FLAW="no_folder_sync", FAULTS_SYNC="names").told
+        self.assertNotIn("FAULTS_SYNC", told)
 
     def test_it_stops_at_the_first(self):
         done = self.loop("-j", 1, "-x", "--into", self.here, NOTE, FLAW="unchecked_sync")

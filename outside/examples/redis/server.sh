@@ -1,0 +1,26 @@
+# What the programs of this harness share: sourced. `start` starts a server that keeps its files in this folder and waits until it answers. The socket is none
+# of the data.
+socket=$TMPDIR/socket
+
+client() { timeout 10 redis-cli -s "$socket" "$@" 2>> "$TMPDIR/log"; }
+
+start() {
+    rm -f "$socket"
+    redis-server --port 0 --unixsocket "$socket" --dir "$PWD" --save '' --appendonly yes --appendfsync "${FSYNC:-always}" --logfile "$TMPDIR/redis" &
+    server=$!
+    until [ "$(client ping)" = PONG ]; do
+        kill -0 "$server" 2>> "$TMPDIR/log" || return
+        sleep 0.02
+    done
+}
+
+# $status is what it ended with
+gone() {
+    wait "$server" 2>> "$TMPDIR/log"
+    status=$?
+}
+
+stop() {
+    client shutdown nosave > "$TMPDIR/stopped"
+    gone
+}

@@ -1,0 +1,25 @@
+"""A run that was made, and isn't gone on with: from it, others follow."""
+
+from dataclasses import dataclass
+from pathlib import Path
+
+
+@dataclass
+class Record:
+    folder: Path
+    scenario: str
+    status: int
+    why: str  # it says nothing: why, or an empty text
+    points: list[str]
+    is_cut: bool = False
+
+    @property
+    def data(self) -> Path:
+        return self.folder / "data"
+
+    @property
+    def run(self) -> Path:
+        return self.folder / "run"
+
+    def said(self) -> bytes:
+        return (self.folder / "said").read_bytes()

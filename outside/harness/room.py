@@ -1,0 +1,225 @@
+"""Room for runs: what all of them take on the disk together, those that are kept and those in the making.
+
+Where it gets short, those that are kept go, and then no two are made at once. A campaign never takes a file system whole."""
+
+import contextlib
+import errno
+import subprocess
+import threading
+import time
+from collections.abc import Callable, Iterator
+from dataclasses import dataclass
+from pathlib import Path
+from typing import TypeVar
+
+from . import tree
+from .answers import Stopped
+from .bounds import Bounds
+from .disk import Disk
+from .records import Records
+from .shown import show_once
+
+LOOKS_EVERY = 0.05  # seconds
+LOOKS_LESS = 4  # times as long as a look takes pass before the next
+LEAST = 16 << 20  # bytes that always stay free
+SHARE = 4  # a campaign takes one in so many of the bytes that are free when it begins
+
+Made = TypeVar("Made")
+
+
+class Crowded(Exception):
+    """A run was ended, since there is no room for it beside others."""
+
+
+class TooLarge(Exception):
+    """A run was ended, since there is no room for it; why, in words."""
+
+
+@dataclass
+class Making:
+    """A run in the making."""
+
+    folder: Path
+    thread: int
+    process: subprocess.Popen | None = None  # which is ended where the run is
+    why: str = ""  # it was ended: the bound that it passed
+    is_crowded: bool = False  # it was ended: there is no room
+
+    def end(self) -> None:
+        if self.process:
+            self.process.terminate()
+
+
+class Room:
+    def __init__(self, disk: Disk, asked: int, bounds: Bounds, records: Records):
+        self.disk = disk
+        self.bounds = bounds
+        self.records = records
+        free = disk.free()
+        self.most = min(asked, free // SHARE)
+        self.stays_free = min(free // SHARE, 2 * self.most)
+        self.changed = threading.Condition()
+        self.makings: dict[Path, Making] = {}
+        self.seats = 0  # how many threads make runs
+        self.is_alone = False
+        self.waiting_alone = 0
+        self.largest = 0  # bytes that a run took
+        if self.most < asked:
+            show_once(f"loop: runs have {self.most} bytes of {disk.folder}, where {free} are free")
+        threading.Thread(target=self.watch, daemon=True).start()
+
+    # ---- who makes a run
+
+    def may_sit(self, alone: bool) -> bool:
+        if self.is_alone or (self.waiting_alone and not alone):
+            return False
+        return self.seats == 0 or (not alone and (self.seats + 1) * self.largest <= self.most)
+
+    @contextlib.contextmanager
+    def seat(self, alone: bool = False) -> Iterator[None]:
+        """Waits until there is room for one more run, or until no other is made."""
+        with self.changed:
+            self.waiting_alone += alone
+            self.changed.wait_for(lambda: self.may_sit(alone))
+            self.waiting_alone -= alone
+            self.seats += 1
+            self.is_alone = alone
+        try:
+            self.make_way()
+            yield
+        finally:
+            with self.changed:
+                self.seats -= 1
+                self.is_alone = False
+                self.changed.notify_all()
+
+    def within(self, make: Callable[[], Made]) -> Made:
+        """Has it made, and where it was ended since others take the room, once more, alone."""
+        for alone in (False, True):
+            with self.seat(alone), contextlib.suppress(Crowded):
+                return self.made(make)
+        raise Stopped(self.full())
+
+    def made(self, make: Callable[[], Made]) -> Made:
+        try:
+            return make()
+        except Crowded:
+            self.take_away()
+            raise
+        except OSError as error:
+            if error.errno != errno.ENOSPC:
+                raise
+            self.take_away()
+            raise Crowded from error
+
+    def full(self) -> str:
+        return f"{self.disk.folder}: {self.disk.free()} bytes are free, too few for a run that took {self.largest}: go on with another TMPDIR"
+
+    # ---- its folder
+
+    def hold(self, size: int) -> None:
+        """So many bytes are taken as long as the campaign lasts, by what each run begins with."""
+        self.most = max(0, self.most - size)
+
+    def begin(self, folder: Path) -> None:
+        with self.changed:
+            self.makings[folder] = Making(folder, threading.get_ident())
+
+    def end(self, folder: Path, size: int) -> None:
+        """It is made."""
+        with self.changed:
+            self.makings.pop(folder, None)
+            self.largest = max(self.largest, size)
+
+    def take_away(self) -> None:
+        """What this thread was making."""
+        with self.changed:
+            mine = [making for making in self.makings.values() if making.thread == threading.get_ident()]
+            for making in mine:
+                del self.makings[making.folder]
+        for making in mine:
+            self.largest = max(self.largest, tree.size(making.folder))
+            tree.remove(making.folder)
+
+    def make_way(self) -> None:
+        """What is kept has the room that those in the making leave."""
+        self.records.shrink(max(0, self.most - self.seats * self.largest))
+
+    # ---- its programs
+
+    def wait(self, process: subprocess.Popen, folder: Path) -> str:
+        """Waits for its end; which bound the run has passed, or an empty text."""
+        with self.watched(process, folder):
+            process.wait()
+        return self.why_ended(folder) or self.bounds.passed(folder)
+
+    @contextlib.contextmanager
+    def watched(self, process: subprocess.Popen, folder: Path) -> Iterator[None]:
+        """Meanwhile the process is ended where the run is."""
+        making = self.makings[folder]
+        making.process = process
+        try:
+            yield
+        finally:
+            making.process = None
+
+    def why_ended(self, folder: Path) -> str:
+        """Why the run was ended, or an empty text where it wasn't."""
+        return self.want(folder) or self.makings[folder].why
+
+    def want(self, folder: Path) -> str:
+        """That there is no room for the run, or an empty text where there is."""
+        if not self.makings[folder].is_crowded:
+            return ""
+        if not self.is_alone:
+            raise Crowded
+        if self.is_short():
+            raise Stopped(self.full())
+        return f"it takes more than the {self.most} bytes that runs have"
+
+    def is_crowded(self, folder: Path) -> bool:
+        return folder in self.makings and self.makings[folder].is_crowded
+
+    # ---- looking
+
+    def is_short(self) -> bool:
+        """One that is made alone may go further: to twice what a run took."""
+        stays = min(self.stays_free, max(2 * self.largest, LEAST)) if self.is_alone else self.stays_free
+        return self.disk.free() < stays
+
+    def watch(self) -> None:
+        tick = threading.Event()
+        took = 0.0
+        while not tick.wait(max(LOOKS_EVERY, LOOKS_LESS * took)):
+            begun = time.monotonic()
+            with contextlib.suppress(FileNotFoundError):  # a run's folder goes meanwhile
+                self.look()
+            took = time.monotonic() - begun
+
+    def look(self) -> None:
+        with self.changed:
+            makings = list(self.makings.values())
+        for making in makings:
+            if making.process and not making.why and (why := self.bounds.passed(making.folder)):
+                making.why = why
+                making.end()
+        self.settle({making.folder: tree.size(making.folder) for making in makings})
+
+    def settle(self, sizes: dict[Path, int]) -> None:
+        """Where too much is taken, what is kept goes, and then the largest of those in the making, one after the other. Where the file system itself
+        gets full, all of them go: none may come to its end by that."""
+        taken, is_short = sum(sizes.values()), self.is_short()
+        if taken + self.records.taken <= self.most and not is_short:
+            return
+        self.records.shrink(0 if is_short else max(0, self.most - taken))
+        with self.changed:
+            makings = sorted((making for folder, making in self.makings.items() if folder in sizes), key=lambda making: sizes[making.folder])
+            if is_short and self.is_short():
+                self.end_all(makings)
+            elif taken > self.most and not any(making.is_crowded for making in makings):
+                self.end_all(makings[-1:])
+
+    def end_all(self, makings: list[Making]) -> None:
+        for making in makings:
+            making.is_crowded = True
+            making.end()

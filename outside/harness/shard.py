@@ -1,0 +1,75 @@
+"""Campaigns that go over machines: each has a share of the plans, and one of them brings the answers together.
+
+A plan belongs to the fault that acts first in it. Up to there its run is the one without faults, which each machine makes, and all that grows from a
+plan has the same first fault: so a share is grown without the others."""
+
+import json
+from dataclasses import dataclass
+from pathlib import Path
+
+from .answers import DIFFERS, Answers, Stopped, whole_lines
+from .scenario import Scenario, Term, Unreadable, numbered, points_of
+from .words import Usage, whole_number
+
+Places = dict[tuple[str, int], int]  # where each hit stands in the run without faults
+
+
+@dataclass(frozen=True)
+class Shard:
+    number: int  # from 1
+    count: int
+
+    def has(self, text: str, places: Places) -> bool:
+        return text == "none" or first_place(text, places) % self.count == self.number - 1
+
+
+def shard_of(text: str) -> Shard:
+    """As 2/8."""
+    number, _, count = text.partition("/")
+    shard = Shard(whole_number(number), whole_number(count))
+    if shard.number > shard.count:
+        raise Usage(text)
+    return shard
+
+
+def places_in(answers: Answers) -> Places:
+    for line in answers.lines():
+        _, scenario, hits = line.split("\t")[:3]
+        if scenario == "none":
+            return {hit: place for place, hit in enumerate(numbered(points_of(hits)))}
+    return {}
+
+
+def first_hit(chain: list[Term]) -> int:
+    """Of its point, from 1; 0 where none of its terms does anything."""
+    hit = 1
+    for term in chain:
+        if term.task != "off":
+            return hit
+        hit += term.count or 0
+    return 0
+
+
+def first_place(text: str, places: Places) -> int:
+    """Of the fault that acts first; 0 where none acts in the run without faults, but for what its power cut keeps."""
+    try:
+        chains = Scenario(text).chains
+    except Unreadable:
+        return 0
+    return min((places[hit] for name, chain in chains.items() if (hit := (name, first_hit(chain))) in places), default=0)
+
+
+def join(folder: Path, digest: str, answers: Answers) -> None:
+    """Takes over the answers of the folders below that one, of shards or of other campaigns of the same harness."""
+    known = {line.split("\t")[1]: line for line in answers.lines()}
+    for part in sorted(folder.glob("*/answers")):
+        note = part.with_name("campaign.json")
+        if not note.exists() or json.loads(note.read_text()).get("harness") != digest:
+            raise Stopped(f"{part} are answers of another harness")
+        for line in whole_lines(part.read_bytes()):
+            scenario = line.split("\t")[1]
+            if known.setdefault(scenario, line) is line:
+                answers.keep(line)
+            elif known[scenario] != line:
+                first, other = known[scenario].split("\t")[0], line.split("\t")[0]
+                raise Stopped(f"told otherwise: {first}, then {other}: {scenario}", DIFFERS)
