@@ -137,8 +137,8 @@ fn comes_to_the_plain_report(rt: &impl Abort, alloc: Global, salt: u32) -> Resul
     Err(Fail::from("a campaign without end"))
 }
 
-/// How many components a test has: `rt try` ends one of all 1,000 before it is through.
-const COMPONENTS: u32 = 200;
+/// How many components a test has, for their time. The components differ by their salt.
+const COMPONENTS: u32 = 100;
 
 /// The campaigns on the components of these salts, from this one on, come to the plain report.
 fn come_to_the_plain_report(rt: &impl Abort, alloc: Global, from: u32) -> Result<(), Fail> {
