@@ -24,10 +24,12 @@ from .whole import FORMS, Asked, Whole, decider_of
 from .words import ASK_HELP, Usage, as_called, bytes_of, shows_progress, split, usage_of, whole_number, write_help
 from .work import Note, Work
 
+OF_HARNESS = {"--depth", "--kinds", "--no-kinds", "--settings", "--into", "-x", "--failures", "--try", "--whole", "--junit", "--json", "--shard", "--join",
+    "--every-run", "--room", "--bytes"}
+OF_SCRIPT = {"--script", "--engine", "--brief", "--no-recheck", "--hits"}
 WITH_VALUE = {"-j", "--seconds", "--engine", "--script", "--depth", "--try", "--into", "--room", "--bytes", "--failures", "--settings", "--shard",
     "--join"}
-FLAGS = {*ASK_HELP, "--brief", "--strict", "--progress", "--no-recheck", "--hits", "-x", "--every-run", "--kinds", "--no-kinds", "--whole", "--junit",
-    "--json"}
+FLAGS = {*ASK_HELP, "--strict", "--progress", *(OF_HARNESS | OF_SCRIPT) - WITH_VALUE}
 
 
 def on_signal(number: int, frame: object) -> None:
@@ -37,6 +39,12 @@ def on_signal(number: int, frame: object) -> None:
 def tell_unbuilt() -> None:
     if not os.access(WITHIN, os.X_OK):
         show(f"loop: not built: {WITHIN} (make -C outside): what a run leaves running lives on")
+
+
+def refuse_others(options: dict[str, str], others: set[str], of: str) -> None:
+    """One that has no meaning here isn't passed over."""
+    for word in options.keys() & others:
+        raise Stopped(f"{word} is an option of {of}")
 
 
 def script_words(options: dict[str, str], rest: list[str]) -> tuple[str, str, str, list[str]]:
@@ -51,6 +59,7 @@ def script_words(options: dict[str, str], rest: list[str]) -> tuple[str, str, st
 
 def run_script(options: dict[str, str], rest: list[str], processes: Processes) -> int:
     settings, kept, name, behind = script_words(options, rest)
+    refuse_others(options, OF_HARNESS, "a harness")
     jobs = whole_number(options.get("-j", os.environ.get("PROCESSES") or "4"))
     seconds = whole_number(options.get("--seconds", "300"))
     if options.get("--engine", "xargs") not in ("xargs", "parallel"):
@@ -92,6 +101,7 @@ def asked_of(loop: str, options: dict[str, str], path: str) -> Asked:
 
 def run_harness(loop: str, options: dict[str, str], path: str, processes: Processes) -> int:
     """Has the files beside the harness, or in the folder that is named."""
+    refuse_others(options, OF_SCRIPT, "a script")
     programs.check_built()
     harness = definition.read(path)
     folder = Path(options.get("--into", harness.folder))

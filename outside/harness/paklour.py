@@ -6,6 +6,7 @@ import time
 from pathlib import Path
 
 from .answers import Answers, Stopped
+from .settings import text_of
 from .shown import show, show_once
 
 
@@ -17,8 +18,7 @@ class Paklour:
         self.ask_again = 0.0  # from when on another look at the answers takes no larger share of the time
 
     def has_depth(self) -> bool:
-        text = Path(self.settings).read_text("utf-8", "surrogateescape")
-        return re.search(r"^[ \t]*[\"']?depth[\"']?[ \t]*=", text, re.M) is not None
+        return re.search(r"^[ \t]*[\"']?depth[\"']?[ \t]*=", text_of(Path(self.settings)), re.M) is not None
 
     def call(self, *words: str) -> subprocess.CompletedProcess:
         try:
@@ -53,7 +53,7 @@ class Paklour:
         if not found:
             return
         fields = self.answers.lines()[int(found[1]) - 1].split("\t")
-        settings = Path(self.settings).read_text("utf-8", "surrogateescape")
+        settings = text_of(Path(self.settings))
         hits = fields[2].split(";") if len(fields) > 2 else []
         for point in sorted({re.sub(r"^\d+\*", "", hit) for hit in hits}):
             if f'"{point}"' not in settings:

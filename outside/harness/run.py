@@ -21,7 +21,6 @@ from .trace import trace_of
 from .work import Work
 
 TIME_IS_UP, CANNOT, NOT_FOUND = 124, 125, 127  # how `within` ends
-LINUX = {"FAULTS_FSYNC": "once"}  # where nothing else is said: what a failed sync lost, a later one doesn't bring back
 
 
 class Runner:
@@ -40,7 +39,7 @@ class Runner:
         self.lock = threading.Lock()
 
     def environment(self, folder: Path, **more: str) -> dict[str, str]:
-        return LINUX | os.environ | {"HARNESS": str(self.harness.folder), "TMPDIR": str(folder / "tmp")} | self.harness.variables | more
+        return os.environ | {"HARNESS": str(self.harness.folder), "TMPDIR": str(folder / "tmp")} | self.harness.variables | more
 
     def with_variables(self, **variables: str) -> "Runner":
         """The same with more of its environment."""

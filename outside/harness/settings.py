@@ -24,12 +24,19 @@ def made_text(label: str, codes: list[str], depth: int, has_kinds: bool) -> str:
     return "\n".join(lines) + "\n"
 
 
+def text_of(settings: Path) -> str:
+    try:
+        return settings.read_text("utf-8", "surrogateescape")
+    except OSError as error:
+        raise Stopped(f"{settings}: {error.strerror}") from error
+
+
 class Settings:
     """`codes` of made ones are those that were found so far, in order of the alphabet: so that a campaign that was stopped ends as another."""
 
     def __init__(self, harness: Harness, folder: Path, answers: Answers, named: str | None, depth: int | None, kinds: bool | None):
         self.path = Path(named) if named else harness.folder / "settings.toml"
-        self.is_made = not named and not self.path.exists() or self.path.read_text("utf-8").startswith(MADE)
+        self.is_made = not named and not self.path.exists() or text_of(self.path).startswith(MADE)
         if self.is_made:
             self.path = folder / "settings.toml"
         elif depth or kinds is not None:
@@ -41,7 +48,10 @@ class Settings:
             self.codes = sorted({code_of(line) for line in answers.lines() if line.startswith("fail ")})
             self.write()
             self.show()
-        self.table = tomllib.loads(self.path.read_text("utf-8"))
+        try:
+            self.table = tomllib.loads(text_of(self.path))
+        except tomllib.TOMLDecodeError as error:
+            raise Stopped(f"{self.path}: {error}") from error
         self.points = self.table.get("outside", {}).get("points", [])
         self.depth = self.table.get("depth", 0)
         if not self.is_made:

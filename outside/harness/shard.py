@@ -34,9 +34,8 @@ def shard_of(text: str) -> Shard:
 
 def places_in(answers: Answers) -> Places:
     for line in answers.lines():
-        _, scenario, hits = line.split("\t")[:3]
-        if scenario == "none":
-            return {hit: place for place, hit in enumerate(numbered(points_of(hits)))}
+        if scenario_in(line) == "none":
+            return {hit: place for place, hit in enumerate(numbered(points_of(line.split("\t")[2])))}
     return {}
 
 
@@ -61,15 +60,27 @@ def first_place(text: str, places: Places) -> int:
 
 def join(folder: Path, digest: str, answers: Answers) -> None:
     """Takes over the answers of the folders below that one, of shards or of other campaigns of the same harness."""
-    known = {line.split("\t")[1]: line for line in answers.lines()}
-    for part in sorted(folder.glob("*/answers")):
+    known = {scenario_in(line): line for line in answers.lines()}
+    parts = sorted(folder.glob("*/answers"))
+    if not parts:
+        raise Stopped(f"{folder}: no folder in it has answers")
+    for part in parts:
         note = part.with_name("campaign.json")
         if not note.exists() or json.loads(note.read_text()).get("harness") != digest:
             raise Stopped(f"{part} are answers of another harness")
         for line in whole_lines(part.read_bytes()):
-            scenario = line.split("\t")[1]
-            if known.setdefault(scenario, line) is line:
+            scenario = scenario_in(line)
+            if scenario not in known:
+                known[scenario] = line
                 answers.keep(line)
             elif known[scenario] != line:
                 first, other = known[scenario].split("\t")[0], line.split("\t")[0]
                 raise Stopped(f"told otherwise: {first}, then {other}: {scenario}", DIFFERS)
+
+
+def scenario_in(line: str) -> str:
+    """Of an answer: the loop's own have a verdict, a scenario and hits."""
+    fields = line.split("\t")
+    if len(fields) < 3:
+        raise Stopped(f"no answer of a harness: {line}")
+    return fields[1]

@@ -109,8 +109,8 @@ fn misses_the_first_line(
     Ok(())
 }
 
-/// The campaign on this component ends with the report of the plain recursion. Before that the first line asked is missing, which is looked at in
-/// every third round: for its time, and in each round of some components.
+/// The campaign on this component ends with the report of the plain recursion. Before that the first line asked is missing. That is looked at in every
+/// third round alone, for its time; which rounds these are depends on the component.
 fn comes_to_the_plain_report(rt: &impl Abort, alloc: Global, salt: u32) -> Result<(), Fail> {
     let hits = (salt % 3, salt / 3 % 3);
     let settings = settings(alloc, hits.0, hits.1)?;

@@ -89,6 +89,18 @@ class Machines(Campaigns):
         done = self.loop("--join", parts, "--into", self.here, NOTE)
         self.assertEqual((done.status, done.told), (2, f"loop: {parts}/1/answers are answers of another harness\n"))
 
+    def test_a_folder_without_answers(self):
+        done = self.loop("--join", self.here / "parts", "--into", self.here, NOTE)
+        self.assertEqual((done.status, done.told), (2, f"loop: {self.here}/parts: no folder in it has answers\n"))
+
+    def test_a_line_that_is_no_answer_of_a_harness(self):
+        self.whole()
+        parts = self.here / "parts"
+        shutil.copytree(self.here / "whole", parts / "1")
+        (parts / "1" / "answers").write_text("pass\tnone\n")
+        done = self.loop(*WORDS, "--join", parts, "--into", self.here / "joined", NOTE)
+        self.assertEqual((done.status, done.told), (2, "loop: no answer of a harness: pass\\x09none\n"))
+
     def test_shares_that_say_otherwise(self):
         self.whole()
         parts = self.here / "parts"

@@ -35,6 +35,20 @@ class Refused(Campaigns):
         (folder / "judge").chmod(0o644)
         self.refused("judge can't be run: chmod +x", folder)
 
+    def test_words_of_the_other_kind(self):
+        folder = self.harness(run=SAVES, judge=JUDGES)
+        for words in (["--engine", "parallel"], ["--brief"], ["--hits"], ["--no-recheck"]):
+            self.refused(f"loop: {words[0]} is an option of a script\n", *words, folder)
+        for words in (["--shard", "1/2"], ["--join", "parts"], ["--try", "none"], ["-x"]):
+            self.refused(f"loop: {words[0]} is an option of a harness\n", *words, "--script", "./try", "settings.toml", "answers")
+
+    def test_settings_that_are_not_there(self):
+        folder, settings = self.harness(run=SAVES, judge=JUDGES), self.here / "none.toml"
+        self.refused(f"loop: {settings}: No such file or directory\n", "--settings", settings, folder)
+        self.refused(f"loop: {settings}: No such file or directory\n", settings, self.here / "answers", "./try")
+        settings.write_text("depth = \n")
+        self.refused(f"loop: {settings}: Invalid value (at line 1, column 9)\n", "--settings", settings, folder)
+
     def test_a_program_that_is_not_seen(self):
         folder = self.harness(run="#!/bin/sh\ntrue\n", judge=JUDGES)
         self.refused("the run without faults says nothing", folder)
