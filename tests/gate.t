@@ -3,7 +3,7 @@ that stands in for `rt`, and a program of two words, `say WORD` and `copy FILE`.
 
   $ unset MAKEFLAGS MFLAGS MAKELEVEL
   $ tools="$TESTDIR/../tools" && mkdir -p bin repo/tools repo/tests repo/examples repo/outside repo/.ci repo/crates/paklour repo/crates/small_tests/src
-  $ cp "$tools/counts" "$tools/test" "$tools/prove" "$tools/sessions" "$tools/stand_in" "$tools/tried" repo/tools && cp "$TESTDIR/../.ci/run" repo/.ci && cp -r "$TESTDIR/served_calls" repo/tests
+  $ cp "$tools/counts" "$tools/test" "$tools/prove" "$tools/sessions" "$tools/stand_in.c" "$tools/tried" repo/tools && cp "$TESTDIR/../.ci/run" repo/.ci && cp -r "$TESTDIR/served_calls" repo/tests
   $ cat > bin/program << 'END'
   > #!/bin/sh
   > case $1 in
@@ -33,17 +33,24 @@ that stands in for `rt`, and a program of two words, `say WORD` and `copy FILE`.
 
 What a call by descriptors would come to otherwise than as a process of its own is noted, with the number of its command.
 
-  $ stands_in() { BEYOND=../beyond SESSION_COMMAND=4 python3 -IS tools/stand_in .. "$@"; }
-  $ stands_in copy /dev/stdin 3< /dev/null
+  $ cc -DFOLDER='".."' -o ../stand_in tools/stand_in.c
+  $ stands_in() { BEYOND=../beyond SESSION_COMMAND=4 ../stand_in "$@"; }
+  $ stands_in copy /dev/stdin
   [125]
-  $ stands_in say one 3< /dev/null >&-
+  $ stands_in say one >&-
   [125]
-  $ { read -r line; stands_in copy; } < tools/test 3<&0
+  $ stands_in copy <&-
+  [125]
+  $ { read -r line; stands_in copy; } < tools/test
+  [125]
+  $ (ulimit -v 100000; stands_in say one)
   [125]
   $ cat ../beyond
   4 a path that each process has for itself
   4 an output that is closed
+  4 standard input that is closed
   4 standard input of which a part is read
+  4 a limit of memory
 
 Tests of crates, sessions and examples are performed with one build. Where sessions are named, only they are.
 
