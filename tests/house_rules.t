@@ -41,7 +41,7 @@ The frame of the page is what viewer/ makes. As it is made its lines may be long
 
 Files of crates are in the toolchain's layout, which a stand-in for `rt fmt` tells of one file.
 
-  $ tools/frame --write && mkdir -p crates/small/src && touch crates/small/src/lib.rt && echo '[ "$1" != fmt ] || ! grep -q unlaid src/*.rt || echo rt: formatted src/lib.rt' >> ../bin/rt
+  $ tools/frame --write && mkdir -p crates/small/src && touch crates/small/src/lib.rt && echo '[ "$1" != fmt ] || grep -rl unlaid src | sed "s/^/rt: formatted /"' >> ../bin/rt
   $ sed -i 's/^echo/[ "$1" = fmt ] || &/' ../bin/rt && git add . && tools/house_rules
   $ echo unlaid > crates/small/src/lib.rt && tools/house_rules
   files that aren't in the layout of rt fmt:
@@ -52,6 +52,5 @@ One that can't be read is told too.
 
   $ echo laid > crates/small/src/lib.rt && echo '[ "$1" != fmt ] || { echo src/lib.rt:1: error; exit 1; }' >> ../bin/rt && tools/house_rules
   files that aren't in the layout of rt fmt:
-  crates/report_page/: rt fmt fails: src/lib.rt:1: error
-  crates/small/: rt fmt fails: src/lib.rt:1: error
+  rt fmt fails: src/lib.rt:1: error
   [1]
