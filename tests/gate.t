@@ -1,5 +1,6 @@
 The gate: `make test` runs without a proof, `make prove` proves, and `.ci/run` counts both. The repository here has the tools that are tried, a toolchain
-that stands in for `rt`, and a program of two words, `say WORD` and `copy FILE`. Where it is run for others, `stop` ends it.
+that stands in for `rt`, and a program of two words, `say WORD` and `copy FILE`. Where it is run for others, `stop` ends it. A process `cat check` stands in for
+the check that is started beside it, which never ends by itself.
 
   $ unset MAKEFLAGS MFLAGS MAKELEVEL
   $ tools="$TESTDIR/../tools" && mkdir -p bin repo/tools repo/tests repo/examples repo/outside repo/.ci repo/crates/paklour repo/crates/small_tests/src
@@ -17,12 +18,14 @@ that stands in for `rt`, and a program of two words, `say WORD` and `copy FILE`.
   > #!/bin/bash
   > [ "$1" != ci ] || { echo 'crates of the copy:' $(sed 's/:.*//' crates.txt; ls crates); [ "$UNBUILT" ] || install -D "$(command -v program)" crates/paklour/out/paklour; cat "$CI"; exit ${CI_STATUS-0}; }
   > { tail -n 1 ../../crates.txt && grep mod src/lib.rt; } > "$BUILT"
+  > mkfifo check && { exec cat check; } & check=$!
   > calls=$(sed -n 's/.*= "\(.*\)";/\1/p' src/served_calls/folder.rt)/calls
   > while read -r process words input answer; do
   >     at=/proc/$process/fd && mapfile -d '' words < "$at/$words"
-  >     [ "${words[1]}" != stop ] || { echo 'run=fault'; exit 4; }
+  >     [ "${words[1]}" != stop ] || { kill $check; echo 'run=fault'; exit 4; }
   >     { (cd "/proc/$process/cwd" && program "${words[@]:1}" < "$at/$input") >> "$at/1" 2>> "$at/2"; echo $? > "$at/$answer"; } &
   > done < "$calls"
+  > wait $check 2> ended
   > echo "test result: ok. ${TESTS-3} passed; ${FAILED-0} failed; 0 ignored"
   > END
   $ chmod +x bin/* && PATH=$PWD/bin:$PATH BUILT=$PWD/built CI=$PWD/ci && export PATH BUILT CI && cd repo
