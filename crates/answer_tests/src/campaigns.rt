@@ -138,7 +138,7 @@ fn comes_to_the_plain_report(rt: &impl Abort, alloc: Global, salt: u32) -> Resul
 }
 
 /// How many components a test has, for their time. The components differ by their salt.
-const COMPONENTS: u32 = 100;
+const COMPONENTS: u32 = 50;
 
 /// The campaigns on the components of these salts, from this one on, come to the plain report.
 fn come_to_the_plain_report(rt: &impl Abort, alloc: Global, from: u32) -> Result<(), Fail> {

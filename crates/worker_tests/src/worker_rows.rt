@@ -294,7 +294,7 @@ fn made_culprits(
 fn made_sets_of_culprits(rt: HostRuntime) -> Result<(), AllocError> {
     let alloc = rt.alloc();
     let mut numbers = Numbers { state: 20261122 };
-    for _ in 0..200 {
+    for _ in 0..100 {
         let faults = numbers.next() % 40;
         let mut probe = made_culprits(alloc, &mut numbers, faults)?;
         assert!(&rt; is_the_same(&rt, alloc, &mut probe, faults)?);
@@ -315,7 +315,7 @@ fn made_counts(numbers: &mut Numbers) -> Counts {
 fn made_tests_of_no_shape(rt: HostRuntime) -> Result<(), AllocError> {
     let alloc = rt.alloc();
     let mut numbers = Numbers { state: 1126 };
-    for _ in 0..200 {
+    for _ in 0..100 {
         let faults = numbers.next() % 40;
         let mut probe = made_counts(&mut numbers);
         assert!(&rt; is_the_same(&rt, alloc, &mut probe, faults)?);
