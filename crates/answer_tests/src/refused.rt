@@ -1,7 +1,6 @@
 //! The first fault of a text of answers, and its line.
 
 use crate::shared::answers;
-use answer_text::LIMIT;
 use std::alloc::Global;
 use std::process::Abort;
 use std::test::Fail;
@@ -120,16 +119,4 @@ fn the_first_faulty_line_is_told(rt: HostRuntime) -> Result<(), Fail> {
         (b"perhaps\ta=\x01\n", "answers: line 1: unknown verdict"),
     ];
     are_refused(&rt, rt.alloc(), &ROWS)
-}
-
-#[test]
-fn a_text_has_up_to_256_mebibytes(rt: HostRuntime) -> Result<(), Fail> {
-    let alloc = rt.alloc();
-    let chunk = vec![in alloc; b'a'; LIMIT / 256]?;
-    let mut text = Vec::with_capacity(alloc, LIMIT + 1)?;
-    for _ in 0..256 {
-        text.extend_from_slice(chunk.as_slice())?;
-    }
-    text.push(b'a')?;
-    is_refused(&rt, alloc, text.as_slice(), "answers: too long")
 }
