@@ -14,6 +14,8 @@ pending too, up to the fsync behind the rename: 10, and 1 and 1 of the write, 2 
   $ "$TESTDIR/outside_page.py" "$TESTDIR/../docs/OUTSIDE.md"
   15 compared, 0 differ
 
+From here on the program itself is needed.
+
 A page that shows otherwise: a comment, a report's end, lines that the text names, and commands that fail.
 
   $ sed 's/`beyond 25`/`beyond 26`/; s/^first 7 lost/first 8 lost/; s/# 5	sys::rename/# 4	sys::rename/; s/`first none`/`first some`/' \

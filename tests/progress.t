@@ -44,11 +44,11 @@ In a campaign that takes more than a second, the pace stands there, and the rest
 have begun have ended, but for those of a range of 16.
 
   $ long() {
-  >     printf 'target = "replace"\nvariant = "late_sync"\nseed = 7\nmax_hits = 100000\nstorms = 10000\n[replace]\nold = "old"\nreplacements = [["ne", "w"]'
-  >     for n in $(seq $1); do printf ', ['; seq -s , $2 | sed 's/[0-9][0-9]*/"&"/g' | tr -d '\n'; printf ']'; done
+  >     printf 'target = "replace"\nvariant = "late_sync"\nseed = 7\nmax_hits = 100000\nstorms = %s\n[replace]\nold = "old"\nreplacements = [["ne", "w"]' $1
+  >     for n in $(seq $2); do printf ', ['; seq -s , $3 | sed 's/[0-9][0-9]*/"&"/g' | tr -d '\n'; printf ']'; done
   >     echo ']'
   > }
-  $ for size in '2 2' '200 2' '900 2' '400 40'; do
+  $ for size in '3000 2 2' '10000 2 2' '10000 200 2' '10000 900 2' '10000 400 40'; do
   >     long $size > slow
   >     paklour run --brief --progress slow 2>&1 > /dev/null | lines | tr '<' '\n' > shown
   >     ! grep -q ' a second' shown || break

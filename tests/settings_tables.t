@@ -50,8 +50,6 @@ The old contents have up to 65536 bytes. There are up to a thousand replacements
   settings: out of range replace.old
   $ replace "old = \"\"\nreplacements = [[$(repeat 1000 '], [')]]"
   settings: out of range replace.replacements
-  $ replace "old = \"\"\nreplacements = [[$(repeat 1000 '"x", ')]]"
-  accepted
   $ replace "old = \"\"\nreplacements = [[$(repeat 1001 '"x", ')]]"
   settings: out of range replace.replacements
   $ replace "old = \"\"\nreplacements = [[\"$(repeat 4096 x)\"]]"
@@ -106,10 +104,12 @@ Each transaction has a wish for each participant, and there are up to a hundred 
 The most that are taken
 -----------------------
 
-A thousand replacements, and a hundred transactions.
+A thousand chunks of a replacement, a thousand replacements, and a hundred transactions.
 
 From here on the program itself is needed.
 
+  $ replace "old = \"\"\nreplacements = [[$(repeat 1000 '"x", ')]]"
+  accepted
   $ replace "old = \"\"\nreplacements = [[$(repeat 999 '], [')]]"
   accepted
   $ commit "participants = 1\ntransactions = [$(repeat 100 '["yes"], ')]"
