@@ -48,10 +48,14 @@ class Flaws(Campaigns):
         self.each("fail lost: without any fault", NOTE, "no_folder_sync")
 
     def test_a_torn_record(self):
-        """The second record has 23 bytes with its sum, a blank and its end; the third, of 22, is never synced."""
+        """The second record has 23 bytes with its sum, a blank and its end; the third, of 22, is never synced. Both flaws lose by one plan: one campaign
+        comes to it, and the other flaw is tried by it alone."""
+        torn = "fail lost: of what is pending 1 (write log 22 at 23) is kept by half"
         for flaw in ("torn_taken", "torn_appended"):
             self.assertEqual(self.found(LOG, flaw), "")
-            self.assertEqual(self.found(LOG, flaw, "--depth", 2), "fail lost: of what is pending 1 (write log 22 at 23) is kept by half")
+        self.assertEqual(self.found(LOG, "torn_taken", "--depth", 2), torn)
+        done = self.loop("--into", self.here / "into", LOG, "--try", "power::keep=1*return;power::tear=1*return", FLAW="torn_appended")
+        self.assertEqual((done.status, done.out.splitlines()[-1]), (1, torn))
 
     def test_a_sync_that_is_tried_again(self):
         self.each(r"fail lost: the 1st sys::fsync \(new\) fails", NOTE, "retry_sync")
@@ -72,8 +76,8 @@ class Flaws(Campaigns):
 
     def test_sound_ones(self):
         self.each("", NOTE, "sound")
-        self.each("", NOTE, "sound", "--depth", 2, "--kinds")
         self.each("", LOG, "sound")
+        self.assertEqual(self.found(NOTE, "sound", "--depth", 2, "--kinds"), "")
 
     def test_a_sound_log_two_faults_deep(self):
         self.assertEqual(self.found(LOG, "sound", "--depth", 2), "")

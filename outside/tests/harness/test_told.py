@@ -64,9 +64,9 @@ class Refused(Campaigns):
         self.assertIn("here", told)
 
     def test_answers_of_another_harness(self):
-        folder = self.harness(run=SAVES, judge=JUDGES)
+        folder = self.harness(run="#!/bin/sh\n: > here\n", judge="#!/bin/sh\ntrue\n")
         self.assertEqual(self.loop("-j", 2, folder).status, 0)
-        (folder / "judge").write_text(JUDGES + "# changed\n")
+        (folder / "judge").write_text("#!/bin/sh\ntrue # changed\n")
         self.refused("are those of another harness", folder)
 
     def test_two_campaigns_in_one_folder(self):
