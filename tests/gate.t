@@ -18,14 +18,14 @@ the check that is started beside it, which never ends by itself.
   > #!/bin/bash
   > [ "$1" != ci ] || { echo 'crates of the copy:' $(sed 's/:.*//' crates.txt; ls crates); [ "$UNBUILT" ] || install -D "$(command -v program)" crates/paklour/out/paklour; cat "$CI"; exit ${CI_STATUS-0}; }
   > { tail -n 1 ../../crates.txt && grep mod src/lib.rt; } > "$BUILT"
-  > mkfifo check && { exec cat check; } & check=$!
+  > mkfifo check && { exec cat check; } & check=$!; exec 2> ended
   > calls=$(sed -n 's/.*= "\(.*\)";/\1/p' src/served_calls/folder.rt)/calls
   > while read -r process words input answer; do
   >     at=/proc/$process/fd && mapfile -d '' words < "$at/$words"
   >     [ "${words[1]}" != stop ] || { kill $check; echo 'run=fault'; exit 4; }
   >     { (cd "/proc/$process/cwd" && program "${words[@]:1}" < "$at/$input") >> "$at/1" 2>> "$at/2"; echo $? > "$at/$answer"; } &
   > done < "$calls"
-  > wait $check 2> ended
+  > wait $check
   > echo "test result: ok. ${TESTS-3} passed; ${FAILED-0} failed; 0 ignored"
   > END
   $ chmod +x bin/* && PATH=$PWD/bin:$PATH BUILT=$PWD/built CI=$PWD/ci && export PATH BUILT CI && cd repo
