@@ -60,7 +60,7 @@ failures and causes as the target that the program bundles, where their tables a
 
   $ replace="$TESTDIR/../outside/examples/replace"
   $ for flaw in sound late_sync ignore_sync retry_write; do
-  >     FLAW=$flaw "$TESTDIR/../outside/loop" "$replace/outside.toml" $flaw.answers "$replace/try.sh" > $flaw.report
+  >     FLAW=$flaw "$TESTDIR/../outside/loop" --into $flaw --settings "$replace/outside.toml" --whole "$replace" > $flaw.report 2> told
   >     echo $flaw $?
   >     cmp $flaw.report "$replace/$flaw.report"
   > done
@@ -69,7 +69,7 @@ failures and causes as the target that the program bundles, where their tables a
   ignore_sync 1
   retry_write 1
   $ for flaw in rename_first in_place; do
-  >     STATES=keep FLAW=$flaw "$TESTDIR/../outside/loop" --brief "$replace/keep.toml" $flaw.answers "$replace/try.sh" > $flaw.report
+  >     FLAW=$flaw "$TESTDIR/../outside/loop" --into $flaw --settings "$replace/keep.toml" "$replace" > $flaw.report 2> told
   >     echo $flaw $?
   >     cmp $flaw.report "$replace/$flaw.report"
   > done

@@ -93,7 +93,7 @@ def script_report(options: dict[str, str], campaign: Campaign, tries: script.Tri
 
 def asked_of(loop: str, options: dict[str, str], path: str) -> Asked:
     failures = 1 if "-x" in options else whole_number(options["--failures"]) if "--failures" in options else None
-    words = [as_called(loop), path, *(["--into", options["--into"]] if "--into" in options else [])]
+    words = [as_called(loop), path, *[word for name in ("--settings", "--into") if name in options for word in (name, options[name])]]
     return Asked(shlex.join(words), whole_number(options.get("-j", os.environ.get("PROCESSES") or "4")), shows_progress(options),
         "--whole" not in options, "--strict" in options, [form for form in FORMS if form in options], failures,
         shard_of(options["--shard"]) if "--shard" in options else None)

@@ -1,17 +1,18 @@
 #!/usr/bin/env python3
-"""grown.py [--report] DEPTH TRY [POINT=KIND,KIND..]..: a grown campaign over a try.sh, level by level: each plan with one more fault, at each hit of
-its own run after its last fault. TRY gets a scenario, writes its verdict, and leaves the run's trace in the file TRACE. Kinds of
+"""grown.py [--report] [keep] DEPTH HARNESS [POINT=KIND,KIND..]..: a grown campaign over a harness, level by level: each plan with one more fault, at
+each hit of its own run after its last fault; with keep, of what a power cut keeps too. Each is run by itself (tried.py). Kinds of
 faults are return and panic where a point isn't named, and return at power::keep. Writes the sizes of the levels, onward, how
 many plans there are, the first failure of each code, and the causes; with --report lines as a report of `paklour` has them: the sizes, what
 is beyond, each point that is reached, the verdict of each plan, and the causes."""
-import os, subprocess, sys, tempfile
+import sys
+from tried import tries_of
 
-words = [word for word in sys.argv[1:] if word != "--report"]
-depth, command = int(words[0]), words[1]
+words = [word for word in sys.argv[1:] if word not in ("--report", "keep")]
+depth, harness = int(words[0]), words[1]
 kinds = {"power::keep": ["return"], **{word.split("=")[0]: word.split("=")[1].split(",") for word in words[2:]}}
 catalogue = "open read write fsync ftruncate rename link unlink mkdir rmdir symlink".split()
 order = ["sys::" + name for name in catalogue] + ["power::keep"]
-trace = os.path.join(tempfile.mkdtemp(), "trace")
+tried = tries_of(harness, "keep" if "keep" in sys.argv else None)
 runs = {}
 
 
@@ -35,10 +36,8 @@ def run(plan):
     """The verdict, and the hits: point, ordinal, whether it was answered go."""
     text = scenario(plan)
     if text not in runs:
-        said = subprocess.run([command, text], env={**os.environ, "TRACE": trace}, stdout=subprocess.PIPE, check=True, text=True).stdout
-        with open(trace) as lines:
-            hits = [line.rstrip("\n").split("\t") for line in lines]
-        runs[text] = said.split("\t")[0], [(hit[1], int(hit[2]), hit[3] == "go") for hit in hits]
+        outcome = tried(text)
+        runs[text] = outcome.verdict, [(hit[1], int(hit[2]), hit[3] == "go") for hit in outcome.trace]
     return runs[text]
 
 
@@ -92,5 +91,3 @@ for code in [] if told else sorted({run(plan)[0] for _, plan in failing}):
 for number, plan in failing:
     if is_cause(plan):
         print("cause", number, run(plan)[0].split()[1], scenario(plan))
-os.remove(trace)
-os.rmdir(os.path.dirname(trace))

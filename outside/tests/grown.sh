@@ -10,20 +10,19 @@
 # The causes, by the protocol. rename_first: once the sync fails or the program dies at it, all of create, `ne`, `w`, rename is
 # pending; the rename alone, or with `w` alone, leaves a name without its contents. in_place: whatever ends it before its last
 # sync, the unlink alone leaves no name, the new name with less than both chunks a torn file.
-campaign_of() { FLAW=$1 STATES=keep tests/grown.py 2 examples/replace/try.sh 'sys::write=return(HALF),panic'; }
+campaign_of() { FLAW=$1 tests/grown.py $2 2 examples/replace 'sys::write=return(HALF),panic'; }
 
-is 'grown: replace sound' 'levels 1 14 31 onward 13 plans 59' "$(campaign_of sound)"
+is 'grown: replace sound' 'levels 1 14 31 onward 13 plans 59' "$(campaign_of sound keep)"
 is 'grown: replace rename_first' 'levels 1 14 34 onward 18 plans 67
 first 40 torn sys::fsync=1*return;power::keep=3*off->1*return
 cause 40 torn sys::fsync=1*return;power::keep=3*off->1*return
 cause 44 torn sys::fsync=1*panic;power::keep=3*off->1*return
 cause 61 torn sys::fsync=1*return;power::keep=2*off->return
-cause 64 torn sys::fsync=1*panic;power::keep=2*off->return' "$(campaign_of rename_first)"
-campaign_of in_place > "$here/grown"
+cause 64 torn sys::fsync=1*panic;power::keep=2*off->return' "$(campaign_of rename_first keep)"
+campaign_of in_place keep > "$here/grown"
 is 'grown: replace in_place' 'levels 1 14 25 onward 15 plans 55
 first 15 torn sys::open=1*off->1*return;power::keep=1*return' "$(head -n 2 "$here/grown")"
 is 'and its causes' 23 "$(grep -c '^cause [0-9]* torn ' "$here/grown")"
 is 'grown: in the state that is promised in_place passes' 'levels 1 14 0 onward 0 plans 15' \
-    "$(FLAW=in_place STATES=lasting tests/grown.py 2 examples/replace/try.sh 'sys::write=return(HALF),panic' | head -n 1)"
-is 'and so does rename_first' 0 "$(FLAW=rename_first STATES=lasting tests/grown.py 2 examples/replace/try.sh 'sys::write=return(HALF),panic' |
-    grep -c '^first')"
+    "$(campaign_of in_place '' | head -n 1)"
+is 'and so does rename_first' 0 "$(campaign_of rename_first '' | grep -c '^first')"

@@ -36,46 +36,38 @@ list_of() {
 verdicts() {
     flaw=$1
     shift
-    for scenario in "$@"; do
-        FLAW=$flaw examples/replace/try.sh "$scenario" | cut -f 1
-    done | paste -s -d ,
+    FLAW=$flaw tests/tried.py examples/replace "$@" | cut -f 1 | paste -s -d ,
 }
 
 for flaw in sound late_sync ignore_sync retry_write; do
-    is "replace $flaw, its list and its runs" "$(list_of $flaw)" "$(FLAW=$flaw tests/grown.py --report 2 examples/replace/try.sh)"
+    is "replace $flaw, its list and its runs" "$(list_of $flaw)" "$(FLAW=$flaw tests/grown.py --report 2 examples/replace)"
     is "replace $flaw, half a chunk" "$(listed $flaw)" "$(verdicts $flaw 'sys::write=1*return(HALF)' 'sys::write=1*off->1*return(HALF)')"
 done
 # With crash states, by examples/replace/keep.toml; those reports are in brief.
 for flaw in rename_first in_place; do
     is "replace $flaw, crash states" "$(grep -E '^(level|onward|beyond|cause) |^reached .* [1-9]' "examples/replace/$flaw.report")" \
-        "$(STATES=keep FLAW=$flaw tests/grown.py --report 2 examples/replace/try.sh | grep -v '^verdict')"
+        "$(FLAW=$flaw tests/grown.py --report keep 2 examples/replace | grep -v '^verdict')"
 done
 
 # The bundled target's other worked rows: old contents that are empty, and what each run asks.
-is 'replace ignore_sync with no old contents' 'fail stale	sys::fsync=1*return' \
-    "$(OLD='' FLAW=ignore_sync examples/replace/try.sh 'sys::fsync=1*return')"
-asked() { cut -f 2 "$here/trace" | sed 's/sys:://' | paste -s -d ' '; }
-TRACE=$here/trace examples/replace/try.sh 'sys::fsync=1*return' > "$here/said"
-is 'replace sound, a sync that fails: what is asked' 'open open write write fsync unlink' "$(asked)"
-TRACE=$here/trace FLAW=retry_write examples/replace/try.sh 'sys::write=1*return(HALF)' > "$here/said"
-is 'replace retry_write: what is asked' 'open open write write write fsync rename fsync' "$(asked)"
-REPLACEMENTS='ne w , fir st' TRACE=$here/trace examples/replace/try.sh 'sys::write=1*return;sys::unlink=1*return' > "$here/said"
-is 'replace twice, what was left is cleared' 'open open write unlink unlink open write write fsync rename fsync' "$(asked)"
-is 'and passes' 'pass	sys::write=1*return;sys::unlink=1*return' "$(cat "$here/said")"
-TRACE=$here/trace examples/replace/try.sh none > "$here/said"
-is 'the census of replace' 'points = ["sys::open", "sys::write", "sys::fsync", "sys::rename"],hits = [2, 2, 2, 1]' "$(./census "$here/trace" | paste -s -d ,)"
-is 'and its hits in order' '2*sys::open;2*sys::write;sys::fsync;sys::rename;sys::fsync' "$(./census --hits "$here/trace")"
-is 'replace, with its hits' 'pass	none	2*sys::open;2*sys::write;sys::fsync;sys::rename;sys::fsync' "$(HITS=yes examples/replace/try.sh none)"
+# one [keep | tear] SCENARIO: its answer
+one() { tests/tried.py ${2+"$1"} examples/replace "${2-$1}" | tr '\t' ' '; }
+is 'replace ignore_sync with no old contents' 'fail stale sys::fsync=1*return 2*sys::open;2*sys::write;sys::fsync;sys::rename;sys::fsync' \
+    "$(OLD='' FLAW=ignore_sync one 'sys::fsync=1*return')"
+is 'replace sound, a sync that fails: what is asked' 'pass sys::fsync=1*return 2*sys::open;2*sys::write;sys::fsync;sys::unlink' "$(one 'sys::fsync=1*return')"
+is 'replace retry_write: what is asked' 'fail torn sys::write=1*return(HALF) 2*sys::open;3*sys::write;sys::fsync;sys::rename;sys::fsync' \
+    "$(FLAW=retry_write one 'sys::write=1*return(HALF)')"
+is 'replace twice, what was left is cleared' \
+    'pass sys::write=1*return;sys::unlink=1*return 2*sys::open;sys::write;2*sys::unlink;sys::open;2*sys::write;sys::fsync;sys::rename;sys::fsync' \
+    "$(REPLACEMENTS='ne w , fir st' one 'sys::write=1*return;sys::unlink=1*return')"
+is 'replace, with its hits' 'pass none 2*sys::open;2*sys::write;sys::fsync;sys::rename;sys::fsync' "$(one none)"
 keep='sys::fsync=1*return;power::keep=3*off->1*return'
-is 'and those of the cut' "fail torn	$keep	2*sys::open;2*sys::write;sys::rename;sys::fsync;4*power::keep" \
-    "$(HITS=yes STATES=keep FLAW=rename_first examples/replace/try.sh "$keep")"
+is 'and those of the cut' "fail torn $keep 2*sys::open;2*sys::write;sys::rename;sys::fsync;4*power::keep" "$(FLAW=rename_first one keep "$keep")"
 tear='sys::fsync=1*return;power::keep=return;power::tear=1*return'
-is 'of which it tears the first write' "fail torn	$tear	2*sys::open;2*sys::write;sys::rename;sys::fsync;2*power::keep;power::tear;2*power::keep" \
-    "$(HITS=yes STATES=tear FLAW=rename_first examples/replace/try.sh "$tear")"
-is 'replace, the scenario in FAILPOINTS' 'fail torn	sys::fsync=1*return' \
-    "$(FAILPOINTS='sys::fsync=1*return' FLAW=ignore_sync examples/replace/try.sh)"
-is 'replace under a pause is unresolved' 'unresolved	sys::write=pause' "$(examples/replace/try.sh 'sys::write=pause')"
-is 'replace under a refused scenario is unresolved' 'unresolved	sys::write=retrun' "$(examples/replace/try.sh 'sys::write=retrun' 2> "$here/faults")"
+is 'of which it tears the first write' "fail torn $tear 2*sys::open;2*sys::write;sys::rename;sys::fsync;2*power::keep;power::tear;2*power::keep" \
+    "$(FLAW=rename_first one tear "$tear")"
+is 'replace under a pause is unresolved' 'unresolved sys::write=pause 2*sys::open;sys::write' "$(one 'sys::write=pause')"
+is 'replace under a refused scenario is unresolved' 'unresolved sys::write=retrun ' "$(one 'sys::write=retrun')"
 
 # What has no plan of its own.
 is 'replace retry_write, two halves in turn' 'pass,pass,fail torn' "$(verdicts retry_write 'sys::write=2*return(HALF)' \
@@ -83,6 +75,6 @@ is 'replace retry_write, two halves in turn' 'pass,pass,fail torn' "$(verdicts r
 
 # States that the bundled device doesn't have: the new name may last before the folder is synced, the contents may not.
 is 'replace late_sync, names before contents' 'fail torn	sys::fsync=1*return' \
-    "$(STATES='lasting names' FLAW=late_sync examples/replace/try.sh 'sys::fsync=1*return')"
+    "$(STATES='lasting names' FLAW=late_sync tests/tried.py examples/replace 'sys::fsync=1*return' | cut -f 1,2)"
 is 'replace sound in every state' pass,pass,pass,pass,pass "$(export STATES='lasting names contents live' && verdicts sound \
     none sys::write=1*return 'sys::fsync=1*return' 'sys::fsync=1*off->1*return' 'sys::fsync=1*off->1*panic')"

@@ -188,6 +188,12 @@ class Shown(Campaigns):
         self.assertEqual((self.here / "report").read_text().splitlines()[-1], "cause 9 lost sys::fsync=1*return")
         self.assertIn("<html", (self.here / "page.html").read_text())
 
+    def test_how_it_is_run_again(self):
+        settings = self.here / "own.toml"
+        settings.write_text(SETTINGS.format('"sys::open", "sys::write", "sys::fsync", "sys::rename"'))
+        done = self.loop("-x", "--settings", settings, "--into", self.here, NOTE, FLAW="unchecked_sync")
+        self.assertIn(f" {NOTE} --settings {settings} --into {self.here} --try 'sys::fsync=1*return'\n", done.told)
+
     def test_one_scenario_hit_by_hit(self):
         done = self.loop("--into", self.here, NOTE, "--try", "sys::fsync=1*return", FLAW="unchecked_sync")
         self.assertEqual(done.status, 1)

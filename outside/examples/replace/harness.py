@@ -1,0 +1,37 @@
+"""replace.c replaces a file as the bundled file replacement does, and says which replacement it has begun and done. By the environment:
+    FLAW            sound (where it isn't set), late_sync, ignore_sync, retry_write, rename_first or in_place
+    OLD             what the file holds before: old
+    REPLACEMENTS    lists of chunks without blanks, a comma between two lists: ne w
+    STATES          which states are judged where settings lack power::keep: lasting
+
+torn: the file holds neither what was there before nor a replacement that was begun. stale: it holds an older one than that which was acknowledged.
+
+With keep.toml a campaign grows over what a power cut may keep: two faults deep FLAW=rename_first has 4 causes, the first
+`sys::fsync=1*return;power::keep=3*off->1*return` (the name, and none of its bytes), FLAW=in_place 23, the first
+`sys::open=1*off->1*return;power::keep=1*return` (the old name is gone). In `lasting` both pass every plan."""
+
+import os
+from pathlib import Path
+
+FLAW = os.environ.get("FLAW", "sound")
+OLD = os.environ.get("OLD", "old")
+WORDS = os.environ.get("REPLACEMENTS", "ne w").split()
+CONTENTS = [OLD, *[words.replace(" ", "") for words in " ".join(WORDS).split(" , ")]]
+
+environment = {"FLAW": FLAW, "OLD": OLD, "REPLACEMENTS": " ".join(WORDS)}
+states = os.environ.get("STATES", "lasting").split()
+
+
+def prepare():
+    Path("target").write_text(OLD)
+
+
+run = ["../../out/replace", FLAW, *WORDS]
+
+
+def judge(said):
+    begun, done = [max([0, *[int(line.split()[1]) for line in said if line.startswith(word)]]) for word in ("begun ", "done ")]
+    held = Path("target").read_text() if os.path.exists("target") else None
+    if held in CONTENTS[done:begun + 1]:
+        return None
+    return "stale" if held in CONTENTS[:begun + 1] else "torn"

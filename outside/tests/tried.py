@@ -1,0 +1,35 @@
+#!/usr/bin/env python3
+"""tried.py [keep | tear] HARNESS SCENARIO..: runs each of them, whatever is known of others, and writes its answer: verdict, scenario, hits. In the
+states of the harness; or in the one that the scenario says, of kept changes, or of torn ones too."""
+import atexit, os, sys
+
+sys.path.insert(0, os.path.dirname(os.path.dirname(os.path.abspath(__file__))))
+from harness import definition  # noqa: E402
+from harness.bounds import Bounds  # noqa: E402
+from harness.deciding import Decider  # noqa: E402
+from harness.disk import disk_of  # noqa: E402
+from harness.judging import LooksUp  # noqa: E402
+from harness.processes import Processes  # noqa: E402
+from harness.records import Records  # noqa: E402
+from harness.room import Room  # noqa: E402
+from harness.run import Runner  # noqa: E402
+from harness.work import Work  # noqa: E402
+
+
+def tries_of(path, state=None):
+    """A function from a scenario to its outcome. What it lays out goes with this program."""
+    processes, work = Processes(), Work(None)
+    atexit.register(work.end)
+    atexit.register(processes.end)
+    room = Room(disk_of(str(work.folder)), 1 << 30, Bounds(60, 1 << 30), Records())
+    runner = Runner(definition.read(path), work, processes, room)
+    runner.prepare()
+    decider = Decider(runner, state, 0, every_run=True)
+    return lambda text: decider.run_again(text, LooksUp.NONE)
+
+
+if __name__ == "__main__":
+    state = sys.argv.pop(1) if sys.argv[1] in ("keep", "tear") else None
+    run = tries_of(sys.argv[1], state)
+    for scenario in sys.argv[2:]:
+        print(run(scenario).answer())
