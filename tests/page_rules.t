@@ -49,12 +49,12 @@ What a page shows of a report that stands in this repository, and what a table t
   $ printf '%s\n' '```sh' 'paklour run examples/replace_late_sync.toml' '```' '' 'It ends:' '' '```' > begin.md
   $ { cat begin.md; tail -n 2 "$TESTDIR/../examples/replace_late_sync.toml.stdout"; printf '%s\n' '```' '| `leveldb` | LevelDB | 105 | 2 lost |'; } > page.md
   $ rules
-  $ { cat begin.md; printf '%s\n' 'reduced none' 'tests 1' '```' '| `leveldb` | LevelDB | 106 | 2 lost |' '| `dovecot` | a lda | 190 | 1 lost |'; } > page.md
+  $ { cat begin.md; printf '%s\n' 'reduced none' 'tests 1' '```' '| `leveldb` | LevelDB | 106 | 2 lost |' '| `dovecot` | a lda | 175 | 1 lost |'; } > page.md
   $ rules
   pages:
   page.md: examples/replace_late_sync.toml.stdout ends otherwise: reduced none
   page.md: outside/examples/leveldb/report has 105 plans, failing 2 lost: leveldb
-  page.md: outside/examples/dovecot/report has 190 plans, failing none: dovecot
+  page.md: outside/examples/dovecot/report has 175 plans, failing none: dovecot
 
 Of a loop over an example of outside/: the lines that are shown, of which `..` stands for some, and those that the text names. Three faults deep SQLite
 has 1,119 plans, and 217 causes are the last that is told.

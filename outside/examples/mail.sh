@@ -1,5 +1,5 @@
-# What the examples of mail systems share: sourced, after shared.sh. The system delivers messages 1 and 2, each by a process of its own;
-# message 0 was there before. torn: something stands there that is no whole message. lost: a message isn't there though its
+# What the programs of the examples of mail systems share: sourced. The system delivers messages 1 and 2, each by a process of its own; message 0 was there
+# before. The messages are none of the data. torn: something stands there that is no whole message. lost: a message isn't there though its
 # process answered 0, or one that was there before isn't. twice: a message is there more than once, though its process answered 0.
 # bounced: the sender is told that it can't be delivered, where trying again would do. crashed: a signal.
 
@@ -17,35 +17,39 @@ message() {
 # messages: makes them, with the line by which an mbox begins one
 messages() {
     for number in 0 1 2; do
-        message "$number" > "$here/message$number"
-        { echo 'From alice@example.org Wed Nov 25 13:00:00 2026'; cat "$here/message$number"; } > "$here/sent$number"
+        message "$number" > "$TMPDIR/message$number"
+        { echo 'From alice@example.org Wed Nov 25 13:00:00 2026'; cat "$TMPDIR/message$number"; } > "$TMPDIR/sent$number"
     done
 }
 
-# statuses: what the two processes ended with (sysexits.h): 0 took the message, 75 (EX_TEMPFAIL) leaves it with the sender, who tries
-# again, and so does 99, where the machine is gone; all else sends it back, or tells nothing.
+broken() {
+    echo "$1"
+    exit 1
+}
+
+# statuses: what the two processes ended with (sysexits.h): 0 took the message, 75 (EX_TEMPFAIL) leaves it with the sender, who tries again; all else sends it
+# back, or tells nothing.
 statuses() {
     while read -r number status; do
         case $status in
-        0 | 75 | 99) ;;
-        134 | 139) verdict 'fail crashed' ;;
-        97 | 98 | 124 | 137) verdict unresolved ;;
-        *) verdict 'fail bounced' ;;
+        0 | 75) ;;
+        134 | 139) broken crashed ;;
+        97 | 98 | 124 | 137) exit 3 ;;
+        *) broken bounced ;;
         esac
-    done < "$here/ended"
+    done < "$SAID"
 }
 
-# judge PYTHON-WORDS..: by counts of whole messages, `copies.py`, in this state
+# judge NAME..: by counts of whole messages in these mboxes and folders
 judge() {
-    python3 -B "$outside/examples/copies.py" "$here" "$@" > "$here/copies" 2> "$here/torn" || {
-        [ -z "${SHOW-}" ] || cat "$here/torn" >&2
-        verdict 'fail torn'
-    }
-    read -r zero one two < "$here/copies"
-    [ "$zero" -eq 1 ] || verdict 'fail lost'
+    messages
+    statuses
+    python3 -B "$HARNESS/../copies.py" "$TMPDIR" "$@" > "$TMPDIR/copies" || broken torn
+    read -r zero one two < "$TMPDIR/copies"
+    [ "$zero" -eq 1 ] || broken lost
     while read -r number status; do
         [ "$number" -eq 1 ] && copies=$one || copies=$two
-        [ "$status" -ne 0 ] || [ "$copies" -ge 1 ] || verdict 'fail lost'
-        [ "$status" -ne 0 ] || [ "$copies" -eq 1 ] || verdict 'fail twice'
-    done < "$here/ended"
+        [ "$status" -ne 0 ] || [ "$copies" -ge 1 ] || broken lost
+        [ "$status" -ne 0 ] || [ "$copies" -eq 1 ] || broken twice
+    done < "$SAID"
 }
