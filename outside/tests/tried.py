@@ -1,6 +1,6 @@
 #!/usr/bin/env python3
 """tried.py [keep | tear] HARNESS SCENARIO..: runs each of them, whatever is known of others, and writes its answer: verdict, scenario, hits. In the
-states of the harness; or in the one that the scenario says, of kept changes, or of torn ones too."""
+states of the harness; or in the one that the scenario says, of kept changes, or of torn ones too. TRACE is a file that takes the trace of the last."""
 import atexit, os, sys
 
 sys.path.insert(0, os.path.dirname(os.path.dirname(os.path.abspath(__file__))))
@@ -32,4 +32,8 @@ if __name__ == "__main__":
     state = sys.argv.pop(1) if sys.argv[1] in ("keep", "tear") else None
     run = tries_of(sys.argv[1], state)
     for scenario in sys.argv[2:]:
-        print(run(scenario).answer())
+        outcome = run(scenario)
+        print(outcome.answer())
+    if "TRACE" in os.environ:
+        with open(os.environ["TRACE"], "w") as trace:
+            trace.writelines("\t".join(hit) + "\n" for hit in outcome.trace)
