@@ -16,7 +16,7 @@ from .processes import WITHIN, Processes
 from .records import Records
 from .room import Room
 from .run import Runner
-from .settings import Settings
+from .settings import NEXT, Settings
 from .shard import join, shard_of
 from .shown import show
 from .watching import watched
@@ -113,6 +113,7 @@ def run_harness(loop: str, options: dict[str, str], path: str, processes: Proces
     if "--join" in options:
         join(Path(options["--join"]), harness.digest(), answers)
     settings = Settings(harness, folder, answers, options.get("--settings"), depth_of(options), kinds_of(options))
+    harness.order = "next" if NEXT in settings.points else harness.order
     work = Work(note)
     try:
         runner = Runner(harness, work, processes, room_of(options, work.folder.parent))

@@ -19,7 +19,7 @@ from .records import Key, key_of, lasting_faults
 from .room import TooLarge
 from .run import Runner
 from .scenario import Scenario, Unreadable, hits_text, keeping, scenario_of
-from .trace import trace_of
+from .trace import points_trace, trace_of
 
 ONE_IN = 20  # of what follows is tried
 NAMES = {"create", "mkdir", "symlink", "link", "unlink", "rmdir", "rename", "exchange"}
@@ -39,6 +39,13 @@ def is_tried(scenario: str) -> bool:
     return int.from_bytes(hashlib.sha256(scenario.encode("utf-8", "surrogateescape")).digest()[:8], "big") % ONE_IN == 0
 
 
+def meet(outcome: Outcome, folder: Path) -> None:
+    """Where no hits are told, those of a client count too, which have no place among the others. A fault that is never met wasn't tried."""
+    outcome.trace += points_trace(folder, len(outcome.trace))
+    if outcome.scenario != "none" and all(hit[3] == "go" for hit in outcome.trace):
+        outcome.judgement = Judgement(UNRESOLVED, "no fault of it was met")
+
+
 class Decider:
     def __init__(self, runner: Runner, asking: str | None, depth: int, every_run: bool):
         self.runner = runner
@@ -49,7 +56,7 @@ class Decider:
         self.records = runner.room.records
         self.asking = asking  # the state of a power cut that asks the scenario; None where it isn't asked
         self.depth = depth  # a run with so many faults has no others that follow
-        self.every_run = every_run
+        self.every_run = every_run or not depth  # without a depth no run has to have the hits of another
         self.tried = 0
         self.followed = 0
         self.made_bases: set[Key] = set()
@@ -157,9 +164,12 @@ class Decider:
         if record.why:
             return Outcome(text, Judgement(UNRESOLVED, record.why), trace_of(record.run))
         try:
-            return self.finished(record, hit, text, looks_up)
+            outcome = self.finished(record, hit, text, looks_up)
         except TooLarge as found:
             return Outcome(text, Judgement(UNRESOLVED, str(found)), trace_of(record.run))
+        if not self.depth:
+            meet(outcome, record.folder)
+        return outcome
 
     def finished(self, record: Record, hit: int, text: str, looks_up: LooksUp) -> Outcome | None:
         run, said = record.run, record.said()

@@ -1,5 +1,5 @@
 """A harness: how a program is prepared, run, run again after a power cut, and judged. A folder with up to four programs of these names, or a
-file of Python, which defines them as functions or commands."""
+file of Python, which defines them as functions or commands. A file of Python in the folder says more of the programs beside it."""
 
 import hashlib
 import json
@@ -43,14 +43,12 @@ class Harness:
 
 def read(path: str) -> Harness:
     place = Path(path).resolve()
-    if place.is_dir() and (place / PYTHON_FILE).exists():
-        harness = read_file(place / PYTHON_FILE, place.name)
-    elif place.is_dir():
-        harness = read_folder(place)
-    elif place.exists():
-        harness = read_file(place, place.stem if place.name != PYTHON_FILE else place.parent.name)
-    else:
+    if not place.exists():
         raise Stopped(f"{path}: no such harness")
+    file = place / PYTHON_FILE if place.is_dir() else place
+    harness = read_folder(file.parent) if file.name == PYTHON_FILE else Harness(file.stem, file.parent, [], {})
+    if file.exists():
+        read_file(file, harness)
     for needed in ("run", "judge"):
         if needed not in harness.steps:
             raise Stopped(f"{path}: a harness without `{needed}` says nothing")
@@ -70,20 +68,24 @@ def read_folder(place: Path) -> Harness:
     return harness
 
 
-def read_file(file: Path, name: str) -> Harness:
+def read_file(file: Path, harness: Harness) -> None:
+    """Adds what the file defines."""
     done = subprocess.run([sys.executable, str(STEP), str(file)], capture_output=True, check=False)
     if done.returncode:
         raise Stopped(f"{file}: {done.stderr.decode('utf-8', 'surrogateescape').strip() or 'it ends with ' + str(done.returncode)}")
     told = json.loads(done.stdout.splitlines()[-1])
     steps = {step: words_of(file, step, told[step]) for step in STEPS if step in told}
-    functions = frozenset(step for step in steps if told[step] is None)
-    harness = Harness(name, file.parent, [file], steps, functions, told.get("environment", {}), tuple(told.get("states", ())),
-        told.get("order", "settled"), told.get("pin", True), tuple(told.get("unjudged", ())))
+    harness.steps |= steps
+    harness.functions = frozenset(step for step in steps if told[step] is None)
+    programs = [Path(words[0]) for step, words in steps.items() if step not in harness.functions]
+    harness.files[:0] = [file, *[program for program in programs if program.is_absolute() and program.exists()]]
+    harness.variables = told.get("environment", {})
+    harness.states, harness.order, harness.pins = tuple(told.get("states", ())), told.get("order", "settled"), told.get("pin", True)
+    harness.unjudged += tuple(told.get("unjudged", ()))
     if unknown := set(harness.states) - set(ALL_STATES):
         raise Stopped(f"{file}: no such state: {', '.join(sorted(unknown))}")
-    if harness.order not in ("settled", "next", "arrival"):
+    if harness.order not in ("settled", "arrival"):
         raise Stopped(f"{file}: no such order: {harness.order}")
-    return harness
 
 
 def words_of(file: Path, step: str, command: str | list[str] | None) -> list[str]:

@@ -26,5 +26,5 @@ class Outcome:
             return "-"
         return hits_text([hit[1] for hit in self.trace])
 
-    def answer(self) -> str:
-        return f"{self.verdict}\t{self.scenario}\t{self.hits}"
+    def answer(self, tells_hits: bool = True) -> str:
+        return f"{self.verdict}\t{self.scenario}" + (f"\t{self.hits}" if tells_hits else "")

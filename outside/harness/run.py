@@ -17,7 +17,7 @@ from .record import Record
 from .room import Room, TooLarge
 from .served import Served
 from .shown import show
-from .trace import trace_of
+from .trace import POINTS, trace_of
 from .work import Work
 
 TIME_IS_UP, CANNOT, NOT_FOUND = 124, 125, 127  # how `within` ends
@@ -88,7 +88,8 @@ class Runner:
         """A step under the supervisor; its status, and why the run says nothing."""
         order = [] if self.harness.order == "arrival" else ["--order", self.harness.order]
         words = [str(programs.FAULTS), *order, *["--pin"] * self.harness.pins, "--", *self.harness.steps[step]]
-        status, why = self.start(words, folder, said, FAILPOINTS=scenario, FAULTS_ROOT=str(folder / "data"), FAULTS_RUN=str(run))
+        status, why = self.start(words, folder, said, FAILPOINTS=scenario, FAULTS_ROOT=str(folder / "data"), FAULTS_RUN=str(run),
+            POINTS_TRACE=str(folder / POINTS))
         if status == programs.REFUSED:
             why = last_line(folder / "errors") or "it ended with 98"
         if status == programs.PAUSED:

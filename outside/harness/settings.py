@@ -12,8 +12,9 @@ from .shown import show
 MADE = "# Made by paklour-loop. Without this line they are yours, and stay as they are."
 FILES = ["open", "read", "write", "fsync", "truncate", "rename", "link", "unlink", "mkdir", "rmdir", "symlink"]
 POINTS = [f"sys::{name}" for name in FILES] + ["power::keep", "power::tear"]
+NEXT = "order::next"  # where settings have it, who goes first is planned as faults are
 OWN_POINTS = re.compile(r"(sys|libc|power|order)::")
-KNOWN_POINTS = re.compile(r"sys::(" + "|".join([*FILES, "connect", "accept", "send", "recv"]) + r")(@.*)?|power::keep|power::tear|order::next", re.S)
+KNOWN_POINTS = re.compile(r"sys::(" + "|".join([*FILES, "connect", "accept", "send", "recv"]) + r")(@.*)?|power::keep|power::tear|" + NEXT, re.S)
 WRITES = ["return", "return(ENOSPC)", "return(HALF)", "panic"]
 
 
@@ -81,10 +82,11 @@ class Settings:
             return None
         return "tear" if "power::tear" in self.points else "keep"
 
-    def unknown_points(self) -> list[str]:
-        """Those that have a prefix of these tools, and that no program ever hits. Only what is kept may be torn."""
-        unknown = [point for point in self.points if OWN_POINTS.match(point) and not KNOWN_POINTS.fullmatch(point)]
-        return unknown + ["power::tear"] * ("power::tear" in self.points and not self.asking())
+    def refused_points(self) -> list[tuple[str, str]]:
+        """Each with why: a prefix of these tools, and no program ever hits it; or one that is told to nobody. Only what is kept may be torn."""
+        unknown = [point for point in self.points if not KNOWN_POINTS.fullmatch(point) and (self.depth or OWN_POINTS.match(point))]
+        unknown += ["power::tear"] * ("power::tear" in self.points and not self.asking())
+        return [(point, "no program hits" if OWN_POINTS.match(point) else "with a depth there is no place for a program's own") for point in unknown]
 
 
 def code_of(answer: str) -> str:

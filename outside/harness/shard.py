@@ -1,9 +1,10 @@
 """Campaigns that go over machines: each has a share of the plans, and one of them brings the answers together.
 
 A plan belongs to the fault that acts first in it. Up to there its run is the one without faults, which each machine makes, and all that grows from a
-plan has the same first fault: so a share is grown without the others."""
+plan has the same first fault: so a share is grown without the others. Where no run's hits are told nothing grows, and any share will do."""
 
 import json
+import zlib
 from dataclasses import dataclass
 from pathlib import Path
 
@@ -20,7 +21,8 @@ class Shard:
     count: int
 
     def has(self, text: str, places: Places) -> bool:
-        return text == "none" or first_place(text, places) % self.count == self.number - 1
+        place = first_place(text, places) if places else zlib.crc32(text.encode("utf-8", "surrogateescape"))
+        return text == "none" or place % self.count == self.number - 1
 
 
 def shard_of(text: str) -> Shard:
@@ -35,7 +37,7 @@ def shard_of(text: str) -> Shard:
 def places_in(answers: Answers) -> Places:
     for line in answers.lines():
         if scenario_in(line) == "none":
-            return {hit: place for place, hit in enumerate(numbered(points_of(line.split("\t")[2])))}
+            return {hit: place for place, hit in enumerate(numbered(points_of("".join(line.split("\t")[2:]))))}
     return {}
 
 
@@ -79,8 +81,8 @@ def join(folder: Path, digest: str, answers: Answers) -> None:
 
 
 def scenario_in(line: str) -> str:
-    """Of an answer: the loop's own have a verdict, a scenario and hits."""
+    """Of an answer: the loop's own have a verdict, a scenario, and with a depth hits."""
     fields = line.split("\t")
-    if len(fields) < 3:
+    if len(fields) < 2:
         raise Stopped(f"no answer of a harness: {line}")
     return fields[1]

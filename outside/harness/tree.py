@@ -26,16 +26,12 @@ def contents_of(path: str, told: os.stat_result) -> bytes:
         return os.fsencode(os.readlink(path))
     if stat.S_ISREG(told.st_mode):
         with open(path, "rb", buffering=0) as file:
-            return digest_of_parts(file, told.st_size) if is_sparse(told) else hashlib.file_digest(file, "sha256").digest()
+            return digest_of_parts(file, told.st_size) if told.st_size > BLOCK else hashlib.sha256(file.read()).digest()
     return b""
 
 
-def is_sparse(told: os.stat_result) -> bool:
-    return told.st_size > BLOCK and told.st_blocks * 512 < told.st_size
-
-
 def parts(file: int, length: int) -> Iterator[tuple[int, int]]:
-    """Where bytes are, and not holes: beginnings and lengths."""
+    """Where bytes are, and not holes, or room that nobody has written to: beginnings and lengths."""
     at = 0
     while at < length:
         try:
@@ -48,12 +44,15 @@ def parts(file: int, length: int) -> Iterator[tuple[int, int]]:
 
 
 def digest_of_parts(file: BinaryIO, length: int) -> bytes:
-    """A hole of terabytes isn't read."""
+    """Of its blocks that aren't all zeros, so that it is the same wherever holes are. One of terabytes isn't read."""
     state = hashlib.sha256(b"%d" % length)
+    end = 0
     for at, size in parts(file.fileno(), length):
-        state.update(b" %d %d " % (at, size))
-        for begin in range(at, at + size, BLOCK):
-            state.update(os.pread(file.fileno(), min(BLOCK, at + size - begin), begin))
+        for begin in range(max(end, at - at % BLOCK), at + size, BLOCK):
+            block = os.pread(file.fileno(), BLOCK, begin)
+            if block.count(0) < len(block):
+                state.update(b" %d " % begin + block)
+            end = begin + BLOCK
     return state.digest()
 
 
@@ -70,8 +69,8 @@ def digest(folder: str, leaves_out: tuple[str, ...] = ()) -> bytes:
 
 
 def copy_file(source: str, target: str, told: os.stat_result) -> None:
-    """Its holes stay holes."""
-    if not is_sparse(told):
+    """Its holes stay holes, and of a log that has room ahead, as etcd's has for 64 megabytes, none is copied."""
+    if told.st_size <= BLOCK:
         shutil.copyfile(source, target)
         return
     with open(source, "rb", buffering=0) as file, open(target, "xb", buffering=0) as copied:

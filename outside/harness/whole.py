@@ -18,7 +18,7 @@ from .outcome import Outcome
 from .paklour import Paklour
 from .run import Runner
 from .settings import Settings
-from .shard import Shard, places_in
+from .shard import Shard, places_in, scenario_in
 from .shown import show
 from .telling import failure, group_of
 from .workers import Workers
@@ -73,7 +73,7 @@ class Whole:
     def try_all(self, asked: list[str]) -> Iterator[str]:
         self.tell_size(asked)
         for outcome in self.workers.decided(asked):
-            answer = outcome.answer()
+            answer = outcome.answer(self.settings.depth > 0)
             self.settings.take_code(answer)
             yield answer
             self.tell(outcome)
@@ -90,7 +90,7 @@ class Whole:
         self.has_told_size = True
         hits = len(asked) // 2
         more = sum(2 * math.comb(hits, faults) for faults in range(2, self.settings.depth + 1))
-        show(f"loop: {len(asked)} plans with one fault" + (f", and to depth {self.settings.depth} perhaps {more} more" if more else ""))
+        show(f"loop: {len(asked)} plans" + " with one fault" * (self.settings.depth > 0) + (f", and to depth {self.settings.depth} perhaps {more} more" if more else ""))
 
     def tell(self, outcome: Outcome) -> None:
         if outcome.verdict == UNRESOLVED:
@@ -130,8 +130,8 @@ class Whole:
 
     def run(self) -> int:
         campaign = Campaign(self.paklour, self.answers, self, self.asked.shows_progress)
-        for point in self.settings.unknown_points():
-            raise Stopped(f"{self.settings.path}: no program hits {point}")
+        for point, why in self.settings.refused_points():
+            raise Stopped(f"{self.settings.path}: {why} {point}")
         try:
             campaign.grow(mine=self.mine)
             return self.report() if not self.asked.shard else self.end_of_shard()
@@ -162,8 +162,6 @@ class Whole:
             (self.folder / FORMS[form]).write_bytes(self.paklour.report(form, tells=False)[1])
         sys.stdout.buffer.write(brief if self.asked.brief else report)
         sys.stdout.buffer.flush()
-        for point in never_reached(report):
-            show(f"loop: no run reaches {point}")
         is_same = self.confirm(findings(report, self.settings.codes))
         self.tell_counts()
         return status if is_same else DIFFERS
@@ -175,13 +173,13 @@ class Whole:
     def confirm(self, scenarios: list[str]) -> bool:
         """Runs each finding and cause once more, and the run without faults, which passed long ago; tells what the causes have in common.
         Whether all did the same."""
-        verdicts = {fields[1]: fields for fields in (line.split("\t") for line in self.answers.lines())}
+        lines = {scenario_in(line): line for line in self.answers.lines()}
         groups: Counter[str] = Counter()
         is_same = True
         for outcome in self.workers.run_again(["none", *scenarios]):
-            verdict, _, hits = verdicts[outcome.scenario][:3]
-            if (outcome.verdict, outcome.hits) != (verdict, hits):
-                self.tell_difference(verdict, outcome, hits)
+            line = lines[outcome.scenario]
+            if outcome.answer(self.settings.depth > 0) != line:
+                self.tell_difference(line.split("\t")[0], outcome, line.split("\t")[-1])
                 is_same = False
             elif outcome.scenario != "none":
                 groups[group_of(outcome)] += 1
@@ -199,13 +197,6 @@ class Whole:
         show("loop: the program, or its judge, doesn't do the same each time; --every-run takes nothing from another run")
 
 
-def never_reached(report: bytes) -> list[str]:
-    """Points of one's own: of those of the system each program has but some."""
-    lines = report.decode("utf-8", "surrogateescape").splitlines()
-    points = [line.split(" ") for line in lines if line.startswith("reached ") and line.endswith(" 0")]
-    return [" ".join(words[1:-1]) for words in points if not words[1].startswith(("sys::", "power::", "order::"))]
-
-
 def findings(report: bytes, codes: list[str]) -> list[str]:
     """The scenarios of the first failure, of what it is reduced to, and of the causes, each once."""
     found = []
@@ -221,4 +212,4 @@ def findings(report: bytes, codes: list[str]) -> list[str]:
 
 
 def decider_of(runner: Runner, settings: Settings, every_run: bool) -> Decider:
-    return Decider(runner, settings.asking(), settings.depth or 64, every_run)
+    return Decider(runner, settings.asking(), settings.depth, every_run)

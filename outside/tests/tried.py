@@ -22,7 +22,9 @@ def tries_of(path, state=None):
     atexit.register(work.end)
     atexit.register(processes.end)
     room = Room(disk_of(str(work.folder)), 1 << 30, Bounds(60, 1 << 30), Records())
-    runner = Runner(definition.read(path), work, processes, room)
+    harness = definition.read(path)
+    harness.order = "next" if any("order::next" in word for word in sys.argv) else harness.order
+    runner = Runner(harness, work, processes, room)
     runner.prepare()
     decider = Decider(runner, state, 0, every_run=True)
     return lambda text: decider.run_again(text, LooksUp.NONE)

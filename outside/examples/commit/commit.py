@@ -1,7 +1,5 @@
-"""commit.py run FOLDER TRANSACTIONS: two-phase commit with presumed abort, by a coordinator and two participants, each a process with a
-log in FOLDER. Writes `done N` or `aborted N` for each transaction as its client is told.
-commit.py judge FOLDER < what it wrote: what recovery makes of the logs: ok, split (one participant commits and the other doesn't), lost
-(the client was told `done`, and none commits) or phantom (it was told `aborted`, and all commit).
+"""commit.py TRANSACTIONS: two-phase commit with presumed abort, by a coordinator and two participants, each a process with a log in the folder in which it is
+started. Writes `done N` or `aborted N` for each transaction as its client is told.
 
 Messages are points of its own (`commit::send_..`): one that fails is lost. What is lost comes as an empty line, in place of a wait.
 Logs are files, so their writes and syncs are points of the supervisor. FLAW:
@@ -187,6 +185,7 @@ def commits(folder, name, number):
 
 
 def judged(folder, told, transactions):
+    """What recovery makes of the logs, None where it is right."""
     for number in range(1, transactions + 1):
         ends = {commits(folder, name, number) for name in NAMES}
         if len(ends) > 1:
@@ -195,10 +194,8 @@ def judged(folder, told, transactions):
             return "lost"
         if f"aborted {number}" in told and ends == {True}:
             return "phantom"
-    return "ok"
+    return None
 
 
-if sys.argv[1] == "run":
-    run(sys.argv[2], int(sys.argv[3]))
-else:
-    print(judged(sys.argv[2], sys.stdin.read().split("\n"), int(sys.argv[3])))
+if __name__ == "__main__":
+    run(".", int(sys.argv[1]))

@@ -41,6 +41,12 @@ class Shares(unittest.TestCase):
         self.assertEqual([share.has("write=1*return", self.places) for share in shares], [False, True, False])
         self.assertTrue(all(share.has("none", self.places) for share in shares))
 
+    def test_each_plan_has_one_where_no_hits_are_told(self):
+        plans = [f"fsync={number}*return" for number in range(1, 30)]
+        counts = [sum(Shard(number, 3).has(plan, {}) for plan in plans) for number in (1, 2, 3)]
+        self.assertEqual(sum(counts), len(plans))
+        self.assertTrue(all(counts), counts)
+
     def test_points_of_an_answer(self):
         self.assertEqual(points_of("open;2*write;fsync"), ["open", "write", "write", "fsync"])
         self.assertEqual((points_of("-"), points_of("")), ([], []))
@@ -97,9 +103,11 @@ class Machines(Campaigns):
         self.whole()
         parts = self.here / "parts"
         shutil.copytree(self.here / "whole", parts / "1")
-        (parts / "1" / "answers").write_text("pass\tnone\n")
-        done = self.loop(*WORDS, "--join", parts, "--into", self.here / "joined", NOTE)
-        self.assertEqual((done.status, done.told), (2, "loop: no answer of a harness: pass\\x09none\n"))
+        for line, told in (("pass", "loop: no answer of a harness: pass\n"), ("pass\tnone", "answers: line 1: no hits\n")):
+            (parts / "1" / "answers").write_text(f"{line}\n")
+            done = self.loop(*WORDS, "--join", parts, "--into", self.here / "joined", NOTE)
+            self.assertEqual(done.status, 2)
+            self.assertIn(told, done.told)
 
     def test_shares_that_say_otherwise(self):
         self.whole()

@@ -182,6 +182,20 @@ class Trees(Campaigns):
             file.write(b"c")
         self.assertNotEqual(tree.digest(self.here / "sparse"), before)
 
+    def test_room_that_nobody_has_written_to(self):
+        """A log takes 8 megabytes ahead: no byte of that is copied, and it is the same as zeros that were written."""
+        ahead, written = self.here / "ahead", self.here / "written"
+        for folder in (ahead, written):
+            folder.mkdir()
+            (folder / "log").write_text("first")
+        with open(ahead / "log", "r+b") as file:
+            os.posix_fallocate(file.fileno(), 0, 8 << 20)
+        with open(written / "log", "ab") as file:
+            file.write(bytes((8 << 20) - len("first")))
+        tree.copy(str(ahead), f"{self.here}/copied")
+        self.assertLess(tree.size(f"{self.here}/copied"), 1 << 20)
+        self.assertEqual(len({tree.digest(f"{self.here}/{name}") for name in ("ahead", "written", "copied")}), 1)
+
     def test_holes_are_not_copied(self):
         folder = self.sparse("sparse", 100 << 20)
         tree.copy(str(folder), f"{self.here}/copied")

@@ -1,0 +1,82 @@
+"""Settings without a depth list hits, and plans come from these: for runs whose hits nobody can tell in order, as those of a client's points."""
+
+import unittest
+
+from .base import JUDGES, NOTE, OUTSIDE, SAVES, Campaigns
+
+SETTINGS = """target = "outside"
+scenarios = [{scenarios}]
+[outside]
+label = "x"
+codes = ["lost", "unsaved"]
+points = [{points}]
+hits = {hits}
+"""
+MARKS = """#!/bin/sh
+: > log
+exec python3 -c '
+from paklour_points import hit
+for word in ("one", "two"):
+    if hit("store::put") is None: print("put", word, flush=True)
+    else: print("not put", word, flush=True)
+'
+"""
+
+
+class WithoutDepth(Campaigns):
+    def settings(self, points, hits, scenarios=""):
+        path = self.here / "own.toml"
+        path.write_text(SETTINGS.format(points=points, hits=hits, scenarios=scenarios))
+        return path
+
+    def test_each_plan_is_run_and_no_hits_are_told(self):
+        """The note syncs its file and its folder: one return, one from then on and one panic for each of the two, and the run without faults."""
+        done = self.loop("--settings", self.settings('"sys::fsync"', [2]), "--into", self.here, NOTE, FLAW="unchecked_sync")
+        self.assertEqual(done.status, 1, done.told)
+        self.assertEqual(sorted(self.answers(self.here)), sorted(["pass\tnone", "fail lost\tsys::fsync=1*return", "fail lost\tsys::fsync=return",
+            "pass\tsys::fsync=1*panic", "pass\tsys::fsync=1*off->1*return", "pass\tsys::fsync=1*off->return", "pass\tsys::fsync=1*off->1*panic"]))
+        self.assertIn("loop: 7 plans\n", done.told)
+        self.assertIn("0 plans by what follows", done.told)
+
+    def test_a_fault_that_is_not_met_was_not_tried(self):
+        done = self.loop("--settings", self.settings('"sys::rmdir"', [0], '"sys::rmdir=1*return"'), "--into", self.here, NOTE)
+        self.assertEqual(sorted(self.answers(self.here)), ["pass\tnone", "unresolved\tsys::rmdir=1*return"])
+        self.assertIn("unresolved: no fault of it was met: sys::rmdir=1*return\n", done.told)
+
+    def test_points_of_a_client(self):
+        """Of two puts, each that fails breaks the promise."""
+        folder = self.harness(run=MARKS, judge="#!/bin/sh\ngrep -q 'not put' \"$SAID\" && { echo unsaved; exit 1; }; exit 0\n")
+        client = {"PYTHONPATH": str(OUTSIDE / "points" / "python" / "src")}
+        done = self.loop("--settings", self.settings('"store::put"', [2]), folder, **client)
+        self.assertEqual(sorted(self.answers(folder)), sorted(["pass\tnone", "pass\tstore::put=1*panic", "pass\tstore::put=1*off->1*panic",
+            *[f"fail unsaved\tstore::put={fault}" for fault in ("1*return", "return", "1*off->1*return", "1*off->return")]]), done.told)
+        shown = self.loop("--settings", self.here / "own.toml", "--try", "store::put=1*off->1*return", folder, **client).out.splitlines()
+        self.assertEqual([line.split(maxsplit=1)[1] for line in shown if "store::put" in line],
+            ["store::put 1 (-) -", "store::put 2 (-) fails [return]", "unsaved: the 2nd store::put (-) fails"])
+
+    def test_refused_with_a_depth(self):
+        settings = self.settings('"sys::open", "store::put"', [1, 2])
+        settings.write_text("depth = 1\n" + settings.read_text().replace("hits = [1, 2]\n", "").replace("scenarios = []\n", ""))
+        done = self.loop("--settings", settings, self.harness(run=SAVES, judge=JUDGES))
+        self.assertEqual((done.status, done.out), (2, ""))
+        self.assertIn(f"loop: {settings}: with a depth there is no place for a program's own store::put\n", done.told)
+
+
+class Described(Campaigns):
+    """A file of Python beside the programs says more of them."""
+
+    def test_what_it_adds(self):
+        folder = self.harness(run="#!/bin/sh\nprintf new > note && sync note . && echo \"$WORD\"\n", judge="#!/bin/sh\n[ \"$(cat \"$SAID\")\" != said ]\n")
+        (folder / "harness.py").write_text('environment = {"WORD": "said"}\n')
+        done = self.loop("--try", "none", folder)
+        self.assertIn("      said: said\n", done.out)
+        self.assertEqual(done.status, 1)
+
+    def test_an_order_that_settings_say(self):
+        folder = self.harness(run=SAVES, judge=JUDGES)
+        (folder / "harness.py").write_text('order = "next"\n')
+        self.assertIn("harness.py: no such order: next\n", self.loop(folder).told)
+
+
+if __name__ == "__main__":
+    unittest.main()
