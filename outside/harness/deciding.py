@@ -7,6 +7,7 @@ alike."""
 import hashlib
 import shutil
 import threading
+from dataclasses import replace
 from pathlib import Path
 
 from . import tree
@@ -18,7 +19,7 @@ from .record import Record
 from .records import Key, key_of, lasting_faults
 from .room import TooLarge
 from .run import Runner
-from .scenario import Scenario, Unreadable, hits_text, keeping, scenario_of
+from .scenario import POWER, Scenario, Unreadable, hits_text, keeping, scenario_of
 from .trace import points_trace, trace_of
 
 ONE_IN = 20  # of what follows is tried
@@ -60,6 +61,7 @@ class Decider:
         self.tried = 0
         self.followed = 0
         self.made_bases: set[Key] = set()
+        self.places: dict[tuple, tuple[int, Outcome]] = {}  # where a run was ended, at which hit, and what came of it
         self.lock = threading.Lock()
 
     def base_of(self, text: str) -> tuple[Key, int] | None:
@@ -144,11 +146,27 @@ class Decider:
             self.room.begin(record.folder)
         else:
             record = self.made_again(key)
-        outcome = None if record.why else self.finish(record, hit, text, LooksUp.ALL)
+        outcome = None if record.why else self.ended_at(record, key, hit, text)
         if outcome:
             outcome.follows = True
         self.keep(key, record)
         return outcome
+
+    def ended_at(self, record: Record, key: Key, hit: int, text: str) -> Outcome | None:
+        """A run that ends between the same two changes as another leaves what that one left: as before each of two reads."""
+        if "again" in self.harness.steps or hit > len(record.points):
+            return self.finish(record, hit, text, LooksUp.ALL)
+        place = key, *record.place(hit), *(piece for piece in text.split(";") if piece.strip().startswith(POWER))
+        if place not in self.places:
+            outcome = self.finish(record, hit, text, LooksUp.ALL)
+            if outcome:
+                self.places[place] = hit, outcome
+            return outcome
+        before, known = self.places[place]
+        trace = trace_of(record.run)[:hit]
+        trace[-1][3] = known.trace[before - 1][3]
+        asked = [[str(int(number) + hit - before), *rest] for number, *rest in known.trace[before:]]
+        return Outcome(text, replace(known.judgement, is_known=True), trace + asked, known.pending)
 
     def made_again(self, key: Key) -> Record:
         record = self.runner.make(scenario_of(key))

@@ -28,12 +28,13 @@ class Tools:
 
     def __init__(self, room: Room):
         self.room = room
+        self.environment = dict(os.environb)
 
     def call(self, program: Path, run: Path, *words: str | Path, may_end_with: int | None = None) -> tuple[int, str]:
         """Its status and what it wrote. It is called for each run, and by the system's own spawn costs half of what `subprocess` takes."""
         reader, writer = os.pipe()
         outputs = [(os.POSIX_SPAWN_DUP2, writer, number) for number in (1, 2)]
-        child = os.posix_spawn(program, [program, *words], os.environ, file_actions=outputs)
+        child = os.posix_spawn(program, [program, *words], self.environment, file_actions=outputs)
         os.close(writer)
         with open(reader, "rb") as output:
             self.await_room(output, child, run.parent)

@@ -21,5 +21,9 @@ class Record:
     def run(self) -> Path:
         return self.folder / "run"
 
+    def place(self, hit: int) -> tuple[str, ...]:
+        """How far the notes and the output were when that hit began."""
+        return tuple((self.run / "marks").read_text().splitlines()[hit - 1].split("\t")[1:])
+
     def said(self) -> bytes:
         return (self.folder / "said").read_bytes()

@@ -32,6 +32,7 @@ class Runner:
         self.processes = processes
         self.room = room
         self.seconds = room.bounds.seconds
+        self.outer = dict(os.environ)
         self.tools = Tools(room)
         self.count = 0
         self.prepared = work.folder / "prepared"
@@ -39,7 +40,7 @@ class Runner:
         self.lock = threading.Lock()
 
     def environment(self, folder: Path, **more: str) -> dict[str, str]:
-        return os.environ | {"HARNESS": str(self.harness.folder), "TMPDIR": str(folder / "tmp")} | self.harness.variables | more
+        return self.outer | {"HARNESS": str(self.harness.folder), "TMPDIR": str(folder / "tmp")} | self.harness.variables | more
 
     def with_variables(self, **variables: str) -> "Runner":
         """The same with more of its environment."""

@@ -53,6 +53,14 @@ class Follows(Campaigns):
         runs, all_runs = self.same(LOG, FLAW="full_disk")
         self.assertLess(runs, all_runs)
 
+    def test_what_is_said_between_two_reads(self):
+        """No file changes, and a promise is made: a run that ends before the second read has to be told from one that ends before the first."""
+        folder = self.harness(prepare="#!/bin/sh\nprintf a > a\n", run="#!/bin/sh\ncat a > \"$TMPDIR/a\"; echo said; cat a > \"$TMPDIR/a\"; : > b; sync .\n",
+            judge="#!/bin/sh\n[ ! -s \"$SAID\" ] || [ -e b ] || { echo early; exit 1; }\n")
+        self.same(folder)
+        ends = [line for line in self.answers(self.here / "known") if line.startswith("fail early\tsys::read=") and "panic" in line]
+        self.assertTrue(ends, "before the second read the promise was made, and b isn't there")
+
     @unittest.skipUnless(shutil.which("sqlite3"), "sqlite3 is not installed")
     def test_four_states_of_sqlite(self):
         settings = self.here / "settings.toml"
