@@ -18,12 +18,12 @@ use crate::candidates::{Outcome, Told, outcome_known};
 use crate::fault::QuestionFault;
 use crate::grown::{refuse_broken, refuse_gap};
 use crate::table::KnownByRuns;
-use crate::teller::RunsTeller;
 use campaign_core::causes_of;
 use campaign_plans::CampaignPlans;
 use grown_plans::GrownPlans;
 use outside_campaign::{
-    OutsideCampaign, OutsideFault, Verdicts, Words, first_number, plan_verdicts, verdicts_known,
+    AnswerTeller, OutsideCampaign, OutsideFault, Verdicts, Words, first_number, plan_verdicts,
+    verdicts_known,
 };
 use outside_grown::{GrownLists, census, grown_lists, reached};
 use report::{Growth, Report};
@@ -150,9 +150,9 @@ fn reported_text<'a>(
     let listed = settings.scenarios.len();
     let source = settings.source.as_str();
     let shown = shown_of(answered.plans, &grown.plans, storms, listed, source);
-    let teller = RunsTeller {
+    let teller = AnswerTeller {
         outside,
-        runs: known.runs,
+        known: known.runs.runs(),
     };
     text_in(alloc, form, &words, &teller, &report, &shown)
 }

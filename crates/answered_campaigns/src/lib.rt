@@ -14,7 +14,6 @@ mod kinds;
 mod laws;
 mod reading;
 mod table;
-mod teller;
 
 pub use depth::{write_asks, write_partial, write_report_in};
 pub use explaining::write_explained;

@@ -1,10 +1,9 @@
 //! A table of runs, by answers that tell their hits.
-ghost use Rattle.std.specs.Prelude.{◌≡◌, ◌<◌, ◌≤◌, ◌^◌, ◌++◌, length, map, replicate, option_map, Some, IfOk, OnOk};
+ghost use Rattle.std.specs.Prelude.{◌≡◌, ◌<◌, ◌≤◌, ◌^◌, length, map, option_map, Some, IfOk, OnOk};
 ghost use Rattle.std.specs.List.{AllByRecursion, list_all};
 ghost use Rattle.scenario_values.specs.Tidied.{tidied};
 ghost use Rattle.action_eval.specs.Answers.{texts};
 ghost use Rattle.action_eval.specs.Catalogue.{IsCatalogue};
-ghost use Rattle.answer_text.specs.Hits.{points_of};
 ghost use Rattle.answer_text.specs.Runs.{told_in};
 ghost use Rattle.grown_plans.specs.Promises.{CanBeTried};
 ghost use Rattle.known_runs.specs.Looks.{IsLook};
@@ -86,33 +85,19 @@ impl<'a> AnsweredRuns<'a> {
         self.listed
     }
 
+    /// What was read of the runs.
+    pub fn runs(&self) -> &'a Runs
+        ensures { result.now ≡ self.now.book }
+    {
+        self.runs
+    }
+
     /// What was told of the run of a scenario once it is tidied. An error means that memory was refused.
-    pub fn told(&self, scenario: &Scenario) -> Result<Option<&ToldRun>, AllocError>
+    pub(crate) fn told(&self, scenario: &Scenario) -> Result<Option<&ToldRun>, AllocError>
         ensures { IfOk result (λ told. option_map (λ r. r.now) told ≡ told_in self.now.book (tidied scenario.now)) }
     {
         self.runs.told(self.alloc, scenario)
     }
-}
-
-/// Adds so many hits of a point.
-fn push_stretch(hits: &mut Vec<u32>, stretch: &Stretch) -> Result<(), AllocError>
-    ensures { OnOk result (hits.new.items ≡ hits.old.items ++ replicate stretch.now.count stretch.now.point) }
-{
-    let stretch = *stretch;
-    for _ in 0..stretch.count {
-        hits.push(stretch.point)?;
-    }
-    Ok(())
-}
-
-/// Adds the points of hits, one for each.
-fn push_hits(hits: &mut Vec<u32>, stretches: &[Stretch]) -> Result<(), AllocError>
-    ensures { OnOk result (hits.new.items ≡ hits.old.items ++ points_of stretches.now) }
-{
-    for stretch in stretches {
-        push_stretch(hits, stretch)?;
-    }
-    Ok(())
 }
 
 /// Whether a point is one that a catalogue may have.
@@ -138,7 +123,7 @@ fn look_at(run: &ToldRun, hits: &mut Vec<u32>) -> Result<Look, AllocError>
     let Some(told) = &run.hits else {
         return Ok(Look::Unseen(run.verdict));
     };
-    push_hits(hits, told.stretches())?;
+    told.push_points(hits)?;
     if are_low(told.stretches()) && hits.len() <= MOST_HITS as usize {
         Ok(Look::Seen(run.verdict))
     } else {

@@ -32,7 +32,7 @@ pub use planned::{borrowed, list_plans, planned as outside_plans};
 pub use refusal::OutsideFault;
 pub use reporting::write_report_in;
 pub use table::VerdictTable;
-pub use teller::run_told;
+pub use teller::AnswerTeller;
 pub use telling::{Words, first_number};
 pub use unmet::count_unmet;
 pub use verdicts::{Verdicts, plan_verdicts, verdicts_known};

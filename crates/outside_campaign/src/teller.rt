@@ -13,7 +13,7 @@ use scenario_values::Scenario;
 use std::alloc::{AllocError, Global};
 
 /// The run of a scenario, hit by hit, where its hits are told.
-pub fn run_told(
+fn run_told(
     alloc: Global,
     outside: &Outside,
     scenario: &Scenario,

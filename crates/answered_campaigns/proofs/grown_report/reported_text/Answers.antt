@@ -7,7 +7,7 @@ use Rattle.grown_plans.specs.GrownPlans.{Subject}
 use Rattle.known_runs.specs.KnownPart.{known_part}
 use Rattle.outside_grown.specs.Reached.{reached_seen}
 use Rattle.report.specs.Reports.{CauseFacts, ReportFacts}
-use Rattle.answer_text.specs.Runs.{told_in}
+use Rattle.answer_text.specs.Runs.{RunBook, told_in}
 use Rattle.answered_runs.specs.Answered.{Answered, runs_in}
 use Rattle.answered_runs.specs.Components.{AgreesWithRuns, IsComponent}
 use Rattle.outside_campaign.specs.Campaigns.{code_name, runs_told}
@@ -88,5 +88,7 @@ returns c =
     IfOk-weaker c.text_in.result _ _
     (λ text is. text_is c.args.form.now outside given k.known.now.0 k.known.now.1 lists k.plans.now c.args.verdicts.now c.args.told counts most _ _ text.items d c.in_ok-census.ensures reaches
     facts shown
-    (is ∙ ap (λ (a : Answered). text_in c.args.form.now outside.points (code_name outside.codes) (runs_told outside (told_in a.book)) report c.shown_of-shown.result) runs_are))
+    (is
+    ∙ ap (λ (book : RunBook). text_in c.args.form.now outside.points (code_name outside.codes) (runs_told outside (told_in book)) report c.shown_of-shown.result)
+    (c.runs.ensures ∙ ap (λ (a : Answered). a.book) runs_are)))
     c.text_in.ensures

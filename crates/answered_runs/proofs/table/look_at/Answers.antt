@@ -7,7 +7,7 @@ use Rattle.answered_runs.proofs.table.look_at.Goals as goal
 
 pub returns-then-len-clause-points : goal.returns-then-len-clause-points
 returns-then-len-clause-points c =
-    let low : list_all is_low c.stretches-2.result.now ≡ true = search rules in
-    let same : c.stretches-2.result.now ≡ c.stretches.result.now = c.stretches-2.ensures ∙ sym c.stretches.ensures in
-    let hits : c.push_hits.new.hits.items ≡ points_of c.stretches.result.now = c.in_ok-push_hits.ensures ∙ ap (λ (l : List ℕ). l ++ points_of c.stretches.result.now) c.clear.ensures.items in
-    subst (λ (l : List ℕ). AllByRecursion (λ p. p < 64) l) (sym hits) (low_hits c.stretches.result.now (ap (list_all is_low) (sym same) ∙ low))
+    let told = c.in-Some.told in
+    let low : list_all is_low c.stretches.result.now ≡ true = search rules in
+    let hits : c.push_points.new.points.items ≡ points_of told = c.in_ok-push_points.ensures ∙ ap (λ (l : List ℕ). l ++ points_of told) c.clear.ensures.items in
+    subst (λ (l : List ℕ). AllByRecursion (λ p. p < 64) l) (sym hits) (low_hits told (ap (list_all is_low) (sym c.stretches.ensures) ∙ low))
