@@ -1,5 +1,6 @@
 //! Texts inside XML.
-ghost use Rattle.std.specs.Prelude.{◌≡◌, ◌++◌, string_bytes, OnOk};
+ghost use Rattle.std.specs.Prelude.{◌≡◌, ◌++◌, string_bytes, OnOk, OnErr};
+ghost use Rattle.std.specs.Io.{StartsWith};
 ghost use Rattle.xml_text.specs.Xml.{is_forbidden, escape, escaped};
 
 use std::alloc::AllocError;
@@ -12,7 +13,8 @@ fn is_forbidden(character: char) -> bool
 }
 
 fn write_character(out: &mut String, character: char) -> Result<(), AllocError>
-    ensures { OnOk result (string_bytes out.new ≡ string_bytes out.old ++ escape character) }
+    ensures ok { OnOk result (string_bytes out.new ≡ string_bytes out.old ++ escape character) }
+    ensures err { OnErr result (string_bytes out.new ≡ string_bytes out.old) }
 {
     match character {
         '&' => out.push_str("&amp;"),
@@ -32,9 +34,10 @@ fn write_character(out: &mut String, character: char) -> Result<(), AllocError>
 /// numbers, and each other character as it is. Characters that XML 1.0 can't have at all, those below a blank and U+FFFE and U+FFFF, are
 /// lost: U+FFFD stands in place of each.
 ///
-/// An error means that memory was refused; the text may then have some of the bytes.
+/// An error means that memory was refused; what stood there is still the beginning then, and some of the bytes may stand behind it.
 pub fn write_escaped(out: &mut String, text: &str) -> Result<(), AllocError>
-    ensures { OnOk result (string_bytes out.new ≡ string_bytes out.old ++ escaped text.now) }
+    ensures text { OnOk result (string_bytes out.new ≡ string_bytes out.old ++ escaped text.now) }
+    ensures kept { OnErr result (StartsWith (string_bytes out.new) (string_bytes out.old)) }
 {
     for character in text.chars() {
         write_character(out, character)?;

@@ -13,8 +13,8 @@ returns c =
     let code : List ℕ = escaped c.args.code.now in
     let between : List ℕ = codes "\" message=\"fail " in
     on_ok_weaker c.push_str-3.result
-    (λ ends. ends ∙ ap (λ (t : List ℕ). t ++ codes "\">") (c.in_ok-write_escaped-2.ensures ∙ ap (λ (t : List ℕ). t ++ code)
+    (λ ends. ends ∙ ap (λ (t : List ℕ). t ++ codes "\">") (c.in_ok-write_escaped-2.ensures.text ∙ ap (λ (t : List ℕ). t ++ code)
     (c.in_ok-push_str-2.ensures.bytes ∙ ap (λ (t : List ℕ). t ++ between)
-    (c.in_ok-write_escaped.ensures ∙ ap (λ (t : List ℕ). t ++ code) c.in_ok-push_str.ensures.bytes)))
+    (c.in_ok-write_escaped.ensures.text ∙ ap (λ (t : List ℕ). t ++ code) c.in_ok-push_str.ensures.bytes)))
     ∙ five_pieces (string_bytes c.args.out.now) (codes "<failure type=\"") code between code (codes "\">"))
     (on_ok_if c.push_str-3.result (string_bytes c.push_str-3.new.self) _ _ c.push_str-3.ensures.bytes)

@@ -13,6 +13,6 @@ returns c =
     let begin : List ℕ = codes "<?xml version=\"1.0\" encoding=\"UTF-8\"?>\n<testsuites>\n<testsuite name=\"" in
     let label : List ℕ = escaped c.args.label.now in
     on_ok_weaker c.push_str-2.result
-    (λ ends. ends ∙ ap (λ (t : List ℕ). t ++ codes "\"") (c.in_ok-write_escaped.ensures ∙ ap (λ (t : List ℕ). t ++ label) c.in_ok-push_str.ensures.bytes)
+    (λ ends. ends ∙ ap (λ (t : List ℕ). t ++ codes "\"") (c.in_ok-write_escaped.ensures.text ∙ ap (λ (t : List ℕ). t ++ label) c.in_ok-push_str.ensures.bytes)
     ∙ three_pieces (string_bytes c.args.out.now) begin label (codes "\""))
     (on_ok_if c.push_str-2.result (string_bytes c.push_str-2.new.self) _ _ c.push_str-2.ensures.bytes)
