@@ -1,5 +1,5 @@
 //! The lines of a report.
-ghost use Rattle.std.specs.Prelude.{◌≡◌, ◌+◌, ◌-◌, ◌*◌, ◌%◌, ◌^◌, ◌<◌, ◌++◌, ◌∷◌, [], length, string_bytes, codes, IfOk, IfSome, OnOk};
+ghost use Rattle.std.specs.Prelude.{◌≡◌, ◌+◌, ◌-◌, ◌*◌, ◌%◌, ◌^◌, ◌<◌, ◌++◌, ◌∷◌, [], length, string_bytes, codes, IfOk, IfSome, OnOk, OnErr};
 ghost use Rattle.std.specs.Fmt.{decimal};
 ghost use Rattle.std.specs.List.{list_all};
 ghost use Rattle.report.specs.ReportText.{verdict_text, scenario_text, head_lines, point_line, point_lines, growth_lines, nonzero_lines, count_line};
@@ -199,13 +199,14 @@ fn write_verdicts<N: Names>(
 
 /// Appends a scenario as reports say it: its printed form, or `none` where it has no entry.
 ///
-/// An error means that memory was refused; the text may then have some of the bytes.
+/// An error means that memory was refused, and changes nothing.
 pub fn write_scenario(
     alloc: Global,
     out: &mut String,
     scenario: &Scenario,
 ) -> Result<(), AllocError>
-    ensures { OnOk result (string_bytes out.new ≡ string_bytes out.old ++ scenario_text scenario.now) }
+    ensures ok { OnOk result (string_bytes out.new ≡ string_bytes out.old ++ scenario_text scenario.now) }
+    ensures err { OnErr result (string_bytes out.new ≡ string_bytes out.old) }
 {
     if scenario.is_empty() {
         return out.push_str("none");

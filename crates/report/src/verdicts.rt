@@ -1,5 +1,6 @@
 //! Verdicts in words.
-ghost use Rattle.std.specs.Prelude.{◌≡◌, ◌++◌, string_bytes, OnOk};
+ghost use Rattle.std.specs.Prelude.{◌≡◌, ◌++◌, string_bytes, OnOk, OnErr};
+ghost use Rattle.std.specs.Io.{StartsWith};
 ghost use Rattle.report.specs.ReportText.{verdict_text};
 
 use crate::names::Names;
@@ -8,13 +9,14 @@ use target_trait::Verdict;
 
 /// Appends a verdict as reports say it: `pass`, `unresolved`, or `fail` and the name of the code.
 ///
-/// An error means that memory was refused; the text may then have some of the bytes.
+/// An error means that memory was refused; what stood there is still the beginning then, and some of the bytes may stand behind it.
 pub fn write_verdict<N: Names>(
     out: &mut String,
     names: &N,
     verdict: Verdict,
 ) -> Result<(), AllocError>
-    ensures { OnOk result (string_bytes out.new ≡ string_bytes out.old ++ verdict_text (N.code_text names.now) verdict) }
+    ensures text { OnOk result (string_bytes out.new ≡ string_bytes out.old ++ verdict_text (N.code_text names.now) verdict) }
+    ensures kept { OnErr result (StartsWith (string_bytes out.new) (string_bytes out.old)) }
 {
     match verdict {
         Verdict::Pass => out.push_str("pass"),

@@ -15,5 +15,5 @@ pub returns : goal.returns
 returns c =
     on_ok_weaker c.push_str-3.result
     (λ h. joined _ (codes "first so far ") _ (codes " ") _ (codes "\n") _ _ _ _ _ c.in_ok-push_str.ensures.bytes c.in_ok-write_code.ensures c.in_ok-push_str-2.ensures.bytes
-    c.in_ok-write_scenario.ensures h)
+    c.in_ok-write_scenario.ensures.ok h)
     (on_ok_if c.push_str-3.result (string_bytes c.push_str-3.new.self) _ _ c.push_str-3.ensures.bytes)
