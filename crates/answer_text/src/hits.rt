@@ -1,6 +1,7 @@
 //! The hits of a run, read.
-ghost use Rattle.std.specs.Prelude.{◌≡◌, ◌++◌, IfOk, OnOk, option_map, replicate};
+ghost use Rattle.std.specs.Prelude.{◌≡◌, ◌++◌, IfOk, OnOk, OnErr, option_map, replicate};
 ghost use Rattle.std.specs.Char.{is_ascii_digit};
+ghost use Rattle.std.specs.Io.{StartsWith};
 ghost use Rattle.std.specs.List.{list_all};
 ghost use Rattle.scenario_grammar.specs.FirstFault.{number_up_to};
 ghost use Rattle.scenario_grammar.specs.Words.{is_number};
@@ -48,9 +49,11 @@ impl Hits {
         self.stretches.as_slice()
     }
 
-    /// Adds the points of the hits to these, one for each hit, in order. An error means that memory was refused.
+    /// Adds the points of the hits to these, one for each hit, in order. An error means that memory was refused; those that were there still come
+    /// first then, and some of the hits may stand behind them.
     pub fn push_points(&self, points: &mut Vec<u32>) -> Result<(), AllocError>
-        ensures { OnOk result (points.new.items ≡ points.old.items ++ points_of self.now) }
+        ensures points { OnOk result (points.new.items ≡ points.old.items ++ points_of self.now) }
+        ensures kept { OnErr result (StartsWith points.new.items points.old.items) }
     {
         for stretch in self.stretches() {
             push_stretch(points, stretch)?;
@@ -61,7 +64,8 @@ impl Hits {
 
 /// Adds so many hits of a point.
 fn push_stretch(points: &mut Vec<u32>, stretch: &Stretch) -> Result<(), AllocError>
-    ensures { OnOk result (points.new.items ≡ points.old.items ++ replicate stretch.now.count stretch.now.point) }
+    ensures points { OnOk result (points.new.items ≡ points.old.items ++ replicate stretch.now.count stretch.now.point) }
+    ensures kept { OnErr result (StartsWith points.new.items points.old.items) }
 {
     let stretch = *stretch;
     for _ in 0..stretch.count {
