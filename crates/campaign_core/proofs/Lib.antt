@@ -12,3 +12,5 @@ mod EachVerdict
 pub mod Begun
 pub mod Promised
 pub mod Unlisted
+pub mod Unreached
+pub mod Surveyed

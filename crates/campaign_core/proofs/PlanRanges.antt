@@ -2,6 +2,7 @@
 use Rattle.std.proofs.Common.{ℕ, ◌+◌, ◌-◌, ◌*◌, ◌/◌, ◌<◌, ◌≤◌, min, Bool, true, false, nat_le, cond, List, length, arith}
 use Rattle.std.specs.Int.{div_ceil}
 use Rattle.scenario_values.specs.Scenario.{Entries}
+use Rattle.target_trait.specs.Outcomes.{Told}
 use Rattle.target_trait.specs.declared.judgement.Verdict.{Verdict}
 use Rattle.result_book.specs.Ranges.{AreSaid}
 use Rattle.result_book.proofs.RangeLemmas.{range_length, range_said}
@@ -32,7 +33,7 @@ range_within : (plans range : ℕ) → (range_start plans range ≤ range_start 
 range_within plans range = (sized_within (nat_le plans 1024) (nat_le plans 16384) plans range, omega arith)
 
 -- the same of the plans from a number on
-from_within : (plans first range : ℕ) → first ≤ plans
+pub from_within : (plans first range : ℕ) → first ≤ plans
     → (first + range_start (plans - first) range ≤ first + range_start (plans - first) (range + 1)) × (first + range_start (plans - first) (range + 1) ≤ plans)
 from_within plans first range fit =
     let within = range_within (plans - first) range in
@@ -41,17 +42,17 @@ from_within plans first range fit =
     (omega (arith, up), omega (arith, high, fit))
 
 -- a range's verdicts are those of its plans
-pub ranges_said : (say : ℕ → Entries → Verdict) (plans : List Entries) (first range : ℕ) → first ≤ length plans
-    → AreSaid say plans (range_of say plans first range).first (range_of say plans first range).verdicts
-ranges_said say plans first range fit =
+pub ranges_said : (say : ℕ → Entries → Verdict) (run : ℕ → Entries → Told) (plans : List Entries) (watched : List ℕ) (first range : ℕ) → first ≤ length plans
+    → AreSaid say plans (range_of say run plans watched first range).first (range_of say run plans watched first range).verdicts
+ranges_said say run plans watched first range fit =
     let within = from_within (length plans) first range fit in
     range_said say plans (range_from plans first range) (range_from plans first (range + 1)) within.0 within.1
 
 -- each plan's verdict is in a range
-pub range_reaches : (say : ℕ → Entries → Verdict) (plans : List Entries) (first m : ℕ) → first ≤ m → m < length plans
-    → (range : ℕ) × ((range < range_count (length plans - first)) × ((range_of say plans first range).first ≤ m)
-    × (m < (range_of say plans first range).first + length (range_of say plans first range).verdicts))
-range_reaches say plans first m from lt =
+pub range_reaches : (say : ℕ → Entries → Verdict) (run : ℕ → Entries → Told) (plans : List Entries) (watched : List ℕ) (first m : ℕ) → first ≤ m → m < length plans
+    → (range : ℕ) × ((range < range_count (length plans - first)) × ((range_of say run plans watched first range).first ≤ m)
+    × (m < (range_of say run plans watched first range).first + length (range_of say run plans watched first range).verdicts))
+range_reaches say run plans watched first m from lt =
     let found = in_range (length plans - first) (m - first) (omega (arith, from, lt)) in
     let fit : first ≤ length plans = omega (arith, from, lt) in
     let within = from_within (length plans) first found.0 fit in

@@ -1,12 +1,12 @@
 -- Why a list of plans isn't made, and a plan isn't found.
-use Rattle.std.proofs.Common.{◌≡◌, ◌<◌, ℕ, List, Result, Ok, Err, IfErr, IsErrAnd, length, refl, sym, ◌∙◌, subst}
+use Rattle.std.proofs.Common.{◌≡◌, ◌<◌, ◌≤◌, ℕ, List, Result, Ok, Err, IfErr, IsErrAnd, length, refl, sym, ◌∙◌, subst}
 use Rattle.std.specs.Prelude.{IsErrOf}
 use Rattle.plan_gen.specs.PlanList.{most_plans}
 use Rattle.plan_gen.specs.declared.list.PlanFault.{PlanFault}
 use Rattle.plan_gen.specs.declared.list.PlanFault.TheVariants as planning
 use Rattle.campaign_core.specs.declared.ending.CampaignFault.{CampaignFault}
 use Rattle.campaign_core.specs.declared.ending.CampaignFault.TheVariants as fault
-use Rattle.campaign_core.specs.CommandTexts.{counted, plan_fault, IsFault, IsUnfound}
+use Rattle.campaign_core.specs.CommandTexts.{counted, plan_fault, IsFault, IsUnfound, IsUnlisted, LeavesOnly}
 use Rattle.campaign_core.specs.Headline.{Campaign, plans}
 use Rattle.campaign_core.specs.Writes.{Change, IsUntouched}
 
@@ -15,6 +15,10 @@ module _ {A : Type 0} where
       → IfErr result P
   passed_on (Ok a) f is P h = absurd is
   passed_on (Err e) f is P h = subst P (sym is) h
+
+  pub passed_as_it_is : (result : Result A CampaignFault) (f : CampaignFault) → IsErrAnd result (λ x. x ≡ f) → (P : CampaignFault → Type 0) → P f → IfErr result P
+  passed_as_it_is (Ok a) f is P h = absurd is
+  passed_as_it_is (Err e) f is P h = subst P (sym is) h
 
   pub too_many : (result : Result A CampaignFault) (f : PlanFault) → IsErrAnd result (λ x. x ≡ plan_fault f) → IsErrOf result fault.TooManyPlans
       → f ≡ planning.TooManyPlans
@@ -32,3 +36,19 @@ pub unlisted : (k : Campaign) (text : List ℕ) (w : Change) (f : PlanFault) →
     → IsFault k text w (plan_fault f)
 unlisted k text w planning.TooManyPlans untouched many = (untouched, many refl)
 unlisted k text w planning.Memory untouched many = untouched
+
+pub not_listed : (k : Campaign) (f : PlanFault) → (f ≡ planning.TooManyPlans → most_plans < length (plans k)) → IsUnlisted k (plan_fault f)
+not_listed k planning.TooManyPlans many = many refl
+not_listed k planning.Memory many = tt
+
+-- before anything is written
+pub unlisted_before : (k : Campaign) (text : List ℕ) (w : Change) (f : CampaignFault) → IsUntouched w → IsUnlisted k f → IsFault k text w f
+unlisted_before k text w fault.TooManyPlans untouched h = (untouched, h)
+unlisted_before k text w fault.Memory untouched h = untouched
+unlisted_before k text w (fault.Write n) untouched h = absurd h
+
+-- of a list that isn't too long
+pub short_of : (k : Campaign) (text : List ℕ) (w : Change) (f : CampaignFault) → length (plans k) ≤ most_plans → LeavesOnly text w f → IsFault k text w f
+short_of k text w fault.TooManyPlans few h = absurd h
+short_of k text w fault.Memory few h = h
+short_of k text w (fault.Write n) few h = (h, few)

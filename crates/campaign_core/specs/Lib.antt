@@ -5,4 +5,5 @@ pub mod Planned
 pub mod Writes
 pub mod CommandTexts
 pub mod Forms
+pub mod Ran
 pub mod inside

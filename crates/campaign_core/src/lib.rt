@@ -17,6 +17,7 @@ mod running;
 mod showing;
 mod subject;
 mod trying;
+mod watching;
 mod workers;
 mod written;
 
@@ -26,9 +27,11 @@ pub use laws::{each_behaviour_is_tried, reduced_scenarios_are_minimal, workers_c
 pub use listing::{plan_list, plan_scenario, plans_text};
 pub use planned::{Planned, plan_campaign, plans_of};
 pub use probe::{fails_with, fault_count};
+pub use ran::{Ran, run_campaign};
 pub use reducing::reduce_one;
 pub use reporting::causes_of;
-pub use running::campaign;
+pub use results::Results;
+pub use running::{campaign, write_campaign};
 pub use subject::{Host, Subject};
 pub use trying::try_one;
 pub use written::write_judged;

@@ -5,6 +5,7 @@ ghost use Rattle.campaign_core.specs.Headline.{campaign_in, census, grower, plan
 ghost use Rattle.grown_plans.specs.GrownPlans.{grown};
 ghost use Rattle.grown_runs.specs.Grown.{subject_in, begun};
 ghost use Rattle.campaign_core.specs.CommandTexts.{counted_to, with_rest};
+ghost use Rattle.campaign_core.specs.inside.Ranges.{known_in};
 ghost use Rattle.campaign_core.specs.Planned.{listed_to, IsGrown, IsPlanned, IsBegun, AreBegun, AreGrown, AreKnown};
 
 use crate::subject::{Host, Subject};
@@ -268,7 +269,8 @@ pub fn plans_of<'p, T: Target>(
 /// The verdicts of those plans that have run already: the ones that grew.
 pub fn known_of<'p, T: Target>(subject: &Subject<'_, T>, planned: &'p Planned<'_>) -> &'p [Verdict]
     requires { IsPlanned (campaign_in T.Target subject.now) planned.now }
-    ensures { AreKnown (say (campaign_in T.Target subject.now)) (plans (campaign_in T.Target subject.now)) result.now }
+    ensures known { AreKnown (say (campaign_in T.Target subject.now)) (plans (campaign_in T.Target subject.now)) result.now }
+    ensures many { length result.now ≡ known_in planned.now }
 {
     let _ = subject;
     match &planned.grown {

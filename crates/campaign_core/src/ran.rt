@@ -1,16 +1,20 @@
 //! A campaign whose plans have run.
-ghost use Rattle.std.specs.Prelude.{◌<◌, ◌≤◌, length, IfOk, OnOk, IsErrOf};
-ghost use Rattle.plan_gen.specs.PlanList.{most_plans};
+ghost use Rattle.std.specs.Prelude.{◌≡◌, ◌≤◌, drop, length, true, IfErr, IfOk};
+ghost use Rattle.result_book.specs.Runs.{runs_from, unreached_of};
+ghost use Rattle.campaign_core.specs.CommandTexts.{tried, IsUnlisted};
 ghost use Rattle.campaign_core.specs.Headline.{campaign_in, plans, say};
 ghost use Rattle.campaign_core.specs.Planned.{IsPlanned};
-ghost use Rattle.campaign_core.specs.inside.Results.{AreResults, IsRan};
+ghost use Rattle.campaign_core.specs.Ran.{AreResults, IsRan, unreached};
+ghost use Rattle.campaign_core.specs.inside.Ranges.{counts_in, known_in, uncounted, watched_if};
 
+use crate::ending::CampaignFault;
 use crate::planned::{Planned, known_of, plan_campaign, plans_of};
 use crate::results::{Results, run_input_plans};
 use crate::subject::{Host, Subject};
-use plan_gen::PlanFault;
+use crate::watching::uncounted;
+use grown_plans::each_target_is_a_lawful_subject;
 use result_book::RunInput;
-use std::alloc::AllocError;
+use std::alloc::{AllocError, Global};
 use std::sync::Wait;
 use std::thread::Threads;
 use target_trait::Target;
@@ -23,42 +27,74 @@ pub struct Ran<'a> {
     pub results: Results,
 }
 
+/// How often each point is hit by runs that were made to plan: the most hits of a run of the plans that grew, or those of the census.
+fn counts_of<'p>(planned: &'p Planned<'_>) -> &'p [u32]
+    ensures { result.now ≡ counts_in planned.now }
+{
+    match &planned.grown {
+        Some(grown) => grown.outcomes.hits.as_slice(),
+        None => planned.census.counts.as_slice(),
+    }
+}
+
+/// The points that are watched where it is to be seen which of them no run asks: those without a hit so far. None where it isn't.
+fn watched_of(
+    alloc: Global,
+    planned: &Planned<'_>,
+    is_surveyed: bool,
+) -> Result<Vec<u32>, AllocError>
+    requires { length (counts_in planned.now) ≤ 64 }
+    ensures { IfOk result (λ points. points.items ≡ watched_if is_surveyed planned.now) }
+{
+    if !is_surveyed {
+        return Ok(Vec::new(alloc));
+    }
+    uncounted(alloc, counts_of(planned))
+}
+
 /// What a campaign's plans come to. An error means that memory was refused.
 fn results_of<T: Target + Send, G: Gate, R: Threads + Wait + Sync>(
     host: &Host<'_, G, R>,
     subject: &Subject<'_, T>,
     planned: &Planned<'_>,
+    is_surveyed: bool,
 ) -> Result<Results, AllocError>
 where
     T::Workload: Sync,
     requires { IsPlanned (campaign_in T.Target subject.now) planned.now }
-    ensures { IfOk result (AreResults (say (campaign_in T.Target subject.now)) (plans (campaign_in T.Target subject.now))) }
+    ensures results { IfOk result (AreResults (say (campaign_in T.Target subject.now)) (plans (campaign_in T.Target subject.now))) }
+    ensures unreached { let c = campaign_in T.Target subject.now in IfOk result (λ r. r.unreached.items
+        ≡ unreached_of (watched_if is_surveyed planned.now) (runs_from (tried c) (known_in planned.now) (drop (known_in planned.now) (plans c)))) }
 {
     let plans = plans_of(subject, planned);
+    let watched = watched_of(host.alloc, planned, is_surveyed)?;
     let input = RunInput {
         workload: subject.workload,
         settings: subject.settings,
         plans: &plans,
+        watched: watched.as_slice(),
     };
     run_input_plans(host, subject.target, &input, known_of(subject, planned))
 }
 
-/// Runs a campaign's plans, with as many threads as the settings say. What they come to is that of one thread.
+/// Runs a campaign's plans, with as many threads as the settings say. What they come to is that of one thread. Where the campaign is surveyed, the
+/// same runs tell which points none of them asks.
 ///
-/// The answer is `TooManyPlans` only where there are more than 65536 plans; otherwise an error is `Memory`.
+/// The answer is `TooManyPlans` only where there are more than 65536 plans; otherwise an error is `Memory`, and never `Write`. The caller's target
+/// isn't touched.
 pub fn run_campaign<'a, T: Target + Send, G: Gate, R: Threads + Wait + Sync>(
     host: &Host<'_, G, R>,
     subject: &Subject<'a, T>,
-) -> Result<Ran<'a>, PlanFault>
+    is_surveyed: bool,
+) -> Result<Ran<'a>, CampaignFault>
 where
     T::Workload: Sync,
     ensures ran { IfOk result (IsRan (campaign_in T.Target subject.now)) }
-    ensures few { OnOk result (length (plans (campaign_in T.Target subject.now)) ≤ most_plans) }
-    ensures many { IsErrOf result PlanFault.TooManyPlans → most_plans < length (plans (campaign_in T.Target subject.now)) }
+    ensures unreached { is_surveyed ≡ true → IfOk result (λ ran. ran.results.unreached.items ≡ unreached (campaign_in T.Target subject.now)) }
+    ensures fault { IfErr result (IsUnlisted (campaign_in T.Target subject.now)) }
 {
+    each_target_is_a_lawful_subject::<T>();
     let planned = plan_campaign(host, subject)?;
-    let Ok(results) = results_of(host, subject, &planned) else {
-        return Err(PlanFault::Memory);
-    };
+    let results = results_of(host, subject, &planned, is_surveyed)?;
     Ok(Ran { planned, results })
 }

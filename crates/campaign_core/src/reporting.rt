@@ -4,7 +4,7 @@ ghost use Rattle.campaign_core.specs.Findings.{cause_of, finding, IsFailure, Red
 ghost use Rattle.campaign_core.specs.Headline.{campaign_in, plans, growth, report, EachIsMinimal};
 ghost use Rattle.result_book.specs.Says.{input_says};
 ghost use Rattle.campaign_core.specs.Planned.{IsPlanned};
-ghost use Rattle.campaign_core.specs.inside.Results.{IsRan};
+ghost use Rattle.campaign_core.specs.Ran.{IsRan};
 
 use crate::planned::{Planned, plans_of};
 use crate::probe::{Failure, fault_count};
@@ -148,6 +148,7 @@ where
         workload: subject.workload,
         settings,
         plans: &plans,
+        watched: &[],
     };
     let findings = findings(host, subject.target, &input, results.firsts.as_slice())?;
     let growth = growth_of(host.alloc, subject, &plans, planned)?;

@@ -1,8 +1,9 @@
 //! What the plans of a campaign come to.
-ghost use Rattle.std.specs.Prelude.{◌≡◌, ◌<◌, ◌≤◌, length, option_map, slice_get, IfOk};
+ghost use Rattle.std.specs.Prelude.{◌≡◌, ◌<◌, ◌≤◌, drop, length, option_map, slice_get, IfOk};
 ghost use Rattle.result_book.specs.Says.{input_says};
+ghost use Rattle.result_book.specs.Runs.{input_runs, runs_from, unreached_of};
 ghost use Rattle.campaign_core.specs.Planned.{AreKnown};
-ghost use Rattle.campaign_core.specs.inside.Results.{AreResults};
+ghost use Rattle.campaign_core.specs.Ran.{AreResults};
 
 use crate::ending::Ending;
 use crate::subject::Host;
@@ -21,6 +22,8 @@ pub struct Results {
     pub verdicts: Vec<Verdict>,
     /// For each code with which a plan fails, the least number of one that does, and the code; in the order of the numbers.
     pub firsts: Vec<(u32, u32)>,
+    /// The numbers of the points that no run asks, in the order of the catalogue; none where that wasn't to be seen.
+    pub unreached: Vec<u32>,
 }
 
 impl Results {
@@ -37,7 +40,7 @@ impl Results {
 }
 
 /// Runs each plan of an input whose verdict isn't known, with a thread for each worker and a twin of the target for each. The results are
-/// those of one thread. An error means that memory was refused.
+/// those of one thread, and of the input's watched points those are told that no run made here asks. An error means that memory was refused.
 pub fn run_input_plans<T: Target + Send, G: Gate, R: Threads + Wait + Sync>(
     host: &Host<'_, G, R>,
     target: &T,
@@ -48,11 +51,17 @@ where
     T::Workload: Sync,
     requires few { length input.now.plans.now ≤ 65536 }
     requires known { AreKnown (input_says T.Target target.now input.now) input.now.plans.now known.now }
-    ensures { IfOk result (AreResults (input_says T.Target target.now input.now) input.now.plans.now) }
+    ensures results { IfOk result (AreResults (input_says T.Target target.now input.now) input.now.plans.now) }
+    ensures unreached { IfOk result (λ r. r.unreached.items ≡ unreached_of input.now.watched.now
+        (runs_from (input_runs T.Target target.now input.now) (length known.now) (drop (length known.now) input.now.plans.now))) }
 {
-    let book = run_plans(host, target, input, known)?;
+    let (book, unreached) = run_plans(host, target, input, known)?;
     full_books_tell_their_verdicts();
     let firsts = book.first_failures(host.alloc)?;
     let verdicts = book.into_verdicts();
-    Ok(Results { verdicts, firsts })
+    Ok(Results {
+        verdicts,
+        firsts,
+        unreached,
+    })
 }

@@ -1,6 +1,7 @@
 //! Runs of an input's plans, range by range, as a job of workers.
 ghost use Rattle.std.specs.Prelude.{◌≡◌, ◌≤◌, ℕ, List, length};
 ghost use Rattle.campaign_given.specs.Given.{verdict_on};
+ghost use Rattle.result_book.specs.Runs.{run_on};
 ghost use Rattle.campaign_core.specs.inside.Ranges.{range_limit, range_of};
 
 use campaign_given::CampaignSettings;
@@ -19,6 +20,8 @@ pub struct Setup<T: Target> {
     pub workload: T::Workload,
     pub settings: CampaignSettings,
     pub plans: LinkedList<Scenario>,
+    /// The points that are watched.
+    pub watched: LinkedList<u32>,
     /// The number of the first plan that is run: those before it have their verdicts.
     pub first: u32,
 }
@@ -50,13 +53,15 @@ where
       workload = runner.input.now.workload.now;
       settings = runner.input.now.settings.now;
       plans = runner.input.now.plans.now;
+      watched = runner.input.now.watched.now;
       first = runner.first;
     } };
 
     ghost limit = { λ setup. range_limit (length setup.plans) setup.first };
 
     ghost answers = { λ setup n range. range ≡ range_of
-        (verdict_on (T.asks setup.target setup.workload) T.names setup.settings) setup.plans setup.first n };
+        (verdict_on (T.asks setup.target setup.workload) T.names setup.settings) (run_on (T.asks setup.target setup.workload) T.names setup.settings)
+        setup.plans setup.watched setup.first n };
 
     ghost becomes = { λ _ _ _. Unit {0} };
 

@@ -2,13 +2,14 @@
 ghost use Rattle.std.specs.Prelude.{◌≡◌, ◌≤◌, false, length, option_map, IfOk, IfErr, OnOk};
 ghost use Rattle.plan_gen.specs.PlanList.{most_plans};
 ghost use Rattle.campaign_core.specs.Headline.{campaign_in, plans, first_failure, EachIsMinimal, EachIsTried};
-ghost use Rattle.campaign_core.specs.CommandTexts.{IsFault};
+ghost use Rattle.campaign_core.specs.CommandTexts.{IsFault, LeavesOnly};
 ghost use Rattle.campaign_core.specs.Forms.{report_in};
+ghost use Rattle.campaign_core.specs.Ran.{IsRan};
 ghost use Rattle.campaign_core.specs.Writes.{change, WritesWhole};
 
 use crate::ending::{CampaignFault, Ending};
 use crate::laws::each_behaviour_is_tried;
-use crate::ran::run_campaign;
+use crate::ran::{Ran, run_campaign};
 use crate::showing::report_in;
 use crate::subject::{Host, Subject};
 use report::write_report;
@@ -17,6 +18,36 @@ use std::sync::Wait;
 use std::thread::Threads;
 use target_trait::{Sink, Target};
 use work_gate::Gate;
+
+/// Writes the report of a campaign whose plans have run, in a form: what [`campaign`] does once they have, with the same promises. First the first
+/// failures are reduced.
+///
+/// Nothing is written before the whole text stands. Where memory was refused, the sink is as it was and hasn't failed; `Write` tells how many bytes of
+/// the text, fewer than all, went out before the sink failed. The answer is never `TooManyPlans`.
+pub fn write_campaign<T: Target + Send, G: Gate, W: Sink, R: Threads + Wait + Sync>(
+    host: &Host<'_, G, R>,
+    subject: &Subject<'_, T>,
+    form: &Form<'_>,
+    ran: &Ran<'_>,
+    sink: &mut W,
+) -> Result<Ending, CampaignFault>
+where
+    T::Workload: Sync,
+    requires sink { W.has_failed sink.old ≡ false }
+    requires ran { IsRan (campaign_in T.Target subject.now) ran.now }
+    ensures text { OnOk result (WritesWhole (report_in form.now (campaign_in T.Target subject.now)) (change W.Sink sink.old sink.new)) }
+    ensures first { IfOk result (λ ending. ending.first ≡ option_map (λ f. f.0) (first_failure (campaign_in T.Target subject.now))) }
+    ensures minimal { OnOk result (EachIsMinimal (campaign_in T.Target subject.now)) }
+    ensures promises { OnOk result (EachIsTried (campaign_in T.Target subject.now)) }
+    ensures fault { IfErr result (LeavesOnly (report_in form.now (campaign_in T.Target subject.now)) (change W.Sink sink.old sink.new)) }
+{
+    each_behaviour_is_tried::<T>();
+    // for its clause alone, that the settings are within their ranges
+    let _ = subject.settings.plan_settings();
+    let text = report_in(host, subject, form, ran)?;
+    write_report(text.as_slice(), sink)?;
+    Ok(ran.results.ending())
+}
 
 /// Runs a campaign, and writes its report in a form. The report tells the census and the plans of a twin of the target, the verdict of each plan, and
 /// for each code with which a plan fails the first failure, with its scenario reduced. The caller's target isn't touched.
@@ -53,11 +84,6 @@ where
     ensures fault { IfErr result (let c = campaign_in T.Target subject.now in
         IsFault c (report_in form.now c) (change W.Sink sink.old sink.new)) }
 {
-    each_behaviour_is_tried::<T>();
-    // for its clause alone, that the settings are within their ranges
-    let _ = subject.settings.plan_settings();
-    let ran = run_campaign(host, subject)?;
-    let text = report_in(host, subject, form, &ran)?;
-    write_report(text.as_slice(), sink)?;
-    Ok(ran.results.ending())
+    let ran = run_campaign(host, subject, false)?;
+    write_campaign(host, subject, form, &ran, sink)
 }

@@ -2,7 +2,7 @@
 ghost use Rattle.std.specs.Prelude.{◌≡◌, ◌++◌, option_copied, option_map, string_bytes, IfOk, OnOk};
 ghost use Rattle.campaign_core.specs.Headline.{campaign_in, EachIsMinimal};
 ghost use Rattle.campaign_core.specs.Forms.{bool_text, depth_text, limits_text, listing_text, report_in, settings_text, text_or};
-ghost use Rattle.campaign_core.specs.inside.Results.{IsRan};
+ghost use Rattle.campaign_core.specs.Ran.{IsRan};
 
 use crate::planned::{Planned, plans_of};
 use crate::ran::Ran;

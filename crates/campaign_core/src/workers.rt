@@ -1,11 +1,13 @@
 //! An input's plans, run by workers.
-ghost use Rattle.std.specs.Prelude.{◌≡◌, ◌≤◌, length, vec_len, map, Some, All, IfOk};
+ghost use Rattle.std.specs.Prelude.{◌≡◌, ◌≤◌, drop, length, vec_len, map, Some, All, IfOk};
 ghost use Rattle.result_book.specs.Verdicts.{verdicts_from};
 ghost use Rattle.result_book.specs.Says.{input_says};
+ghost use Rattle.result_book.specs.Runs.{input_runs, runs_from, unreached_of};
 ghost use Rattle.campaign_core.specs.Planned.{AreKnown};
 
 use crate::runner::Runner;
 use crate::subject::Host;
+use crate::watching::left_of;
 use plan_ranges::{RangeGate, answers_of, range_count};
 use result_book::{Book, RunInput, Workspace, put_all};
 use std::alloc::{AllocError, Global};
@@ -45,26 +47,27 @@ where
 }
 
 /// Runs each plan of an input whose verdict isn't known, with a thread for each worker and a twin of the target for each, and puts all
-/// verdicts into a book. It is the book of one thread. A range at which a worker was refused memory is run again. The book is made once all
-/// have run, when the workers' tickets are gone. An error means that memory was refused.
+/// verdicts into a book. It is the book of one thread. Beside it stand those of the input's watched points that no run made here asks. The book is
+/// made once all have run, when the workers' tickets are gone. A range at which a worker was refused memory is run again. An error means that memory
+/// was refused.
 pub fn run_plans<T: Target + Send, G: Gate, R: Threads + Wait + Sync>(
     host: &Host<'_, G, R>,
     target: &T,
     input: &RunInput<'_, T>,
     known: &[Verdict],
-) -> Result<Book, AllocError>
+) -> Result<(Book, Vec<u32>), AllocError>
 where
     T::Workload: Sync,
     requires few { length input.now.plans.now ≤ 65536 }
     requires known { AreKnown (input_says T.Target target.now input.now) input.now.plans.now known.now }
-    ensures { IfOk result (λ book. book ≡ map Some (verdicts_from (input_says T.Target target.now input.now) 0 input.now.plans.now)) }
+    ensures book { IfOk result (λ r. r.0 ≡ map Some (verdicts_from (input_says T.Target target.now input.now) 0 input.now.plans.now)) }
+    ensures unreached { IfOk result (λ r. r.1.items ≡ unreached_of input.now.watched.now
+        (runs_from (input_runs T.Target target.now input.now) (length known.now) (drop (length known.now) input.now.plans.now))) }
 {
     let Host { rt, alloc, gate } = host;
     let first = known.len() as u32;
-    let plans = input.plans.len() as u32;
-    let workers = input.settings.workers();
-    let jobs = runners(host, target, input, first, workers)?;
-    let plans = plans - first;
+    let plans = input.plans.len() as u32 - first;
+    let jobs = runners(host, target, input, first, input.settings.workers())?;
     gate.expect(Stage::Listed, plans);
     let gate = RangeGate {
         gate: *gate,
@@ -72,8 +75,9 @@ where
         plans,
     };
     let ranges = answers_of(*rt, *alloc, &gate, jobs, range_count(plans))?;
+    let unreached = left_of(*alloc, input.watched, ranges.as_slice())?;
     let mut book = Book::new(*alloc, input)?;
     book.put_known(Vec::from_slice(*alloc, known)?);
     put_all(&mut book, ranges);
-    Ok(book)
+    Ok((book, unreached))
 }

@@ -9,3 +9,4 @@ mod RunLemmas
 mod StrictLemmas
 pub mod TellingLemmas
 pub mod KeepLemmas
+mod SteadyLemmas

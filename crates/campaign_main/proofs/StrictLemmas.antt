@@ -2,9 +2,8 @@
 use Rattle.std.proofs.Common.{◌≡◌, ◌++◌, ◌∙◌, ◌∷◌, ◌+◌, ◌<◌, ℕ, suc, Bool, List, [], append_assoc, arith, drop, length, slice_index_or, sym, ap}
 use Rattle.std.proofs.Math.Seq.{drop-cons}
 use Rattle.report.specs.ReportText.{ended, text_of}
-use Rattle.plan_survey.specs.Runs.{runs_from, unreached_in}
-use Rattle.campaign_core.specs.CommandTexts.{tried}
-use Rattle.campaign_core.specs.Headline.{Campaign, plans}
+use Rattle.campaign_core.specs.Headline.{Campaign}
+use Rattle.campaign_core.specs.Ran.{unreached}
 use Rattle.campaign_main.specs.Notes.{doubt_notes, doubts_of, strict_notes, unreached_line, unreached_lines}
 use Rattle.campaign_main.specs.QuestionNotes.{unhit_lines, unmet_notes, unseen_notes}
 use Rattle.campaign_main.specs.declared.notes.Doubts.{Doubts}
@@ -20,14 +19,14 @@ same-doubts d e clean unresolved plans unhit unstormed =
     ∙ ap (λ x. made e.clean e.unresolved e.plans e.unhit x) unstormed
 
 -- the lines, where what stands before them is nothing
-pub strict-is : (c : Campaign) (d : Doubts) (names : List (List ℕ)) (unreached empty one two : List ℕ) → d ≡ doubts_of c → names ≡ c.points
-    → unreached ≡ unreached_in (length c.points) (runs_from (tried c) 0 (plans c))
-    → empty ≡ [] → one ≡ empty ++ doubt_notes d → two ≡ one ++ text_of (unreached_lines names unreached) → two ≡ strict_notes c
-strict-is c d names unreached empty one two same points left none first second =
+pub strict-is : (c : Campaign) (d : Doubts) (names : List (List ℕ)) (places empty one two : List ℕ) → d ≡ doubts_of c → names ≡ c.points
+    → places ≡ unreached c
+    → empty ≡ [] → one ≡ empty ++ doubt_notes d → two ≡ one ++ text_of (unreached_lines names places) → two ≡ strict_notes c
+strict-is c d names places empty one two same points left none first second =
     let start : one ≡ doubt_notes (doubts_of c) = first ∙ ap (λ (x : List ℕ). x ++ doubt_notes d) none ∙ ap doubt_notes same in
-    let rest : unreached_lines names unreached ≡ unreached_lines c.points (unreached_in (length c.points) (runs_from (tried c) 0 (plans c))) =
-    ap (λ n. unreached_lines n unreached) points ∙ ap (unreached_lines c.points) left in
-    second ∙ ap (λ (x : List ℕ). x ++ text_of (unreached_lines names unreached)) start ∙ ap (λ l. doubt_notes (doubts_of c) ++ text_of l) rest
+    let rest : unreached_lines names places ≡ unreached_lines c.points (unreached c) =
+    ap (λ n. unreached_lines n places) points ∙ ap (unreached_lines c.points) left in
+    second ∙ ap (λ (x : List ℕ). x ++ text_of (unreached_lines names places)) start ∙ ap (λ l. doubt_notes (doubts_of c) ++ text_of l) rest
 
 -- doubts, a count of plans and lines, one after another
 three-notes : (counted : ℕ → ℕ → List ℕ) (d e : Doubts) (n m : ℕ) (lines rest empty one two three : List ℕ) → d ≡ e → n ≡ m → lines ≡ rest → empty ≡ []

@@ -1,6 +1,6 @@
 -- What is noted beside a command's text: which names of scenarios no point of the target has, and which scenarios have control characters; and what makes
 -- a report say less than it seems to.
-use Rattle.std.specs.Prelude.{◌≡◌, ◌++◌, ◌+◌, ◌==◌, ◌&&◌, [], ◌∷◌, ℕ, Bool, true, false, List, codes, flat_map, length, map, nat_lt, slice_index_or, if◌then◌else◌}
+use Rattle.std.specs.Prelude.{◌≡◌, ◌++◌, ◌+◌, ◌==◌, ◌&&◌, [], ◌∷◌, ℕ, Bool, true, false, List, codes, count_by, flat_map, length, map, nat_lt, slice_index_or, if◌then◌else◌}
 use Rattle.std.specs.Fmt.{decimal}
 use Rattle.std.specs.List.{list_all, list_any}
 use Rattle.std.specs.Str.{bytes_eq}
@@ -10,9 +10,8 @@ use Rattle.answer_text.specs.FirstFault.{has_control}
 use Rattle.target_trait.specs.Verdicts.{is_unresolved}
 use Rattle.report.specs.ReportText.{ended, text_of}
 use Rattle.plan_gen.specs.PlanList.{Asked}
-use Rattle.plan_survey.specs.Runs.{runs_from, unreached_in, unresolved_in}
-use Rattle.campaign_core.specs.CommandTexts.{tried}
-use Rattle.campaign_core.specs.Headline.{Campaign, census, plans, say}
+use Rattle.campaign_core.specs.Headline.{Campaign, census, plans, report}
+use Rattle.campaign_core.specs.Ran.{unreached}
 use Rattle.campaign_main.specs.declared.notes.Doubts.{Doubts}
 use Rattle.campaign_main.specs.declared.notes.Origin.{Origin}
 use Rattle.campaign_main.specs.declared.notes.Origin.TheVariants.{Taken, Listed, Answered}
@@ -92,8 +91,8 @@ is_unhit counts = list_all (λ count. count == 0) counts
 -- of a campaign: the run without faults is unresolved, so many runs of its plans are, its census is without a hit, its storms draw nothing
 abbrev pub doubts_of : Campaign → Doubts
 doubts_of c = record {
-  clean = is_unresolved (say c 0 []);
-  unresolved = unresolved_in (runs_from (tried c) 0 (plans c));
+  clean = is_unresolved (report c).clean;
+  unresolved = count_by is_unresolved (report c).verdicts;
   plans = length (plans c);
   unhit = is_unhit (census c);
   unstormed = draws_nothing c.given.plans;
@@ -108,8 +107,7 @@ unreached_lines points unreached = map (λ p. unreached_line (slice_index_or poi
 
 -- what is noted of a campaign whose report is to be strict
 abbrev pub strict_notes : Campaign → List ℕ
-strict_notes c =
-    doubt_notes (doubts_of c) ++ text_of (unreached_lines c.points (unreached_in (length c.points) (runs_from (tried c) 0 (plans c))))
+strict_notes c = doubt_notes (doubts_of c) ++ text_of (unreached_lines c.points (unreached c))
 
 -- what is noted beside a report
 abbrev pub report_notes : Bool → Campaign → List ℕ

@@ -1,8 +1,8 @@
 //! The commands over one target.
-ghost use Rattle.std.specs.Prelude.{◌≡◌, ◌≤◌, false, length, option_map, string_bytes, IfErr, IfOk, Ok, OnOk};
-ghost use Rattle.plan_gen.specs.PlanList.{most_plans};
-ghost use Rattle.campaign_core.specs.CommandTexts.{IsFault, IsReducedToMinimal};
-ghost use Rattle.campaign_core.specs.Headline.{campaign_in, first_failure, plans};
+ghost use Rattle.std.specs.Prelude.{◌≡◌, false, option_map, string_bytes, IfErr, IfOk, Ok, OnOk};
+ghost use Rattle.campaign_core.specs.CommandTexts.{IsReducedToMinimal, LeavesOnly};
+ghost use Rattle.campaign_core.specs.Headline.{campaign_in, first_failure};
+ghost use Rattle.campaign_core.specs.Ran.{IsRan};
 ghost use Rattle.campaign_core.specs.Writes.{WritesWhole, change};
 ghost use Rattle.campaign_main.specs.Commands.{explain_answer, form_in, notes_with, order_answer, plans_answer, reduce_answer, report_in, run_answer, taken, taken_answer, try_answer};
 ghost use Rattle.campaign_main.specs.Ends.{ComesTo, IsUntaken};
@@ -14,8 +14,8 @@ use crate::fault::CommandFault;
 use crate::notes::{is_doubted, listed_of, notes_on, report_notes_on};
 use crate::steady::check_steady;
 use campaign_core::{
-    CampaignFault, Ending, Host, Subject, campaign, explain_one, plan_list, plan_scenario,
-    reduce_one, try_one,
+    CampaignFault, Ending, Host, Ran, Subject, explain_one, plan_list, plan_scenario, reduce_one,
+    run_campaign, try_one, write_campaign,
 };
 use command_words::{Form, Order, VERSION, Which};
 use report_forms::Form as ReportForm;
@@ -50,31 +50,34 @@ fn form_in(form: Form) -> ReportForm<'static>
     }
 }
 
-/// Runs a campaign, and writes its report in this form.
+/// Writes the report of a campaign whose plans have run, in this form.
 fn report_plans<T: Target + Send, W: Sink, H: Threads + Wait + Sync, G: Gate>(
     host: &Host<'_, G, H>,
     subject: &Subject<'_, T>,
     form: Form,
+    ran: &Ran<'_>,
     output: &mut W,
 ) -> Result<Ending, CampaignFault>
 where
     T::Workload: Sync,
-    requires { W.has_failed output.old ≡ false }
+    requires output { W.has_failed output.old ≡ false }
+    requires ran { IsRan (campaign_in T.Target subject.now) ran.now }
     ensures text { OnOk result (WritesWhole (report_in form (campaign_in T.Target subject.now)) (change W.Sink output.old output.new)) }
     ensures first { IfOk result (λ ending. ending.first ≡ option_map (λ f. f.0) (first_failure (campaign_in T.Target subject.now))) }
     ensures promises { OnOk result (RunKeepsPromises (campaign_in T.Target subject.now)) }
-    ensures few { OnOk result (length (plans (campaign_in T.Target subject.now)) ≤ most_plans) }
-    ensures fault { IfErr result (let c = campaign_in T.Target subject.now in IsFault c (report_in form c) (change W.Sink output.old output.new)) }
+    ensures fault { IfErr result (LeavesOnly (report_in form (campaign_in T.Target subject.now)) (change W.Sink output.old output.new)) }
 {
-    campaign(host, subject, &form_in(form), output)
+    write_campaign(host, subject, &form_in(form), ran, output)
 }
 
-/// Runs a campaign, and writes its report in this form.
+/// Runs a campaign, and writes its report in this form. Where it is to be strict, the same runs tell what is to be noted; with `recheck` each plan
+/// that fails is run once more before anything is written.
 fn run_plans<T: Target + Send, W: Sink, H: Threads + Wait + Sync, G: Gate>(
     host: &Host<'_, G, H>,
     subject: &Subject<'_, T>,
     form: Form,
     strict: bool,
+    recheck: bool,
     output: &mut W,
 ) -> Result<Answered, CommandFault>
 where
@@ -83,8 +86,12 @@ where
     ensures text { ComesTo (run_answer form strict (campaign_in T.Target subject.now)) (change W.Sink output.old output.new) result }
     ensures promises { OnOk result (RunKeepsPromises (campaign_in T.Target subject.now)) }
 {
-    let notes = report_notes_on(host, subject, strict)?;
-    let ending = report_plans(host, subject, form, output)?;
+    let ran = run_campaign(host, subject, strict)?;
+    if recheck {
+        check_steady(host.alloc, subject, &ran)?;
+    }
+    let notes = report_notes_on(host.alloc, subject, &ran, strict)?;
+    let ending = report_plans(host, subject, form, &ran, output)?;
     let doubted = is_doubted(strict, notes.as_str());
     let conclusion = concluded(ending.first.is_some(), doubted);
     Ok(Answered { conclusion, notes })
@@ -226,12 +233,7 @@ where
             form,
             strict,
             recheck,
-        } => {
-            if *recheck {
-                check_steady(host, subject)?;
-            }
-            run_plans(host, subject, *form, *strict, output)
-        }
+        } => run_plans(host, subject, *form, *strict, *recheck, output),
         Order::Plans => list_plans(host, subject, output),
         Order::Try(which) => try_which(host, subject, which, output),
         Order::Reduce(which) => reduce_which(host, subject, which, output),

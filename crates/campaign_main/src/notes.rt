@@ -1,29 +1,22 @@
 //! What is noted beside a command's text: names of scenarios that no point of a target has, scenarios with control characters, and what makes a
 //! report say less than it seems to.
-ghost use Rattle.std.specs.Prelude.{◌≡◌, ◌<◌, ◌++◌, [], All, Some, length, nat_lt, slice_index_or, string_bytes, IfErr, IfOk, OnOk};
+ghost use Rattle.std.specs.Prelude.{◌≡◌, ◌<◌, ◌^◌, ◌++◌, [], All, Some, count_by, length, nat_lt, slice_index_or, string_bytes, true, IfOk, OnOk};
 ghost use Rattle.action_eval.specs.Answers.{texts};
 ghost use Rattle.answer_text.specs.FirstFault.{has_control};
 ghost use Rattle.target_trait.specs.Verdicts.{is_unresolved};
+ghost use Rattle.target_trait.specs.declared.judgement.Verdict.TheVariants.{Unresolved};
 ghost use Rattle.report.specs.ReportText.{ended, text_of};
-ghost use Rattle.plan_survey.specs.Runs.{runs_from, unreached_in, unresolved_in};
-ghost use Rattle.campaign_core.specs.CommandTexts.{IsUnlisted, tried};
-ghost use Rattle.campaign_core.specs.Headline.{campaign_in, campaign_on, say};
+ghost use Rattle.campaign_core.specs.Headline.{campaign_in};
+ghost use Rattle.campaign_core.specs.Ran.{IsRan, unreached};
 ghost use Rattle.campaign_main.specs.Notes.{control_line, control_lines, doubt_notes, draws_nothing, is_doubted, is_point, is_unhit, listed_notes, notes_of, origin_text, report_notes, scenario_notes, stranger_line, stranger_of, strangers_in, strict_notes, text_if, unreached_line, unreached_lines, unresolved_line};
 
-use campaign_core::{CampaignFault, Host, Subject, plan_campaign, plans_of};
+use campaign_core::{Ran, Subject};
 use campaign_given::CampaignSettings;
-use campaign_plans::CampaignPlans;
 use outside_campaign::{OutsideCampaign, borrowed};
-use plan_survey::{Survey, survey_plans};
-use result_book::RunInput;
 use scenario_grammar::{Scenario, print};
-use scenario_values::build;
 use std::alloc::{AllocError, Global};
 use std::fmt::{self, Write};
-use std::sync::Wait;
-use std::thread::Threads;
-use target_trait::{Target, Verdict, run_verdict};
-use work_gate::Gate;
+use target_trait::{Target, Verdict};
 
 /// What makes a report say less than it seems to.
 #[derive(Clone, Copy, Debug)]
@@ -294,89 +287,86 @@ pub fn draws_nothing(settings: &CampaignSettings) -> bool
     settings.storms > 0 && settings.rate == 0
 }
 
-/// Whether the run without faults is unresolved.
-fn is_clean_unresolved<T: Target>(
-    alloc: Global,
-    target: &mut T,
-    workload: &T::Workload,
-    settings: &CampaignSettings,
-) -> Result<bool, AllocError>
-    ensures clean { IfOk result (λ clean. clean ≡ is_unresolved (say (campaign_on T.Target target.old workload.now settings.now) 0 [])) }
-    ensures setup { target.new ≡ target.old }
+/// The verdict of the run without faults.
+fn clean_of(verdicts: &[Verdict]) -> Verdict
+    requires { 0 < length verdicts.now }
+    ensures { result ≡ slice_index_or verdicts.now 0 Unresolved }
 {
-    let scenario = build(alloc, &[])?;
-    let verdict = run_verdict(alloc, target, workload, &settings.case(&scenario, 0))?;
-    Ok(matches!(verdict, Verdict::Unresolved))
+    verdicts[0]
 }
 
-/// What the runs of these plans come to, under the settings' seed and limit.
-fn survey_of<T: Target>(
-    alloc: Global,
-    target: &mut T,
-    workload: &T::Workload,
-    settings: &CampaignSettings,
-    plans: &CampaignPlans<'_>,
-) -> Result<Survey, AllocError>
-    ensures unresolved { IfOk result (λ s. s.unresolved
-        ≡ unresolved_in (runs_from (tried (campaign_on T.Target target.old workload.now settings.now)) 0 plans.now)) }
-    ensures unreached { IfOk result (λ s. s.unreached.items
-        ≡ unreached_in (length T.names) (runs_from (tried (campaign_on T.Target target.old workload.now settings.now)) 0 plans.now)) }
-    ensures points { IfOk result (λ s. All (λ p. p < length T.names) s.unreached.items) }
-    ensures setup { target.new ≡ target.old }
+fn is_unresolved(verdict: Verdict) -> bool
+    ensures { result ≡ is_unresolved verdict }
 {
-    let input = RunInput {
-        workload,
-        settings,
-        plans: &*plans,
-    };
-    survey_plans(alloc, target, &input)
+    matches!(verdict, Verdict::Unresolved)
 }
 
-/// What is noted of a campaign whose report is to be strict: each of its plans is run once more, one after another. The caller's target
-/// isn't touched.
-fn strict_on<T: Target + Send, G: Gate, R: Threads + Wait + Sync>(
-    host: &Host<'_, G, R>,
-    subject: &Subject<'_, T>,
-) -> Result<String, CampaignFault>
-where
-    T::Workload: Sync,
-    ensures ok { IfOk result (λ lines. string_bytes lines ≡ strict_notes (campaign_in T.Target subject.now)) }
-    ensures fault { IfErr result (IsUnlisted (campaign_in T.Target subject.now)) }
+/// How many of these verdicts are unresolved.
+fn count_unresolved(verdicts: &[Verdict]) -> u32
+    requires { length verdicts.now < 2 ^ 32 }
+    ensures { result ≡ count_by is_unresolved verdicts.now }
 {
-    let alloc = host.alloc;
-    let workload = subject.workload;
-    let settings = subject.settings;
-    let planned = plan_campaign(host, subject)?;
-    let plans = plans_of(subject, &planned);
-    let mut twin = subject.target.twin()?;
-    let survey = survey_of(alloc, &mut twin, workload, settings, &plans)?;
-    let doubts = Doubts {
-        clean: is_clean_unresolved(alloc, &mut twin, workload, settings)?,
-        unresolved: survey.unresolved,
-        plans: plans.len() as u32,
-        unhit: is_unhit(planned.census.counts.as_slice()),
+    verdicts
+        .iter()
+        .filter(|verdict| matches!(verdict, Verdict::Unresolved))
+        .count() as u32
+}
+
+/// What makes the report of a campaign with these verdicts and this census say less than it seems to.
+fn doubts_of(verdicts: &[Verdict], census: &[u32], settings: &CampaignSettings) -> Doubts
+    requires some { 0 < length verdicts.now }
+    requires few { length verdicts.now < 2 ^ 32 }
+    ensures clean { result.clean ≡ is_unresolved (slice_index_or verdicts.now 0 Unresolved) }
+    ensures unresolved { result.unresolved ≡ count_by is_unresolved verdicts.now }
+    ensures plans { result.plans ≡ length verdicts.now }
+    ensures unhit { result.unhit ≡ is_unhit census.now }
+    ensures unstormed { result.unstormed ≡ draws_nothing settings.now.plans }
+{
+    Doubts {
+        clean: is_unresolved(clean_of(verdicts)),
+        unresolved: count_unresolved(verdicts),
+        plans: verdicts.len() as u32,
+        unhit: is_unhit(census),
         unstormed: draws_nothing(settings),
-    };
+    }
+}
+
+/// What is noted of a campaign whose report is to be strict, by what its runs came to. An error means that memory was refused.
+fn strict_on<T: Target>(
+    alloc: Global,
+    subject: &Subject<'_, T>,
+    ran: &Ran<'_>,
+) -> Result<String, AllocError>
+    requires ran { IsRan (campaign_in T.Target subject.now) ran.now }
+    requires unreached { ran.now.results.unreached.items ≡ unreached (campaign_in T.Target subject.now) }
+    ensures { IfOk result (λ lines. string_bytes lines ≡ strict_notes (campaign_in T.Target subject.now)) }
+{
+    let results = &ran.results;
+    let verdicts = results.verdicts.as_slice();
+    let census = ran.planned.census.counts.as_slice();
+    let doubts = doubts_of(verdicts, census, subject.settings);
     let mut lines = String::new(alloc);
     write_doubts(&mut lines, &doubts)?;
-    write_all_unreached(&mut lines, T::catalogue(), survey.unreached.as_slice())?;
+    let unreached = results.unreached.as_slice();
+    write_all_unreached(&mut lines, T::catalogue(), unreached)?;
     Ok(lines)
 }
 
-/// What is noted beside a campaign's report. Where it isn't to be strict, nothing is run for it.
-pub fn report_notes_on<T: Target + Send, G: Gate, R: Threads + Wait + Sync>(
-    host: &Host<'_, G, R>,
+/// What is noted beside the report of a campaign whose plans have run. Where it is to be strict, the campaign has to be one that was surveyed. An
+/// error means that memory was refused.
+pub fn report_notes_on<T: Target>(
+    alloc: Global,
     subject: &Subject<'_, T>,
+    ran: &Ran<'_>,
     strict: bool,
-) -> Result<String, CampaignFault>
-where
-    T::Workload: Sync,
-    ensures ok { IfOk result (λ lines. string_bytes lines ≡ report_notes strict (campaign_in T.Target subject.now)) }
-    ensures fault { IfErr result (IsUnlisted (campaign_in T.Target subject.now)) }
+) -> Result<String, AllocError>
+    requires ran { IsRan (campaign_in T.Target subject.now) ran.now }
+    requires unreached { strict ≡ true → ran.now.results.unreached.items ≡ unreached (campaign_in T.Target subject.now) }
+    ensures { IfOk result (λ lines. string_bytes lines ≡ report_notes strict (campaign_in T.Target subject.now)) }
 {
-    let mut lines = listed_of::<T>(host.alloc, subject.settings)?;
+    let mut lines = listed_of::<T>(alloc, subject.settings)?;
     if strict {
-        let more = strict_on(host, subject)?;
+        let more = strict_on(alloc, subject, ran)?;
         lines.push_str(more.as_str())?;
     }
     Ok(lines)

@@ -1,42 +1,41 @@
 //! Whether a target says the same of a plan twice.
 ghost use Rattle.std.specs.Prelude.{◌≡◌, None, IfErr, IfOk};
+ghost use Rattle.campaign_core.specs.Headline.{campaign_in};
+ghost use Rattle.campaign_core.specs.Ran.{IsRan};
 ghost use Rattle.campaign_core.specs.declared.ending.CampaignFault.TheVariants.{Memory};
 ghost use Rattle.campaign_main.specs.declared.fault.CommandFault.TheVariants.{Campaign};
 
 use crate::fault::CommandFault;
-use campaign_core::{Host, Subject, plan_campaign, plans_of};
-use plan_gen::PlanFault;
+use campaign_core::{Ran, Subject, plans_of};
 use report::{Names, write_verdict};
 use result_book::RunInput;
 use std::alloc::{AllocError, Global};
-use std::sync::Wait;
-use std::thread::Threads;
 use target_laws::{ChangedVerdict, changed_verdict};
 use target_trait::Target;
-use work_gate::Gate;
 
-/// The first plan that fails and says something else when it is run once more. The caller's target isn't touched. Of a proved target there
-/// is none. Where there are too many plans none is run once more.
-fn first_changed<T: Target + Send, G: Gate, R: Threads + Wait + Sync>(
-    host: &Host<'_, G, R>,
+/// The first plan that has failed and says something else when it is run once more. The caller's target isn't touched. Of a proved target there
+/// is none.
+fn first_changed<T: Target>(
+    alloc: Global,
     subject: &Subject<'_, T>,
+    ran: &Ran<'_>,
 ) -> Result<Option<ChangedVerdict>, AllocError>
-where
-    T::Workload: Sync,
+    requires { IsRan (campaign_in T.Target subject.now) ran.now }
     ensures { IfOk result (λ changed. changed ≡ None) }
 {
-    let planned = match plan_campaign(host, subject) {
-        Ok(planned) => planned,
-        Err(PlanFault::TooManyPlans) => return Ok(None),
-        Err(PlanFault::Memory) => return Err(AllocError),
-    };
-    let plans = plans_of(subject, &planned);
+    let plans = plans_of(subject, &ran.planned);
     let input = RunInput {
         workload: subject.workload,
         settings: subject.settings,
         plans: &plans,
+        watched: &[],
     };
-    changed_verdict(host.alloc, subject.target, &input)
+    changed_verdict(
+        alloc,
+        subject.target,
+        &input,
+        ran.results.verdicts.as_slice(),
+    )
 }
 
 /// The line for a plan whose verdict isn't the same twice.
@@ -54,21 +53,21 @@ fn changed_line<N: Names>(
     Ok(line)
 }
 
-/// Runs each plan, and each that fails once more, before a campaign: a target whose verdict isn't the same twice is refused.
+/// Runs each plan that has failed once more: a target whose verdict isn't the same twice is refused.
 ///
 /// No proved target is one, so an error means that memory was refused. The caller's target isn't touched.
-pub fn check_steady<T: Target + Send, G: Gate, R: Threads + Wait + Sync>(
-    host: &Host<'_, G, R>,
+pub fn check_steady<T: Target>(
+    alloc: Global,
     subject: &Subject<'_, T>,
+    ran: &Ran<'_>,
 ) -> Result<(), CommandFault>
-where
-    T::Workload: Sync,
+    requires { IsRan (campaign_in T.Target subject.now) ran.now }
     ensures { IfErr result (λ fault. fault ≡ Campaign Memory) }
 {
-    match first_changed(host, subject)? {
+    match first_changed(alloc, subject, ran)? {
         None => Ok(()),
         Some(changed) => {
-            let line = changed_line(host.alloc, subject.target, changed)?;
+            let line = changed_line(alloc, subject.target, changed)?;
             Err(CommandFault::Unsteady(line))
         }
     }

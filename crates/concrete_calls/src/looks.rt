@@ -17,7 +17,7 @@ pub fn law_that_a_transfer_breaks(
     broken_law(alloc, transfer, amount, 0, 10)
 }
 
-/// A plan whose second run comes to another verdict.
+/// A plan whose second run comes to another verdict, of those that have run: none.
 pub fn plan_that_says_otherwise(
     alloc: Global,
     transfer: &Transfer,
@@ -25,5 +25,5 @@ pub fn plan_that_says_otherwise(
 ) -> Result<Option<ChangedVerdict>, AllocError>
     ensures { IfOk result (λ changed. changed ≡ None) }
 {
-    changed_verdict(alloc, transfer, input)
+    changed_verdict(alloc, transfer, input, &[])
 }

@@ -166,7 +166,7 @@ singles : (h : List Rig → ℕ) (plans : List (List Rig)) → flat_map (λ plan
 singles h [] = refl
 singles h (p ∷ ps) = ap (λ l. h p ∷ l) (singles h ps)
 
-reached_is : (t : Subject) (seed d p : ℕ) → IsLawful t → most (over (hits_at t seed p) (grown t d) 0 (length (grown t d))) ≡ reached t d p
+pub reached_is : (t : Subject) (seed d p : ℕ) → IsLawful t → most (over (hits_at t seed p) (grown t d) 0 (length (grown t d))) ≡ reached t d p
 reached_is t seed d p lawful =
     let count : List Rig → ℕ = λ plan. count_by (λ (m : Met). m.site.point == p) (run_of_plan t plan) in
     ap most

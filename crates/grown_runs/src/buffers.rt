@@ -5,11 +5,10 @@ ghost use Rattle.grown_runs.specs.GrownRuns.{told_of_rigs};
 ghost use Rattle.grown_runs.specs.inside.Growths.{subject_on};
 
 use crate::input::GrownRunInput;
-use crate::run::run_asked;
 use action_eval::{FaultTable, Rig, Session, SessionBuffers};
 use std::alloc::{AllocError, Global};
 use std::mem;
-use target_trait::{Target, Verdict};
+use target_trait::{Target, Verdict, run_session};
 
 /// Where runs are made, one after another, without memory of their own. Whatever it holds before a run makes no difference to the run.
 #[derive(Drop)]
@@ -59,7 +58,7 @@ impl RunBuffers {
             stream,
             limits.max_hits,
         )?;
-        let verdict = run_asked(target, input.workload, &mut session)?;
+        let verdict = run_session(target, input.workload, &mut session)?;
         self.asked.clear();
         self.asked.extend_from_slice(session.trace())?;
         self.buffers = session.into_buffers();

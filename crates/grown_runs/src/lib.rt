@@ -9,7 +9,6 @@ mod input;
 mod kept;
 mod levels;
 mod parts;
-mod run;
 
 pub use input::Limits;
 pub use levels::{GrowFault, Grown, grow, grow_list};

@@ -139,6 +139,7 @@ fn plans_that_grew_and_a_storm_behind_them_are_rigged_and_run(rt: HostRuntime) -
         workload: &workload,
         settings: &settings,
         plans: &plans,
+        watched: &[],
     };
     books_have_each_alone(&rt, alloc, &input)
 }

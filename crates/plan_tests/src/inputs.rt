@@ -25,6 +25,7 @@ pub fn input<'a>(
         workload: &(),
         settings,
         plans,
+        watched: &[],
     }
 }
 

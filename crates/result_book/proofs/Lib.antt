@@ -3,3 +3,4 @@ pub mod RangeLemmas
 pub mod FailureLemmas
 pub mod EachCodeLemmas
 pub mod PlaceLemmas
+pub mod Reached

@@ -12,17 +12,20 @@ use Rattle.result_book.specs.Slots.{Pair, has, enter}
 use Rattle.result_book.specs.Ranges.{Stretch, AreSaid, IsLast, enter_range, enter_ranges, enter_lists}
 use Rattle.result_book.proofs.SlotLemmas.{Agrees, length_enter, has_enter, has_entered, agrees_enter, agrees_empty, full_is, length_verdicts, verdict_at}
 
-moved : (n k : ℕ) → n + 1 + k ≡ n + suc k
+pub moved : (n k : ℕ) → n + 1 + k ≡ n + suc k
 moved n k = omega arith
 
 -- plans of a range, and their verdicts
-length_range : {X : Type 0} (xs : List X) (first end : ℕ) → first ≤ end → end ≤ length xs → first + length (slice_range xs first end) ≡ end
+pub length_range : {X : Type 0} (xs : List X) (first end : ℕ) → first ≤ end → end ≤ length xs → first + length (slice_range xs first end) ≡ end
 length_range xs first end up fits = omega (arith, length-take (end - first) (drop first xs), length-drop first xs)
 
 range_at : {X : Type 0} (xs : List X) (first end k : ℕ) (d : X) → first ≤ end → first + k < end → get_or (slice_range xs first end) k d ≡ get_or xs (first + k) d
 range_at xs first end k d up lt = get_or-take (end - first) (drop first xs) k d (omega arith) ∙ get_or-drop first xs k d
 
-range_more : {X : Type 0} (xs : List X) (first end : ℕ) (d : X) → first ≤ end → end < length xs → slice_range xs first (end + 1) ≡ slice_range xs first end ++ get_or xs end d ∷ []
+pub none_in : {X : Type 0} (xs : List X) (n : ℕ) → slice_range xs n n ≡ []
+none_in xs n = ap (λ k. take k (drop n xs)) (let none : n - n ≡ 0 = omega arith in none)
+
+pub range_more : {X : Type 0} (xs : List X) (first end : ℕ) (d : X) → first ≤ end → end < length xs → slice_range xs first (end + 1) ≡ slice_range xs first end ++ get_or xs end d ∷ []
 range_more xs first end d up lt =
     let n : ℕ = end - first in
     let to : end + 1 - first ≡ n + 1 = omega arith in
@@ -228,7 +231,7 @@ book_after_known say plans known range ls known_said few own said each =
     let empty : List (Option Verdict) = replicate (length plans) None in
     let start : List (Option Verdict) = enter_range empty 0 known in
     let fits : length start ≡ length plans = length_plan_range empty 0 known ∙ length_empty (length plans) in
-    let first : Stretch = record { first = 0; verdicts = known } in
+    let first : Stretch = record { first = 0; verdicts = known; unreached = [] } in
     let there : AreThere (verdicts_from say 0 plans) verdict.Pass first = said_there say plans verdict.Pass first known_said in
     full_after say plans range ls start fits (agrees_range empty (verdicts_from say 0 plans) verdict.Pass 0 known (empty_agrees say plans) there) own said
     (λ m lt. elim (known_or_after (length known) m) [

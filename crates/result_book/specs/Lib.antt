@@ -1,5 +1,6 @@
 pub mod Verdicts
 pub mod Says
+pub mod Runs
 pub mod FirstFailure
 pub mod FirstFailures
 pub mod Slots

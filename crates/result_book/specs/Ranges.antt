@@ -5,10 +5,11 @@ use Rattle.scenario_values.specs.Scenario.{Entries}
 use Rattle.target_trait.specs.declared.judgement.Verdict.{Verdict}
 use Rattle.result_book.specs.Slots.{Pair, enter}
 
--- a number, and the verdicts of the plans from it on
+-- a number, the verdicts of the plans from it on, and those of the points that are watched which none of their runs asks
 pub record Stretch : Type 0 where
   pub first : ℕ
   pub verdicts : List Verdict
+  pub unreached : List ℕ
 
 -- each is the verdict of its plan, with its number as the stream number
 abbrev pub AreSaid : (ℕ → Entries → Verdict) → List Entries → ℕ → List Verdict → Type 0
@@ -18,7 +19,8 @@ AreSaid say plans first verdicts =
 -- a range before and after its last verdict was taken out, and that verdict with its number
 abbrev pub IsLast : Stretch → Stretch → Pair → Type 0
 IsLast before after last =
-    (before ≡ record { first = after.first; verdicts = after.verdicts ++ last.verdict ∷ [] }) × (last.number ≡ after.first + length after.verdicts)
+    (before ≡ record { first = after.first; verdicts = after.verdicts ++ last.verdict ∷ []; unreached = after.unreached })
+    × (last.number ≡ after.first + length after.verdicts)
 
 -- verdicts in their places, from number n on, the last one first
 abbrev pub enter_range : List (Option Verdict) → ℕ → List Verdict → List (Option Verdict)

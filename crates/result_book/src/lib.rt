@@ -7,6 +7,7 @@ mod input;
 mod laws;
 mod numbered;
 mod range;
+mod watched;
 mod workspace;
 
 pub use book::{Book, PutFault, put_all};

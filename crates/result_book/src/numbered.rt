@@ -1,32 +1,44 @@
 //! A plan's number and verdict.
-ghost use Rattle.std.specs.Prelude.{◌≡◌, ℕ, ◌<◌, List, [], length, IfOk, slice_index_or};
+ghost use Rattle.std.specs.Prelude.{◌≡◌, ℕ, ◌<◌, List, [], not, filter, length, IfOk, OnOk, slice_index_or};
+ghost use Rattle.action_eval.specs.Answers.{given_of, start, texts};
 ghost use Rattle.result_book.specs.Says.{input_says};
+ghost use Rattle.result_book.specs.Runs.{input_runs, is_asked};
 
 use crate::input::RunInput;
+use crate::watched::leave_unasked;
 use crate::workspace::Workspace;
-use action_eval::{FaultTable, Session, SessionBuffers};
+use action_eval::{Session, SessionBuffers};
+use campaign_given::CampaignSettings;
 use campaign_plans::{CampaignPlan, CampaignRigger};
+use scenario_values::Scenario;
 use std::alloc::{AllocError, Global};
 use std::marker::Model;
 use std::mem;
-use target_trait::{Target, Verdict, run_session, run_verdict};
+use target_trait::{Target, Verdict, run_session};
 
-/// The verdict of the run of this number under what is rigged, in buffers that are left again for the next run. Want of memory may give
-/// them back to the system.
+/// The verdict of the run of this number under what is rigged in a workspace, whose buffers are left again for the next run. Of the points that
+/// no run asked so far those are left that this one doesn't ask. Want of memory may give the buffers back to the system.
 fn rigged_verdict<T: Target>(
-    alloc: Global,
     target: &mut T,
     input: &RunInput<'_, T>,
-    table: &FaultTable<'_>,
-    buffers: &mut SessionBuffers,
+    workspace: &mut Workspace,
     number: u32,
+    unreached: &mut Vec<u32>,
 ) -> Result<Verdict, AllocError>
-    requires { table.now.names ≡ T.names }
-    ensures ok { IfOk result (λ verdict. verdict ≡ input_says T.Target target.old input.now number table.now.scenario) }
+    requires { workspace.old.table.names ≡ T.names }
+    ensures ok { IfOk result (λ verdict. verdict ≡ input_says T.Target target.old input.now number workspace.old.table.scenario) }
+    ensures unreached { OnOk result (unreached.new.items
+        ≡ filter (λ p. not (is_asked p (input_runs T.Target target.old input.now number workspace.old.table.scenario).asked)) unreached.old.items) }
     ensures setup { target.new ≡ target.old }
 {
+    let Workspace {
+        table,
+        buffers,
+        alloc,
+        ..
+    } = workspace;
     let settings = input.settings;
-    let left = mem::replace(buffers, SessionBuffers::new(alloc));
+    let left = mem::replace(buffers, SessionBuffers::new(*alloc));
     let mut session = Session::over_in(
         left,
         table,
@@ -35,54 +47,79 @@ fn rigged_verdict<T: Target>(
         settings.max_hits,
     )?;
     let verdict = run_session(target, input.workload, &mut session)?;
+    leave_unasked(unreached, session.trace());
     *buffers = session.into_buffers();
     Ok(verdict)
 }
 
-/// The verdict of the run of this number under a plan whose scenario is made.
+/// The session of a plan whose scenario is made, over a catalogue.
+fn session_of<'a>(
+    alloc: Global,
+    scenario: &'a Scenario,
+    catalogue: &'a [&'a str],
+    settings: &CampaignSettings,
+    number: u32,
+) -> Result<Session<'a>, AllocError>
+    ensures { IfOk result (λ session. session ≡ start
+        (given_of scenario.now (texts catalogue.now) settings.now.plans.seed number settings.now.max_hits)) }
+{
+    let stream = u64::from(number);
+    Session::new(
+        alloc,
+        scenario,
+        catalogue,
+        settings.seed,
+        stream,
+        settings.max_hits,
+    )
+}
+
+/// The verdict of the run of this number under a plan whose scenario is made, and the points that are left, as of one that is rigged.
 fn written_verdict<T: Target>(
     alloc: Global,
     target: &mut T,
     input: &RunInput<'_, T>,
     plan: &CampaignPlan<'_>,
     number: u32,
+    unreached: &mut Vec<u32>,
 ) -> Result<Verdict, AllocError>
     ensures ok { IfOk result (λ verdict. verdict ≡ input_says T.Target target.old input.now number plan.now) }
+    ensures unreached { OnOk result (unreached.new.items
+        ≡ filter (λ p. not (is_asked p (input_runs T.Target target.old input.now number plan.now).asked)) unreached.old.items) }
     ensures setup { target.new ≡ target.old }
 {
     let scenario = plan.scenario(alloc)?;
-    let settings = input.settings;
-    let case = settings.case(&scenario, u64::from(number));
-    let verdict = run_verdict(alloc, target, input.workload, &case)?;
+    let mut session = session_of(alloc, &scenario, T::catalogue(), input.settings, number)?;
+    let verdict = run_session(target, input.workload, &mut session)?;
+    leave_unasked(unreached, session.trace());
     Ok(verdict)
 }
 
-/// The verdict of the plan of this number, where what rigs the input's plans over the target's points is made.
+/// The verdict of the plan of this number, where what rigs the input's plans over the target's points is made. Of the points that no run asked
+/// so far those are left that this one doesn't ask.
 pub(crate) fn verdict_of<T: Target>(
-    alloc: Global,
     target: &mut T,
     rigger: &CampaignRigger<'_, 'static>,
     workspace: &mut Workspace,
     input: &RunInput<'_, T>,
     number: u32,
+    unreached: &mut Vec<u32>,
 ) -> Result<Verdict, AllocError>
     requires within { number < length input.now.plans.now }
     requires plans { rigger.now.plans ≡ input.now.plans.now }
     requires names { rigger.now.names ≡ T.names }
     ensures ok { IfOk result (λ verdict. verdict ≡ input_says T.Target target.old input.now number (slice_index_or input.now.plans.now number [])) }
+    ensures unreached { OnOk result (unreached.new.items
+        ≡ filter (λ p. not (is_asked p (input_runs T.Target target.old input.now number (slice_index_or input.now.plans.now number [])).asked))
+        unreached.old.items) }
     ensures setup { target.new ≡ target.old }
 {
-    let Workspace {
-        table,
-        lists,
-        buffers,
-    } = workspace;
-    let is_loaded = rigger.load(number as usize, table, lists)?;
+    let is_loaded = rigger.load(number as usize, &mut workspace.table, &mut workspace.lists)?;
     if is_loaded {
-        rigged_verdict(alloc, target, input, table, buffers, number)
+        rigged_verdict(target, input, workspace, number, unreached)
     } else {
         let plan = input.plans.plan(number as usize);
-        written_verdict(alloc, target, input, &plan, number)
+        written_verdict(workspace.alloc, target, input, &plan, number, unreached)
     }
 }
 
@@ -129,7 +166,15 @@ impl<'a, T: Target> Numbered<'a, T> {
     {
         let mut workspace = Workspace::new(alloc);
         let rigger = input.plans.rigger(T::catalogue());
-        let verdict = verdict_of(alloc, target, &rigger, &mut workspace, input, number)?;
+        let mut unwatched = Vec::new(alloc);
+        let verdict = verdict_of(
+            target,
+            &rigger,
+            &mut workspace,
+            input,
+            number,
+            &mut unwatched,
+        )?;
         Ok(Numbered {
             input,
             number,

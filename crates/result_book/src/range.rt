@@ -3,15 +3,18 @@ ghost use Rattle.std.specs.Prelude.{◌≡◌, ◌≤◌, [], length, IfOk, Matc
 ghost use Rattle.result_book.specs.Says.{input_says};
 ghost use Rattle.result_book.specs.Ranges.{IsLast};
 ghost use Rattle.result_book.specs.Verdicts.{verdicts_from};
+ghost use Rattle.result_book.specs.Runs.{input_runs, is_asked, runs_from, unreached_of};
 
 use crate::input::RunInput;
 use crate::numbered::{Numbered, verdict_of};
+use crate::watched::is_asked;
 use crate::workspace::Workspace;
 use std::alloc::{AllocError, Global};
 use std::marker::Model;
 use target_trait::{Target, Verdict};
 
-/// The verdicts of plans of an input that stand one after another, from a number on.
+/// The verdicts of plans of an input that stand one after another, from a number on, and those of the input's watched points that none of their runs
+/// asks.
 ///
 /// Only `run_over` makes one, so each verdict is that of its plan, under the stream of its plan's number, for one setup of the target: the
 /// type keeps that. A range holds its input once, and 8 bytes a plan.
@@ -20,6 +23,7 @@ pub struct PlanRange<'a, T: Target> {
     input: &'a RunInput<'a, T>,
     first: u32,
     verdicts: Vec<Verdict>,
+    unreached: Vec<u32>,
 }
 
 impl<'a, T: Target> Model for PlanRange<'a, T> {
@@ -31,7 +35,7 @@ impl<'a, T: Target> Model for PlanRange<'a, T> {
     ghost use Rattle.result_book.specs.Says.{input_says};
     ghost use Rattle.result_book.specs.Ranges.{AreSaid};
 
-    ghost view = { λ r. record { first = r.first; verdicts = r.verdicts.items } };
+    ghost view = { λ r. record { first = r.first; verdicts = r.verdicts.items; unreached = r.unreached.items } };
 
     ghost invariant = { λ r. (r.first + length r.verdicts.items < 2 ^ 32)
         × ((setup : T) × AreSaid (input_says T.Target setup r.input.now) r.input.now.plans.now r.first r.verdicts.items) };
@@ -53,19 +57,23 @@ impl<'a, T: Target> PlanRange<'a, T> {
         ensures ok { IfOk result (λ range. range ≡ record {
           first = first;
           verdicts = verdicts_from (input_says T.Target target.old input.now) first (slice_range input.now.plans.now first end);
+          unreached = unreached_of input.now.watched.now
+              (runs_from (input_runs T.Target target.old input.now) first (slice_range input.now.plans.now first end));
         }) }
         ensures setup { target.new ≡ target.old }
     {
         let rigger = input.plans.rigger(T::catalogue());
         let mut verdicts = Vec::with_capacity(alloc, (end - first) as usize)?;
+        let mut unreached = Vec::from_slice(alloc, input.watched)?;
         for number in first..end {
-            let verdict = verdict_of(alloc, target, &rigger, workspace, input, number)?;
+            let verdict = verdict_of(target, &rigger, workspace, input, number, &mut unreached)?;
             verdicts.push(verdict)?;
         }
         Ok(PlanRange {
             input,
             first,
             verdicts,
+            unreached,
         })
     }
 
@@ -74,6 +82,13 @@ impl<'a, T: Target> PlanRange<'a, T> {
         ensures { result.now ≡ self.now.verdicts }
     {
         self.verdicts.as_slice()
+    }
+
+    /// Whether a point is one of the input's watched ones, and no run of the range asked it. A result that is taken out changes nothing.
+    pub fn leaves(&self, point: u32) -> bool
+        ensures { result ≡ is_asked point self.now.unreached }
+    {
+        is_asked(self.unreached.as_slice(), point)
     }
 
     /// Takes the last plan's result out of the range. None where the range is empty, which leaves it so.

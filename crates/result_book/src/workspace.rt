@@ -16,6 +16,7 @@ pub struct Workspace {
     pub lists: RigLists,
     /// What a session writes into.
     pub buffers: SessionBuffers,
+    pub alloc: Global,
 }
 
 impl Workspace {
@@ -31,6 +32,7 @@ impl Workspace {
             table: FaultTable::new(alloc),
             lists: RigLists::new(alloc),
             buffers: SessionBuffers::new(alloc),
+            alloc,
         }
     }
 }

@@ -1,5 +1,5 @@
 ghost use Rattle.std.specs.Prelude.{◌≡◌, ◌≤◌, length, IfOk, OnOk, OnErr};
-ghost use Rattle.action_eval.specs.Answers.{given_of, start, texts};
+ghost use Rattle.action_eval.specs.Answers.{asked, given_of, start, texts};
 ghost use Rattle.target_trait.specs.Outcomes.{outcome, verdict_of, judged, verdict_with};
 ghost use Rattle.target_trait.specs.Play.{Done};
 
@@ -109,7 +109,7 @@ pub fn run_case<T: Target>(
 }
 
 /// The verdict of one run on a target, over a session that is there already: that of what the target asks, under what the session is
-/// given.
+/// given. The session has the points that the run asked then.
 ///
 /// The session has to be a new one of the target's catalogue. It keeps what it is given and the hits of the run, and may then begin
 /// another one. An error means that memory was refused. The target keeps its setup, and the session what it is given, after an error too.
@@ -122,6 +122,7 @@ pub fn run_session<T: Target>(
     requires points { session.old.given.catalogue ≡ T.names }
     ensures ok { IfOk result (λ verdict. verdict ≡ verdict_with (T.asks target.old workload.now) T.names
         session.old.given.seed session.old.given.limit session.old.given.stream session.old.given.scenario) }
+    ensures asked { OnOk result (asked session.new ≡ (outcome (T.asks target.old workload.now) session.old.given).asked) }
     ensures given { session.new.given ≡ session.old.given }
     ensures setup { target.new ≡ target.old }
 {

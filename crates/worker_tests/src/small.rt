@@ -169,6 +169,7 @@ fn three_workers_twice_on_the_small_workload(rt: HostRuntime) -> Result<(), Fail
         workload: &work,
         settings: &settings,
         plans: &plans,
+        watched: &[],
     };
     are_run(&rt, alloc, &input)
 }

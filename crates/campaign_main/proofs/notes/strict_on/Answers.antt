@@ -1,32 +1,50 @@
-use Rattle.std.proofs.Common.{◌≡◌, ◌∙◌, [], List, ap, length}
-use Rattle.scenario_values.specs.Scenario.{Entries}
+use Rattle.std.proofs.Common.{◌≡◌, ◌<◌, ◌∙◌, List, All, ap, arith, count_by, get_or, length, subst, sym}
+use Rattle.std.proofs.lemmas.List.{length-map}
 use Rattle.target_trait.specs.Verdicts.{is_unresolved}
-use Rattle.plan_survey.specs.Runs.{runs_from, unreached_in, unresolved_in}
-use Rattle.campaign_core.specs.CommandTexts.{tried}
-use Rattle.campaign_core.specs.Headline.{campaign_in, campaign_on, plans, say}
+use Rattle.target_trait.specs.declared.judgement.Verdict.{Verdict}
+use Rattle.target_trait.specs.declared.judgement.Verdict.TheVariants as verdict
+use Rattle.result_book.specs.Verdicts.{verdicts_from}
+use Rattle.result_book.proofs.SlotLemmas.{length_verdicts}
+use Rattle.campaign_core.specs.Headline.{Campaign, campaign_in, plans, say}
+use Rattle.campaign_core.proofs.Surveyed.{unreached_below}
 use Rattle.campaign_main.specs.Notes.{is_unhit}
 use Rattle.campaign_main.proofs.StrictLemmas.{same-doubts, strict-is}
 use Rattle.campaign_main.proofs.notes.strict_on.Goals as goal
 
-pub returns-clause-ok : goal.returns-clause-ok
-returns-clause-ok g c =
-    let T = g.T.Target in
-    let tried_here = c.args.subject.now in
-    let w = tried_here.workload.now in
-    let s = tried_here.settings.now in
-    let all = campaign_in T tried_here in
-    let first = c.in_ok-twin.ensures in
-    let second = c.survey_of.ensures.setup ∙ first in
-    let listed : c.plans_of-plans.result ≡ plans all = c.plans_of-plans.ensures in
+pub doubts_of-doubts-requires-clause-some : goal.doubts_of-doubts-requires-clause-some
+doubts_of-doubts-requires-clause-some g c =
+    let k : Campaign = campaign_in g.T.Target c.args.subject.now in
+    let ran = c.requires.ran in
+    let many = ap length (c.as_slice-verdicts.ensures.value ∙ ran.results.0) in
+    let counted = length_verdicts (say k) 0 (plans k) in
+    omega (arith, many, counted, ran.planned.some)
+
+pub doubts_of-doubts-requires-clause-few : goal.doubts_of-doubts-requires-clause-few
+doubts_of-doubts-requires-clause-few g c =
+    let k : Campaign = campaign_in g.T.Target c.args.subject.now in
+    let ran = c.requires.ran in
+    let many = ap length (c.as_slice-verdicts.ensures.value ∙ ran.results.0) in
+    let counted = length_verdicts (say k) 0 (plans k) in
+    omega (arith, many, counted, ran.planned.few)
+
+pub write_all_unreached-requires : goal.write_all_unreached-requires
+write_all_unreached-requires g c =
+    subst (λ n. All (λ p. p < n) c.as_slice-unreached.result.now) (ap length (sym c.catalogue.ensures) ∙ length-map c.catalogue.result.now (λ n. n.now))
+    (unreached_below (campaign_in g.T.Target c.args.subject.now) c.as_slice-unreached.result.now (c.as_slice-unreached.ensures.value ∙ c.requires.unreached))
+
+pub returns : goal.returns
+returns g c =
+    let k : Campaign = campaign_in g.T.Target c.args.subject.now in
+    let ran = c.requires.ran in
+    let vs : List Verdict = verdicts_from (say k) 0 (plans k) in
+    let here : c.as_slice-verdicts.result.now ≡ vs = c.as_slice-verdicts.ensures.value ∙ ran.results.0 in
+    let counted = length_verdicts (say k) 0 (plans k) in
+    let told = c.doubts_of-doubts.ensures in
     let same = same-doubts _ _
-    (c.in_ok-is_clean_unresolved.ensures.clean ∙ ap (λ t. is_unresolved (say (campaign_on T t w s) 0 [])) second)
-    (c.in_ok-survey.ensures.unresolved ∙ ap (λ t. unresolved_in (runs_from (tried (campaign_on T t w s)) 0 c.plans_of-plans.result)) first
-    ∙ ap (λ ps. unresolved_in (runs_from (tried all) 0 ps)) listed)
-    (c.len.ensures.many ∙ ap (λ (ps : List Entries). length ps) listed)
-    (c.is_unhit.ensures ∙ ap is_unhit (c.as_slice.ensures.value ∙ c.in_ok-planned.ensures.planned.census))
-    c.draws_nothing.ensures in
-    strict-is all _ _ _ _ _ _ same c.catalogue.ensures
-    (c.as_slice-2.ensures.value ∙ c.in_ok-survey.ensures.unreached
-    ∙ ap (λ t. unreached_in (length T.names) (runs_from (tried (campaign_on T t w s)) 0 c.plans_of-plans.result)) first
-    ∙ ap (λ ps. unreached_in (length T.names) (runs_from (tried all) 0 ps)) listed)
+    (told.clean ∙ ap (λ (v : List Verdict). is_unresolved (get_or v 0 verdict.Unresolved)) here)
+    (told.unresolved ∙ ap (λ (v : List Verdict). count_by is_unresolved v) here)
+    (told.plans ∙ ap (λ (v : List Verdict). length v) here ∙ counted)
+    (told.unhit ∙ ap is_unhit (c.as_slice-census.ensures.value ∙ ran.planned.census))
+    told.unstormed in
+    strict-is k _ _ _ _ _ _ same c.catalogue.ensures (c.as_slice-unreached.ensures.value ∙ c.requires.unreached)
     c.new-lines.ensures.bytes c.in_ok-write_doubts.ensures c.in_ok-write_all_unreached.ensures

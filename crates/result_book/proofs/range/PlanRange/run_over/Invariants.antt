@@ -2,6 +2,7 @@ use Rattle.std.proofs.Common.{◌≡◌}
 use Rattle.std.specs.List.{slice_range}
 use Rattle.result_book.specs.Says.{input_says}
 use Rattle.result_book.specs.Verdicts.{verdicts_from}
+use Rattle.result_book.specs.Runs.{input_runs, runs_from, unreached_of}
 use Rattle.result_book.proofs.range.PlanRange.run_over.Given as goal
 
 abbrev pub invariant-loop-number : goal.invariant-loop-number
@@ -10,4 +11,6 @@ invariant-loop-number g l = record {
   verdicts : l.verdicts.items ≡ verdicts_from
       (input_says g.T.Target l.fn.target l.input)
       l.first (slice_range l.input.plans.now l.first l.number);
+  unreached : l.unreached.items ≡ unreached_of l.input.watched.now
+      (runs_from (input_runs g.T.Target l.fn.target l.input) l.first (slice_range l.input.plans.now l.first l.number));
 }
