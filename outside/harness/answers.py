@@ -5,7 +5,8 @@ import os
 from pathlib import Path
 
 MOST = 1048576  # bytes of an answer, with the end of its line
-DIFFERS = 5  # the status where a second run told otherwise than the first
+WRITE_FAILED = 4  # the status where something can't be written
+DIFFERS = 5  # that where a second run told otherwise than the first
 
 
 class Stopped(Exception):

@@ -3,7 +3,6 @@
 import os
 import shlex
 import signal
-import sys
 from pathlib import Path
 
 from . import definition, programs, script
@@ -18,7 +17,7 @@ from .room import Room
 from .run import Runner
 from .settings import NEXT, Settings
 from .shard import join, shard_of
-from .shown import show
+from .shown import show, until_nobody_reads, write_out
 from .watching import watched
 from .whole import FORMS, Asked, Whole, decider_of
 from .words import ASK_HELP, Usage, as_called, bytes_of, shows_progress, split, usage_of, whole_number, write_help
@@ -84,8 +83,7 @@ def script_report(options: dict[str, str], campaign: Campaign, tries: script.Tri
     """Writes the report, and runs what fails once more."""
     paklour = campaign.paklour
     status, report = paklour.report(*(["--strict"] if "--strict" in options else []))
-    sys.stdout.buffer.write(paklour.report("--brief", tells=False)[1] if "--brief" in options else report)
-    sys.stdout.buffer.flush()
+    write_out(paklour.report("--brief", tells=False)[1] if "--brief" in options else report)
     if status != 1 or "--no-recheck" in options:
         return status
     return status if script.recheck(paklour, tries, report, campaign.shows_progress) else DIFFERS
@@ -141,6 +139,10 @@ def kinds_of(options: dict[str, str]) -> bool | None:
 
 
 def main(loop: str, words: list[str]) -> int:
+    return until_nobody_reads(lambda: perform(loop, words))
+
+
+def perform(loop: str, words: list[str]) -> int:
     processes = Processes()
     for number in (signal.SIGHUP, signal.SIGINT, signal.SIGTERM):
         signal.signal(number, on_signal)
@@ -152,7 +154,7 @@ def main(loop: str, words: list[str]) -> int:
             return run_harness(loop, options, rest[0], processes)
         return run_script(options, rest, processes)
     except Usage:
-        sys.stderr.write(usage_of(loop) + "\n")
+        show(usage_of(loop))
         return 2
     except Stopped as stopped:
         if stopped.line:

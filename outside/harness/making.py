@@ -4,12 +4,15 @@ import os
 import shlex
 import shutil
 import subprocess
-import sys
 import tempfile
 from pathlib import Path
 
 from . import tree
+from .answers import Stopped
+from .shown import show, until_nobody_reads, write_out
 from .words import ASK_HELP, Usage, as_called, usage_of, write_help
+
+CANNOT = 1  # the status where the folder can't be made as it is asked for
 
 PREPARE = """#!/bin/sh
 # Fills the data's folder, in which it is started: what is there when it ends lasts. From an empty folder a folder that is never synced is
@@ -102,7 +105,7 @@ def expect(folder: Path) -> None:
         environment = os.environ | {"HARNESS": str(folder), "TMPDIR": place}
         done = subprocess.run([folder / "run"], cwd=data, env=environment, stdout=subprocess.PIPE, check=False)
         if done.returncode:
-            sys.exit(f"new: the command ends with {done.returncode} in an empty folder: let prepare fill it, and run's words be right")
+            raise Stopped(f"the command ends with {done.returncode} in an empty folder: let prepare fill it, and run's words be right", CANNOT)
         tree.copy(str(data), str(folder / "expected"))
 
 
@@ -116,7 +119,7 @@ def words_of(words: list[str]) -> tuple[str, str, Path, str]:
     if len(words) < 2 or words[0].startswith("-"):
         raise Usage
     if not (program := shutil.which(words[1])):
-        sys.exit(f"new: no such program: {words[1]}")
+        raise Stopped(f"no such program: {words[1]}", CANNOT)
     command = [os.path.abspath(program) if "/" in words[1] else words[1], *words[2:]]
     return form, line, Path(words[0]).resolve(), shlex.join(command)
 
@@ -126,18 +129,13 @@ def loop_beside(new: str) -> str:
     return as_called(os.path.join(os.path.dirname(new), os.path.basename(new).removesuffix("new") + "loop"))
 
 
-def main(new: str, words: list[str]) -> int:
-    if words[:1] and words[0] in ASK_HELP:
-        return write_help(new)
-    try:
-        form, line, folder, command = words_of(words)
-    except (Usage, ValueError):
-        sys.stderr.write(usage_of(new) + "\n")
-        return 2
+def make(form: str, line: str, folder: Path, command: str) -> None:
     try:
         folder.mkdir()
-    except FileExistsError:
-        sys.exit(f"new: {folder} is there")
+    except FileExistsError as error:
+        raise Stopped(f"{folder} is there", CANNOT) from error
+    except OSError as error:
+        raise Stopped(f"{folder}: {error.strerror}", CANNOT) from error
     run, judge = {"command": (RUN, JUDGE), "server": (SERVER_RUN, SERVER_JUDGE), "mail": (MAIL_RUN, MAIL_JUDGE)}[form]
     write(folder / "prepare", PREPARE)
     write(folder / "run", run.format(command=command, line=shlex.quote(line)))
@@ -146,5 +144,23 @@ def main(new: str, words: list[str]) -> int:
         (folder / "message").write_text(MESSAGE)
     if form == "command":
         expect(folder)
-    print(shlex.join([loop_beside(new), str(folder)]))
+
+
+def main(new: str, words: list[str]) -> int:
+    return until_nobody_reads(lambda: perform(new, words))
+
+
+def perform(new: str, words: list[str]) -> int:
+    try:
+        if words[:1] and words[0] in ASK_HELP:
+            return write_help(new)
+        form, line, folder, command = words_of(words)
+        make(form, line, folder, command)
+        write_out(f"{shlex.join([loop_beside(new), str(folder)])}\n".encode("utf-8", "surrogateescape"))
+    except (Usage, ValueError):
+        show(usage_of(new))
+        return 2
+    except Stopped as stopped:
+        show(f"new: {stopped.line}")
+        return stopped.status
     return 0

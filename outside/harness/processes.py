@@ -18,6 +18,9 @@ class Processes:
     """What runs now. To be made first of all: it takes descriptor 3."""
 
     def __init__(self) -> None:
+        while (number := os.open(os.devnull, os.O_RDWR)) < LASTS:
+            pass  # a standard one that is closed is no file's of the campaign
+        os.close(number)
         reader, writer = os.pipe()
         self.reader = os.dup(reader) if reader == LASTS else reader
         os.dup2(writer, LASTS, inheritable=True)

@@ -3,7 +3,6 @@
 import copy
 import os
 import subprocess
-import sys
 import threading
 from dataclasses import replace
 from pathlib import Path
@@ -121,4 +120,3 @@ def last_line(path: Path) -> str:
 def tell_errors(path: Path) -> None:
     if path.exists():
         show(path.read_text("utf-8", "surrogateescape"))
-        sys.stderr.flush()

@@ -1,9 +1,46 @@
-"""Lines on standard error, for a person."""
+"""What is written: lines on standard error, for a person, and texts on standard output."""
 
+import contextlib
+import os
 import re
-import sys
+import signal
+from collections.abc import Callable
 
+from .answers import WRITE_FAILED, Stopped
+
+OUTPUT, ERRORS = 1, 2
 CONTROL = re.compile(r"[\x00-\x1f\x7f]")
+
+
+class NobodyReads(Exception):
+    """Whoever read what is written has seen enough, as `head` has."""
+
+
+def until_nobody_reads(perform: Callable[[], int]) -> int:
+    """Its status. Where nobody reads any more, this program ends as the system ends others for that: by a signal, and without a word."""
+    try:
+        return perform()
+    except NobodyReads:
+        signal.signal(signal.SIGPIPE, signal.SIG_DFL)
+        signal.raise_signal(signal.SIGPIPE)
+        raise
+
+
+def write_whole(file: int, text: bytes) -> None:
+    """Without a buffer: what can't be written isn't tried again at the end."""
+    rest = memoryview(text)
+    try:
+        while rest:
+            rest = rest[os.write(file, rest):]
+    except BrokenPipeError as error:
+        raise NobodyReads from error
+
+
+def write_out(text: bytes) -> None:
+    try:
+        write_whole(OUTPUT, text)
+    except OSError as error:
+        raise Stopped(f"standard output: {error.strerror}", WRITE_FAILED) from error
 
 
 def escaped(text: str) -> str:
@@ -12,9 +49,10 @@ def escaped(text: str) -> str:
 
 
 def show(text: str) -> None:
-    for line in text.splitlines():
-        sys.stderr.buffer.write((escaped(line) + "\n").encode("utf-8", "surrogateescape"))
-    sys.stderr.buffer.flush()
+    """Where they can't be written, the status has to do."""
+    with contextlib.suppress(OSError):
+        for line in text.splitlines():
+            write_whole(ERRORS, (escaped(line) + "\n").encode("utf-8", "surrogateescape"))
 
 
 told: set[str] = set()

@@ -1,13 +1,12 @@
 """One scenario, shown hit by hit: with files, and with what had been promised by then."""
 
-import sys
 from pathlib import Path
 
 from .deciding import Decider
 from .judging import LooksUp
 from .outcome import Outcome
 from .run import tell_errors
-from .shown import escaped
+from .shown import escaped, write_out
 from .telling import KEEPS, acts, faults_in_words, what
 
 
@@ -34,7 +33,7 @@ def hit_line(hit: list[str]) -> str:
 
 
 def write(line: str) -> None:
-    sys.stdout.buffer.write((escaped(line) + "\n").encode("utf-8", "surrogateescape"))
+    write_out((escaped(line) + "\n").encode("utf-8", "surrogateescape"))
 
 
 def watched(decider: Decider, scenario: str) -> int:

@@ -3,7 +3,6 @@
 import math
 import os
 import shlex
-import sys
 from collections import Counter
 from collections.abc import Iterator
 from dataclasses import dataclass
@@ -19,7 +18,7 @@ from .paklour import Paklour
 from .run import Runner
 from .settings import Settings
 from .shard import Shard, places_in, scenario_in
-from .shown import show
+from .shown import show, write_out
 from .telling import failure, group_of
 from .workers import Workers
 
@@ -160,8 +159,7 @@ class Whole:
         (self.folder / "report").write_bytes(report)
         for form in ["--page", *self.asked.forms]:
             (self.folder / FORMS[form]).write_bytes(self.paklour.report(form, tells=False)[1])
-        sys.stdout.buffer.write(brief if self.asked.brief else report)
-        sys.stdout.buffer.flush()
+        write_out(brief if self.asked.brief else report)
         is_same = self.confirm(findings(report, self.settings.codes))
         self.tell_counts()
         return status if is_same else DIFFERS

@@ -2,9 +2,9 @@
 
 import os
 import shutil
-import signal
-import sys
 from pathlib import Path
+
+from .shown import ERRORS, write_out
 
 ASK_HELP = ("-h", "--help")
 
@@ -21,9 +21,8 @@ def usage_of(command: str) -> str:
 
 
 def write_help(command: str) -> int:
-    """For who asks for it. A reader that has seen enough is no error."""
-    signal.signal(signal.SIGPIPE, signal.SIG_DFL)
-    print(usage_of(command), flush=True)
+    """For who asks for it."""
+    write_out(f"{usage_of(command)}\n".encode())
     return 0
 
 
@@ -69,4 +68,4 @@ def split(words: list[str], with_value: set[str], flags: set[str]) -> tuple[dict
 
 
 def shows_progress(options: dict[str, str]) -> bool:
-    return "--progress" in options or sys.stderr.isatty()
+    return "--progress" in options or os.isatty(ERRORS)

@@ -3,11 +3,12 @@
 import json
 import os
 import signal
+import subprocess
 import time
 import unittest
 import xml.etree.ElementTree
 
-from .base import JUDGES, LOG, NOTE, SAVES, Campaigns
+from .base import JUDGES, LOG, LOOP, NOTE, OUTSIDE, SAVES, Campaigns
 
 SETTINGS = """target = "outside"
 depth = 1
@@ -241,6 +242,71 @@ class Shown(Campaigns):
         self.assertEqual(done.status, 1)
         self.assertFalse((self.here / "report").exists())
         self.assertIn("--try 'sys::fsync=1*return'", done.told)
+
+
+COUNTED = """target = "outside"
+[outside]
+label = "x"
+codes = ["lost"]
+points = ["sys::open"]
+hits = [1]
+"""
+
+
+class NobodyReads(Campaigns):
+    """Whoever reads what a command writes has seen enough, as `head` has: the command ends as the system ends one for that, and without a word."""
+
+    def ended(self, *words, stream="stdout") -> int:
+        """Its status, as a shell has it; to the other stream nothing is written but what the loop tells."""
+        reader, writer = os.pipe()
+        os.close(reader)
+        streams = {"stdout": subprocess.PIPE, "stderr": subprocess.PIPE} | {stream: writer}
+        done = subprocess.run([*map(str, words)], env=self.environment, cwd=self.here, text=True, check=False, **streams)
+        os.close(writer)
+        self.assertNotRegex(done.stderr or "", "Traceback|Broken pipe|Exception")
+        return done.returncode if done.returncode >= 0 else 128 - done.returncode
+
+    def test_help(self):
+        for name in ("loop", "new", "census", "faults", "powercut"):
+            self.assertEqual(self.ended(OUTSIDE / "out" / "bin" / f"paklour-{name}", "--help"), 141, name)
+
+    def test_a_run_that_is_shown(self):
+        self.assertEqual(self.ended(LOOP, "--into", self.here, NOTE, "--try", "none"), 141)
+        self.assertEqual(list(self.here.glob("paklour-*")), [], "its run is left")
+
+    def test_a_report(self):
+        self.assertEqual(self.ended(LOOP, "--into", self.here, NOTE), 141)
+        report = (self.here / "report").read_text()
+        self.assertEqual(self.loop("--whole", "--into", self.here, NOTE).out, report)
+
+    def test_lines_of_a_campaign(self):
+        self.assertEqual(self.ended(LOOP, "--into", self.here, NOTE, stream="stderr"), 141)
+        self.assertEqual(self.ended(LOOP, "--no-such-option", stream="stderr"), 141)
+
+    def test_a_report_by_a_script(self):
+        (self.here / "try").write_text("#!/bin/sh\nprintf 'pass\\t%s\\n' \"$1\"\n")
+        (self.here / "try").chmod(0o755)
+        (self.here / "settings.toml").write_text(COUNTED)
+        self.assertEqual(self.ended(LOOP, "--script", "./try", "settings.toml", "answers"), 141)
+        self.assertEqual(len(self.answers(self.here)), 4)
+
+    def test_a_harness_that_is_new(self):
+        self.assertEqual(self.ended(OUTSIDE / "new", "made", "touch", "note"), 141)
+        self.assertTrue((self.here / "made" / "run").exists())
+
+    def test_what_is_pending_and_a_census(self):
+        script = """mkdir data && "$0"/paklour-powercut begin run data && cd data &&
+            FAULTS_ROOT=$PWD FAULTS_RUN=../run FAILPOINTS=none "$0"/paklour-faults sh -c ': > a'"""
+        subprocess.run(["sh", "-c", script, OUTSIDE / "out" / "bin"], env=self.environment, cwd=self.here, check=True)
+        self.assertEqual(self.ended(OUTSIDE / "out" / "powercut", "pending", "run"), 141)
+        for option in ("--points", "--kinds", "--hits"):
+            self.assertEqual(self.ended(OUTSIDE / "census", option, "run/trace"), 141, option)
+
+    def test_a_device_that_is_full(self):
+        with open("/dev/full", "wb") as full:
+            for words in ((LOOP, "--into", self.here, NOTE), (LOOP, "--into", self.here, NOTE, "--try", "none"), (OUTSIDE / "new", "made", "touch", "note")):
+                done = subprocess.run(words, env=self.environment, cwd=self.here, stdout=full, stderr=subprocess.PIPE, text=True, check=False)
+                self.assertEqual((done.returncode, done.stderr.splitlines()[-1]), (4, f"{words[0].name}: standard output: No space left on device"))
 
 
 class Stopped(Campaigns):
