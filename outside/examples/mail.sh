@@ -44,7 +44,7 @@ statuses() {
 judge() {
     messages
     statuses
-    python3 -B "$HARNESS/../copies.py" "$TMPDIR" "$@" > "$TMPDIR/copies" || broken torn
+    python3 -B "$HARNESS/copies.py" "$TMPDIR" "$@" > "$TMPDIR/copies" || broken torn
     read -r zero one two < "$TMPDIR/copies"
     [ "$zero" -eq 1 ] || broken lost
     while read -r number status; do

@@ -103,13 +103,14 @@ def run_harness(loop: str, options: dict[str, str], path: str, processes: Proces
     programs.check_built()
     harness = definition.read(path)
     folder = Path(options.get("--into", harness.folder))
+    own = harness.identity(folder.resolve())
     folder.mkdir(parents=True, exist_ok=True)
     asked = asked_of(loop, options, path)
     answers = Answers(str(folder / "answers"))
     answers.cut_torn()
-    note = None if "--try" in options else Note(folder / "campaign.json", harness.digest(), answers.count)
+    note = None if "--try" in options else Note(answers, own)
     if "--join" in options:
-        join(Path(options["--join"]), harness.digest(), answers)
+        join(Path(options["--join"]), own, answers)
     settings = Settings(harness, folder, answers, options.get("--settings"), depth_of(options), kinds_of(options))
     harness.order = "next" if NEXT in settings.points else harness.order
     work = Work(note)

@@ -1,7 +1,6 @@
 """A harness: how a program is prepared, run, run again after a power cut, and judged. A folder with up to four programs of these names, or a
 file of Python, which defines them as functions or commands. A file of Python in the folder says more of the programs beside it."""
 
-import hashlib
 import json
 import os
 import subprocess
@@ -10,6 +9,7 @@ from dataclasses import dataclass, field
 from pathlib import Path
 
 from .answers import Stopped
+from .identity import Identity, digests, files_in
 from .step import STEPS
 
 STEP = Path(__file__).resolve().with_name("step.py")
@@ -22,8 +22,10 @@ VARIABLES = ("FAULTS_SYNC", "FAULTS_BLOCK", "FAULTS_FSYNC", "FAULTS_POINTS", "FA
 class Harness:
     name: str
     folder: Path
-    files: list[Path]  # whose bytes it consists of
     steps: dict[str, list[str]]
+    file: Path | None = None  # of Python
+    others: list[Path] = field(default_factory=list)  # files of which it consists beside these: programs that it names by their paths, modules
+    commands: dict[str, str | list[str] | None] = field(default_factory=dict)  # the steps as the file has them
     functions: frozenset[str] = frozenset()  # the steps that are functions of Python
     variables: dict[str, str] = field(default_factory=dict)  # of the environment of its programs
     states: tuple[str, ...] = ()  # those that are judged where no power::keep is among the points; else what the scenario keeps
@@ -31,14 +33,13 @@ class Harness:
     pins: bool = True
     unjudged: tuple[str, ...] = ()  # patterns of names of files into which the judge doesn't look, as logs with times
 
-    def digest(self) -> str:
-        """Of all on which an answer depends here, but for the program itself."""
-        whole = hashlib.sha256()
-        for path in self.files:
-            whole.update(path.name.encode() + b"\0" + path.read_bytes() + b"\0")
+    def identity(self, into: Path) -> Identity:
+        """Of a campaign that leaves its own files in that folder."""
+        is_folder = not self.file or self.file.name == PYTHON_FILE
+        files = [*files_in(self.folder, into)] if is_folder else [self.file]
         named = {name: os.environ[name] for name in VARIABLES if name in os.environ}
-        whole.update(json.dumps([named | self.variables, self.states, self.order, self.pins], sort_keys=True).encode())
-        return whole.hexdigest()
+        return {"files": digests(self.folder, [*files, *self.others]), "commands": self.commands, "variables": named | self.variables,
+            "states": list(self.states), "order": self.order, "pin": self.pins, "unjudged": list(self.unjudged)}
 
 
 def read(path: str) -> Harness:
@@ -46,7 +47,7 @@ def read(path: str) -> Harness:
     if not place.exists():
         raise Stopped(f"{path}: no such harness")
     file = place / PYTHON_FILE if place.is_dir() else place
-    harness = read_folder(file.parent) if file.name == PYTHON_FILE else Harness(file.stem, file.parent, [], {})
+    harness = read_folder(file.parent) if file.name == PYTHON_FILE else Harness(file.stem, file.parent, {})
     if file.exists():
         read_file(file, harness)
     for needed in ("run", "judge"):
@@ -60,11 +61,10 @@ def read_folder(place: Path) -> Harness:
     for file in files:
         if not os.access(file, os.X_OK):
             raise Stopped(f"{file} can't be run: chmod +x")
-    harness = Harness(place.name, place, files, {file.name: [str(file)] for file in files})
+    harness = Harness(place.name, place, {file.name: [str(file)] for file in files})
     patterns = place / "unjudged"
     if patterns.exists():
         harness.unjudged = tuple(patterns.read_text("utf-8").split())
-        harness.files.append(patterns)
     return harness
 
 
@@ -74,11 +74,13 @@ def read_file(file: Path, harness: Harness) -> None:
     if done.returncode:
         raise Stopped(f"{file}: {done.stderr.decode('utf-8', 'surrogateescape').strip() or 'it ends with ' + str(done.returncode)}")
     told = json.loads(done.stdout.splitlines()[-1])
-    steps = {step: words_of(file, step, told[step]) for step in STEPS if step in told}
+    harness.file = file
+    harness.commands = {step: told[step] for step in STEPS if step in told}
+    steps = {step: words_of(file, step, command) for step, command in harness.commands.items()}
     harness.steps |= steps
     harness.functions = frozenset(step for step in steps if told[step] is None)
     programs = [Path(words[0]) for step, words in steps.items() if step not in harness.functions]
-    harness.files[:0] = [file, *[program for program in programs if program.is_absolute() and program.exists()]]
+    harness.others = [program for program in programs if program.is_absolute() and program.exists()] + [Path(module) for module in told["modules"]]
     harness.variables = told.get("environment", {})
     harness.states, harness.order, harness.pins = tuple(told.get("states", ())), told.get("order", "settled"), told.get("pin", True)
     harness.unjudged += tuple(told.get("unjudged", ()))

@@ -35,7 +35,7 @@ class Runner:
         self.tools = Tools(room)
         self.count = 0
         self.prepared = work.folder / "prepared"
-        self.served = Served(harness.files[0], processes) if "judge" in harness.functions else None
+        self.served = Served(harness.file, processes) if "judge" in harness.functions else None
         self.lock = threading.Lock()
 
     def environment(self, folder: Path, **more: str) -> dict[str, str]:

@@ -3,12 +3,12 @@
 A plan belongs to the fault that acts first in it. Up to there its run is the one without faults, which each machine makes, and all that grows from a
 plan has the same first fault: so a share is grown without the others. Where no run's hits are told nothing grows, and any share will do."""
 
-import json
 import zlib
 from dataclasses import dataclass
 from pathlib import Path
 
 from .answers import DIFFERS, Answers, Stopped, whole_lines
+from .identity import Identity, refuse_others
 from .scenario import Scenario, Term, Unreadable, numbered, points_of
 from .words import Usage, whole_number
 
@@ -60,16 +60,14 @@ def first_place(text: str, places: Places) -> int:
     return min((places[hit] for name, chain in chains.items() if (hit := (name, first_hit(chain))) in places), default=0)
 
 
-def join(folder: Path, digest: str, answers: Answers) -> None:
+def join(folder: Path, own: Identity, answers: Answers) -> None:
     """Takes over the answers of the folders below that one, of shards or of other campaigns of the same harness."""
     known = {scenario_in(line): line for line in answers.lines()}
     parts = sorted(folder.glob("*/answers"))
     if not parts:
         raise Stopped(f"{folder}: no folder in it has answers")
     for part in parts:
-        note = part.with_name("campaign.json")
-        if not note.exists() or json.loads(note.read_text()).get("harness") != digest:
-            raise Stopped(f"{part} are answers of another harness")
+        refuse_others(part, own)
         for line in whole_lines(part.read_bytes()):
             scenario = scenario_in(line)
             if scenario not in known:

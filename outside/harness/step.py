@@ -22,10 +22,13 @@ def defined(path: str) -> dict:
     return {name: value for name, value in runpy.run_path(path).items() if not name.startswith("_")}
 
 
-def described(names: dict) -> dict:
-    """Functions as null, values as they are; what else is there is none of the loop's."""
+def described(names: dict, path: str) -> dict:
+    """Functions as null, values as they are; what else is there is none of the loop's. The modules are those that stand beside the harness, or below."""
     functions = {name: None for name in STEPS if callable(names.get(name))}
-    return functions | {name: value for name, value in names.items() if isinstance(value, (str, bool, list, tuple, dict))}
+    values = {name: value for name, value in names.items() if isinstance(value, (str, bool, list, tuple, dict))}
+    files = [getattr(module, "__file__", None) or "" for module in sys.modules.values()]
+    beside = os.path.join(os.path.dirname(path), "")
+    return functions | values | {"modules": sorted(file for file in files if file.startswith(beside) and file != __file__)}
 
 
 def perform(names: dict, name: str) -> int:
@@ -88,7 +91,7 @@ def serve(names: dict) -> None:
 def main(path: str, name: str | None = None) -> int:
     names = defined(path)
     if name is None:
-        print(json.dumps(described(names)))
+        print(json.dumps(described(names, path)))
     elif name == "--serve":
         serve(names)
     else:

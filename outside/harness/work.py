@@ -9,8 +9,9 @@ import time
 from pathlib import Path
 
 from . import tree
-from .answers import Stopped
+from .answers import Answers
 from .disk import disk_of
+from .identity import NOTE, Identity, refuse_others
 
 PREFIX = "paklour-"
 TRIES = 20  # to take it away
@@ -28,19 +29,20 @@ def temporary() -> str:
 class Note:
     """Whose the answers beside it are, and where their runs are laid out."""
 
-    def __init__(self, path: Path, digest: str, answered: int):
-        self.path = path
-        self.digest = digest
-        known = json.loads(path.read_text()) if path.exists() else {}
-        if answered and known.get("harness") != digest:
-            raise Stopped(f"{path.parent}/answers are those of another harness, or of other variables FAULTS_..: take them away, and begin anew")
-        left = Path(known.get("work", ""))
+    def __init__(self, answers: Answers, own: Identity):
+        place = Path(answers.path)
+        self.path = place.with_name(NOTE)
+        self.own = own
+        if answers.count:
+            refuse_others(place, own)
+        left = Path(json.loads(self.path.read_text()).get("work", "") if self.path.exists() else "")
         if left.name.startswith(PREFIX) and left.is_dir():
             tree.remove(str(left))
+        self.write()
 
     def write(self, **more: str) -> None:
         new = self.path.with_suffix(".new")
-        new.write_text(json.dumps({"harness": self.digest} | more) + "\n")
+        new.write_text(json.dumps({"harness": self.own} | more) + "\n")
         new.rename(self.path)
 
 

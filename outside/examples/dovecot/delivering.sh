@@ -1,6 +1,6 @@
 # What the programs of this harness share: sourced. `deliver NUMBER` has dovecot-lda deliver that message to `mail` in this folder. It refuses to do so as root,
 # so root has nobody do it, to whom what is named from this folder is open, and no path that leads to it. Its settings are none of the data.
-. "$HARNESS/../mail.sh"
+. "$HARNESS/mail.sh"
 messages
 printf '%s\n' 'mail_location = maildir:~/mail' 'log_path = /dev/stderr' 'postmaster_address = postmaster@example.org' \
     "mail_fsync = ${FSYNC:-optimized}" 'ssl = no' > "$TMPDIR/settings"

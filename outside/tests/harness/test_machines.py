@@ -93,7 +93,7 @@ class Machines(Campaigns):
         (parts / "1" / "answers").write_text("pass\tnone\tsys::open\n")
         (parts / "1" / "campaign.json").write_text('{"harness": "another"}\n')
         done = self.loop("--join", parts, "--into", self.here, NOTE)
-        self.assertEqual((done.status, done.told), (2, f"loop: {parts}/1/answers are answers of another harness\n"))
+        self.assertEqual((done.status, done.told), (2, f"loop: {parts}/1/answers are those of another harness: take them away, and begin anew\n"))
 
     def test_a_folder_without_answers(self):
         done = self.loop("--join", self.here / "parts", "--into", self.here, NOTE)
