@@ -4,8 +4,8 @@
     THREADS     by how many threads at once: 1. Several that commit at once decide in memory who writes for the others: 3 are another run each time
     FAULTS_SYNC journal, as on ext4: in the strict model names of its files are lost where the power goes as it is opened
 
-Promised by RocksDB's page of basic operations, Synchronous Writes: "The sync flag can be turned on for a particular write to make the write operation not return
-until the data being written has been pushed all the way to persistent storage."
+Promised by RocksDB's options.h, WriteOptions, sync: "If true, the write will be flushed from the operating system buffer cache (by calling WritableFile::Sync())
+before the write is considered complete."
 
 Found in RocksDB 7.8.3, plans of one fault: crashed, and nothing that was acknowledged is lost. Debian builds it with assertions, and two of them don't hold where the
 system fails: after a write of its text log LOG, and where it tries whether there is a sync_file_range. By strace alone, in an empty folder, with `outside` the
