@@ -83,11 +83,11 @@ same.
   > sqlite="$TESTDIR/../outside/examples/sqlite"
   > # In memory, where files there have times of birth: syncs of a disk take longer.
   > [ ! -w /dev/shm ] || [ "$(stat -c %W /dev/shm)" -eq 0 ] || { TMPDIR=/dev/shm; export TMPDIR; }
-  > command -v stdbuf > /dev/null && SYNC=EXTRA HITS=yes "$sqlite/try.sh" none 2> /dev/null | cut -f 3 > hits
+  > "$TESTDIR/../outside/tests/tried.py" "$sqlite" none 2> /dev/null | cut -f 3 > hits
   > wanted='sys::open;4*sys::read;sys::open;7*sys::write;sys::read;sys::fsync;sys::open;sys::fsync;sys::write;sys::fsync;4*sys::write;sys::fsync;'
   > [ "$(cat hits)" = "${wanted}sys::unlink;sys::open;sys::fsync" ] || { echo 'level 0 1 level 1 54 onward 12 beyond 528 plans 67'; exit; }
   > sed 's/^depth = 3/depth = 1/' "$sqlite/extra.toml" > extra.toml
-  > SYNC=EXTRA "$TESTDIR/../outside/loop" --brief --no-recheck extra.toml sqlite.answers "$sqlite/try.sh" > sqlite.report
+  > "$TESTDIR/../outside/loop" --settings extra.toml --into sqlite "$sqlite" > sqlite.report 2> told
   > grep -E '^(level|onward|beyond|plans) ' sqlite.report | paste -s -d ' '
   > first() { awk '$1 == "verdict" && $2 < 55' "$1"; }
   > first "$sqlite/extra.report" > wanted

@@ -1,37 +1,40 @@
-The tutorial of docs/OUTSIDE.md, as a reader performs it: what its commands write is what the page shows. Of 6 hits 12 plans have one fault. What is pending
-at the cut, and so hit by power::keep, follows from docs/OUTSIDE.md, "The power cut". With two faults there are, of the program at first,
+The tutorial of docs/HARNESS.md, and the script of docs/OUTSIDE.md that takes its place, as a reader performs them: what their commands write is what the pages show.
+Of 6 hits 12 plans have one fault. What is pending at the cut, and so hit by power::keep, follows from docs/OUTSIDE.md, "The power cut". With two faults there are, of
+the program that renames first,
 
-- 10 behind a first open that fails, as a folder that isn't open isn't synced: 4 calls, and the names `new` and `note` are pending;
-- 1 behind a write that fails, or where the program ends at it: the name `new`;
-- 5 behind an fsync of the file that fails: the rename, the fsync of the folder, the contents; and 2 where the program ends there, the name and the contents;
-- 1 behind a rename that fails or ends it, the name; 2 behind the last fsync, both names.
+- none behind an open that fails or ends the run, as Python ends there with nothing changed;
+- 4 behind a write that fails, since Python writes again as it closes: that write in two ways, and the name `new` and its contents are pending; 1 where it ends the
+run, the name;
+- 2 behind a rename that fails or ends it, the same two; 3 behind the fsync of the file, with the rename; 2 behind that of the folder, whose names are pending.
 
-These are 25. Where two changes or more are left, a return from then on keeps more than one: 4 plans. Behind the 25, 25 hits and ways are left for a third fault.
-The mended program stops where the first fsync fails, so that 2 are behind it: 22, and 5 from then on, are 40 plans. The one that renames first has the contents
-pending too, up to the fsync behind the rename: 10, and 1 and 1 of the write, 2 and 2 of the rename, 3 and 3 of the fsync of the file, 2 and 2 of that of the folder are
-26, behind 12 and `none`; so the third kept change behind that fsync's return is plan 31 (13 to 22, 23, 24, 25 to 28, 29 to 31), and behind its panic 34.
+These are 19, plan 13 on: so the third kept change behind that fsync's return is plan 24 (13 to 16, 17, 18 and 19, 20 and 21, 22 to 24), and behind its panic 27. Where two
+changes or more are left, or two writes, a return from then on takes more than one: 10 plans, so that all are 42. The mended program has the rename behind
+the fsync of the file: of these there are 4, 1, 2 and 2 of the fsync, 1 and 1 of the rename, 2 and 2, which are 15, and 6 from then on: 34.
 
-  $ "$TESTDIR/outside_page.py" "$TESTDIR/../docs/OUTSIDE.md"
-  15 compared, 0 differ
+  $ pages() { "$TESTDIR/outside_page.py" "${1:-$TESTDIR/../docs/HARNESS.md}" Tutorial "${2:-$TESTDIR/../docs/OUTSIDE.md}" 'By a script'; }
+  $ pages
+  14 compared, 0 differ
 
 From here on the program itself is needed.
 
-A page that shows otherwise: a comment, a report's end, lines that the text names, and commands that fail.
+Pages that show otherwise: a comment, a report's end, what is told, lines that the text names, and commands that fail.
 
-  $ sed 's/`beyond 25`/`beyond 26`/; s/^first 7 lost/first 8 lost/; s/# 5	sys::rename/# 4	sys::rename/; s/`first none`/`first some`/' \
-  >     "$TESTDIR/../docs/OUTSIDE.md" > page.md
-  $ "$TESTDIR/outside_page.py" page.md
+  $ sed 's/^first 24 torn/first 25 torn/; s/^pending: 1 create new/pending: 1 create old/' "$TESTDIR/../docs/HARNESS.md" > tutorial.md
+  $ sed 's/`first none`/`first some`/; s/# 5	sys::rename/# 4	sys::rename/' "$TESTDIR/../docs/OUTSIDE.md" > script.md
+  $ pages tutorial.md script.md
+  shows otherwise: fail lost: without any fault
+  shows otherwise: plans 42
+  shows otherwise:     1 sys::open 1 (.) 3
   no line 4	sys::rename	1	go	note
-  ends otherwise: first 8 lost
-  no line beyond 26
   no line first some
-  15 compared, 4 differ
+  14 compared, 5 differ
   [1]
-  $ sed 's/if (fsync(file)) return 1/fsync(file)/; s/save.toml < .dev.null/no.toml < answers/' "$TESTDIR/../docs/OUTSIDE.md" > page.md
-  $ "$TESTDIR/outside_page.py" page.md
-  ended with 2: paklour asks no.toml < answers   # none
-  no line none
-  no line counts pass 40 unresolved 0
-  no line first none
-  15 compared, 4 differ
+  $ sed 's/^paklour-loop --depth 2 saving/paklour-loop --none saving/' "$TESTDIR/../docs/HARNESS.md" > tutorial.md
+  $ pages tutorial.md
+  ended with 2: paklour-loop --none saving
+  shows otherwise: fail torn: the 1st sys::fsync (note) fails, of what is pending 3 (rename new -> note) is kept
+  shows otherwise: plans 42
+  ended with 2: paklour-loop --none saving
+  shows otherwise: plans 34
+  14 compared, 5 differ
   [1]

@@ -59,7 +59,7 @@ What a page shows of a report that stands in this repository, and what a table t
 Of a loop over an example of outside/: the lines that are shown, of which `..` stands for some, and those that the text names. Three faults deep SQLite
 has 1,119 plans, and 217 causes are the last that is told.
 
-  $ printf '%s\n' '```sh' 'paklour-loop ../paklour/outside/examples/sqlite/extra.toml answers try.sh' '```' '' > begin.md
+  $ printf '%s\n' '```sh' 'paklour-loop --settings ../paklour/outside/examples/sqlite/extra.toml ../paklour/outside/examples/sqlite' '```' '' > begin.md
   $ shown() { { cat begin.md; printf '%s\n' "$1" '```' "$2" '..' "$3" '..' '```' "$4"; } > page.md; rules; }
   $ shown 'Of `plans 1119`' 'tests 3' 'causes 217' '| `sqlite` | three deep (`extra.toml`) | 1,119 | 1 lost, 222 corrupt |'
   $ shown 'Of `plans 1118`' 'tests 3' 'causes 217' '`level 3 537`, `census TRACE`, and `level 3 536`'

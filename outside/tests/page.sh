@@ -1,19 +1,9 @@
-# The tutorial of docs/OUTSIDE.md, as its page has it: `save.c` and `try.sh` by the page's own text. Sourced by `test`.
-page=../docs/OUTSIDE.md
-
-# block FIRST: the block of code of the page whose text begins with, or has as second line, FIRST
-block() {
-    awk -v first="$1" '
-        /^```/ { if (inside && found) exit; inside = !inside; line = 0; text = ""; found = 0; next }
-        inside { line++; text = text $0 "\n"; if (line <= 2 && index($0, first) == 1) found = 1; if (found) { printf "%s", text; text = "" } }
-    ' "$page"
-}
-
+# The script of docs/OUTSIDE.md, by the page's own text, over a program that doesn't look at its sync. Sourced by `test`.
 mkdir -p "$here/page"
-block '/* save.c */' > "$here/page/save.c"
-block '# try.sh SCENARIO' > "$here/page/try.sh"
-chmod +x "$here/page/try.sh"
-gcc -o "$here/page/save" "$here/page/save.c"
+awk '/^```/ { if (found) exit; block = ""; next } { block = block $0 "\n"; if ($0 == "# try.sh SCENARIO") found = 1 } END { printf "%s", block }' \
+    ../docs/OUTSIDE.md > "$here/page/try.sh"
+printf '%s\n' '#!/bin/sh' "exec '$outside/out/note' unchecked_sync \"\$@\"" > "$here/page/save.py"
+chmod +x "$here/page/try.sh" "$here/page/save.py"
 
 # tried COMMANDS SCENARIO: what the page's try.sh writes with that folder of commands, what it tells, and its status
 tried() { (cd "$here/page" && PATH="$1:$PATH" ./try.sh "$2" 2>&1; echo "$?") | tr '\t' ' ' | paste -s -d , ; }
@@ -31,9 +21,8 @@ for lacks in none/paklour-powercut half/paklour-faults; do printf '#!/bin/sh\nex
 is 'without the commands it ends with 2' 2 "$(tried "$here/none" 'sys::fsync=1*return')"
 is 'and without the supervisor' "powercut: nothing ran under the supervisor: paklour-faults wasn't started with this FAULTS_RUN, or ended before its command began,2" \
     "$(tried "$here/half" 'sys::fsync=1*return')"
-printf '%s\n' '#!/bin/sh' 'exec env -i "${0%/*}/saves" "$@"' > "$here/page/clears" && mv "$here/page/save" "$here/page/saves"
-mv "$here/page/clears" "$here/page/save" && chmod +x "$here/page/save"
+sed -i 's/^exec /&env -i /' "$here/page/save.py"
 is 'and a program that clears its environment' "fail lost sys::fsync=1*return $clean;power::keep,0" "$(tried "$outside/out/bin" 'sys::fsync=1*return')"
 is 'the trace of a run without faults, as the page has it' '5 sys::rename 1 go note' \
-    "$(mv "$here/page/saves" "$here/page/save"; TRACE=$here/trace tried "$outside/out/bin" none > "$here/said"; cut -f 1-5 "$here/trace" | sed -n 5p | tr '\t' ' ')"
+    "$(TRACE=$here/trace tried "$outside/out/bin" none > "$here/said"; cut -f 1-5 "$here/trace" | sed -n 5p | tr '\t' ' ')"
 is 'and its hits in order' '2*sys::open;sys::write;sys::fsync;sys::rename;sys::fsync' "$(out/bin/paklour-census --hits "$here/trace")"

@@ -10,7 +10,7 @@ by that of PRAGMA synchronous, of EXTRA: "the directory containing a rollback jo
 
 Found in SQLite 3.40.1, plans of one fault: lost, `sys::open=6*off->return`. SQLite opens the folder and syncs it once the journal is deleted. If it can't
 be opened nobody is told: the commit is acknowledged, and after a power cut the journal may be there again and roll it back. Over two files one such failure
-passes, since the folder is synced again; it takes all from one on. ../sqlite/try.sh shows the same by strace alone."""
+passes, since the folder is synced again; it takes all from one on. ../sqlite shows the same by strace alone."""
 
 import os
 import sqlite3
