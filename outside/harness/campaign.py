@@ -3,6 +3,7 @@
 import time
 from collections import deque
 from collections.abc import Callable, Iterable
+from datetime import timedelta
 from typing import Protocol
 
 from .answers import Answers, Stopped
@@ -34,15 +35,16 @@ class Campaign:
         self.came: deque[float] = deque(maxlen=32)  # when the last answers did
         self.told = time.monotonic()
 
-    def time_left(self) -> str:
-        if len(self.came) < 2:
-            return "unknown"
-        left = int((self.came[-1] - self.came[0]) / (len(self.came) - 1) * self.waiting)
-        return f"{left // 3600}:{left // 60 % 60:02d}:{left % 60:02d}"
+    def apart(self) -> float | None:
+        """How many seconds the last answers came one after the other."""
+        return (self.came[-1] - self.came[0]) / (len(self.came) - 1) if len(self.came) > 1 else None
 
     def tell(self) -> None:
         if self.shows_progress:
-            show(f"loop: answered {self.answers.count}, asked {self.waiting}, failing {self.answers.failing}, time left {self.time_left()}")
+            apart = self.apart()
+            pace = f", {1 / apart:.1f} a second" if apart else ""
+            left = "unknown" if apart is None else str(timedelta(seconds=int(apart * self.waiting)))
+            show(f"loop: answered {self.answers.count}{pace}, asked {self.waiting}, failing {self.answers.failing}, time left {left}")
         self.told = time.monotonic()
 
     def keep(self, answer: str) -> None:

@@ -51,7 +51,8 @@ is 'the loop goes on until nothing is asked' "$all" "$(loop answers 2> "$here/fa
 is 'and tells how far it is' 'loop: answered 0, asked 3, failing 0, time left unknown
 loop: answered 3, asked 3, failing 0, time left 0:00:00
 loop: answered 6, asked 1, failing 0, time left 0:00:00
-loop: answered 7, asked 0, failing 0, time left 0:00:00' "$(cat "$here/told")"
+loop: answered 7, asked 0, failing 0, time left 0:00:00' "$(sed 's/, [0-9.]* a second, /, /' "$here/told")"
+is 'and how fast' 3 "$(grep -c '^loop: answered [367], [0-9]*[.][0-9] a second, ' "$here/told")"
 head -n 4 "$here/answers" > "$here/part" && mv "$here/part" "$here/answers"
 is 'and on where it was stopped' "$all" "$(loop answers 2> "$here/faults")"
 is 'with each asked once' 7 "$(wc -l < "$here/answers")"

@@ -36,6 +36,12 @@ class Flaws(Campaigns):
         for programs in LANGUAGES:
             self.assertRegex(self.found(*words, programs=programs), f"^{expected}$")
 
+    def each_loses(self, expected, harness, flaw, scenario):
+        """In each language, by that one plan."""
+        for programs in LANGUAGES:
+            done = self.loop("--into", self.here / "into", harness, "--try", scenario, FLAW=flaw, PROGRAM=programs[harness.name])
+            self.assertEqual((done.status, done.out.splitlines()[-1]), (1, expected))
+
     def test_a_sync_that_is_not_looked_at(self):
         self.each(r"fail lost: the 1st sys::fsync \(new\) fails", NOTE, "unchecked_sync")
 
@@ -49,13 +55,13 @@ class Flaws(Campaigns):
 
     def test_a_torn_record(self):
         """The second record has 23 bytes with its sum, a blank and its end; the third, of 22, is never synced. Both flaws lose by one plan: one campaign
-        comes to it, and the other flaw is tried by it alone."""
+        comes to it, and the rest is tried by it alone."""
         torn = "fail lost: of what is pending 1 (write log 22 at 23) is kept by half"
         for flaw in ("torn_taken", "torn_appended"):
             self.assertEqual(self.found(LOG, flaw), "")
         self.assertEqual(self.found(LOG, "torn_taken", "--depth", 2), torn)
-        done = self.loop("--into", self.here / "into", LOG, "--try", "power::keep=1*return;power::tear=1*return", FLAW="torn_appended")
-        self.assertEqual((done.status, done.out.splitlines()[-1]), (1, torn))
+        for flaw in ("torn_taken", "torn_appended"):
+            self.each_loses(torn, LOG, flaw, "power::keep=1*return;power::tear=1*return")
 
     def test_a_sync_that_is_tried_again(self):
         self.each(r"fail lost: the 1st sys::fsync \(new\) fails", NOTE, "retry_sync")
@@ -70,6 +76,8 @@ class Flaws(Campaigns):
     def test_a_clean_up_that_loses_the_old_file(self):
         self.assertEqual(self.found(NOTE, "clean_up"), "")
         self.assertRegex(self.found(NOTE, "clean_up", "--depth", 2), r"^fail lost: .*the 2nd sys::link \(note\) fails")
+        both = "fail lost: the 1st sys::write (new) fails, the 2nd sys::link (note) fails"
+        self.each_loses(both, NOTE, "clean_up", "sys::write=1*return;sys::link=1*off->1*return")
 
     def test_recovery_that_deletes(self):
         self.each(r"fail lost: the 4th sys::read \(log\) .*", LOG, "recovery_deletes")
@@ -77,7 +85,7 @@ class Flaws(Campaigns):
     def test_sound_ones(self):
         self.each("", NOTE, "sound")
         self.each("", LOG, "sound")
-        self.assertEqual(self.found(NOTE, "sound", "--depth", 2, "--kinds"), "")
+        self.each("", NOTE, "sound", "--depth", 2, "--kinds")
 
     def test_a_sound_log_two_faults_deep(self):
         self.assertEqual(self.found(LOG, "sound", "--depth", 2), "")

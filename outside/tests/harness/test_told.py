@@ -182,6 +182,9 @@ class Shown(Campaigns):
     def test_what_a_person_reads(self):
         done = self.loop("-j", 2, "--into", self.here, NOTE, FLAW="unchecked_sync")
         lines = done.told.splitlines()
+        self.assertEqual(lines[:2], [f"loop: settings made, {self.here}/settings.toml: depth 1, all points of files, what a power cut keeps and tears, full disks and \
+half writes; codes as they are found", "loop: 14 plans with one fault"], "six hits in two ways, and the write in four")
+        self.assertEqual((self.here / "report").read_text().splitlines()[0], "target note, settings made")
         self.assertIn("fail lost: the 1st sys::fsync (new) fails", lines)
         self.assertIn("1 of: lost: sys::fsync (new) fails", lines)
         again = next(line for line in lines if line.startswith("again: "))
