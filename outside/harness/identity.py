@@ -6,6 +6,7 @@ import os
 import tomllib
 from collections.abc import Iterator
 from pathlib import Path
+from typing import NoReturn
 
 from .answers import Stopped
 
@@ -31,13 +32,17 @@ def is_settings(path: Path) -> bool:
         return False
 
 
+def refuse(error: OSError) -> NoReturn:
+    raise Stopped(f"{error.filename}: {error.strerror}") from error
+
+
 def files_in(folder: Path, into: Path) -> Iterator[Path]:
     """What a harness consists of: all that is in its folder and below, but settings, what campaigns leave there, and what is passed over."""
-    for place, folders, names in os.walk(folder):
+    for place, folders, names in os.walk(folder, onerror=refuse):
         here = Path(place)
-        inner = [name for name in folders if not is_passed_over(name) and here / name != into and not (here / name / NOTE).exists()]
-        folders[:] = [name for name in inner if not (here / name).is_symlink()]
-        for name in [*names, *(name for name in inner if (here / name).is_symlink())]:
+        folders[:] = [name for name in folders if not is_passed_over(name) and here / name != into and not (here / name / NOTE).exists()]
+        links = [name for name in folders if (here / name).is_symlink()]  # into which os.walk doesn't go
+        for name in names + links:
             if not is_passed_over(name) and not (here == folder and name in WRITTEN) and not is_settings(here / name):
                 yield here / name
 
@@ -50,7 +55,7 @@ def digest_of(path: Path) -> str:
         with open(path, "rb") as file:
             return hashlib.file_digest(file, "sha256").hexdigest()
     except OSError as error:
-        raise Stopped(f"{path}: {error.strerror}") from error
+        refuse(error)
 
 
 def digests(folder: Path, files: list[Path]) -> dict[str, str]:

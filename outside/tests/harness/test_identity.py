@@ -8,7 +8,7 @@ import unittest
 from pathlib import Path
 from unittest import mock
 
-from .base import JUDGES, OUTSIDE, Campaigns
+from .base import OUTSIDE, Campaigns
 
 sys.path.insert(0, str(OUTSIDE))
 
@@ -17,7 +17,8 @@ from harness.identity import differences  # noqa: E402
 
 SETTINGS = 'target = "outside"\ndepth = {}\n[outside]\nlabel = "x"\ncodes = ["lost"]\npoints = ["sys::open"]\n'
 SOURCES = '#!/bin/sh\n. "$HARNESS/saving.sh"\nsave\n'
-SAVING = "save() { printf new > new && sync new && mv new note && sync . && echo saved; }\n"
+SAVING = "save() { : > note; }\n"
+JUDGES = "#!/bin/sh\ntrue\n"
 
 
 class Identity(Campaigns):
