@@ -88,8 +88,154 @@ Of a public constant with a text of more than 4,096 bytes its name counts, and n
   another
   another
 
-Of more than 20, those of a promise and those that have changed are tried in any case. A change of the crate's sources changes all; a body of a crate below, or another
-letter of the kit, none.
+Of a crate below, the digest has the items that the crate names, and what these name in turn: of `near` its contract, there a constant, a field and a definition, and
+in that a constructor. With `--stale` those are tried whose digest the list doesn't have, here both or none.
+
+  $ mkdir -p crates/low/src crates/low/specs
+  $ cat > crates/low/src/lib.rt << 'END'
+  > ghost use Rattle.low.specs.Rules.{shift, turn};
+  > 
+  > pub const MARK: &str = "//1";
+  > 
+  > // Before far.
+  > pub fn near(x: u32) -> Span
+  >     ensures { result.now.wide ≡ shift x MARK }
+  > {
+  >     Span(x)
+  > }
+  > 
+  > pub fn far(x: u32) -> Other
+  >     ensures { result.now ≡ turn x }
+  > {
+  >     Other(x)
+  > }
+  > 
+  > impl Span {
+  >     pub fn len(&self) -> u32
+  >         ensures { result ≡ size self.now }
+  >     {
+  >         self.0
+  >     }
+  > 
+  >     pub fn half(&self) -> u32
+  >         ensures { result ≡ halved self.now }
+  >     {
+  >         self.0 / 2
+  >     }
+  > 
+  >     fn proved(x: u32) -> u32
+  >         ensures { result ≡ x }
+  >     {
+  >         x
+  >     }
+  > }
+  > 
+  > impl Other {
+  >     pub fn len(&self) -> u32
+  >         ensures { result ≡ count self.now }
+  >     {
+  >         self.0
+  >     }
+  > }
+  > 
+  > fn proved(x: u32) -> u32
+  >     ensures { result ≡ x }
+  > {
+  >     x
+  > }
+  > 
+  > impl Drop for Span {
+  >     fn drop(&mut self)
+  >         ensures { out-All }
+  >     {
+  >     }
+  > }
+  > 
+  > impl Drop for Other {
+  >     fn drop(&mut self)
+  >         ensures { none }
+  >     {
+  >     }
+  > }
+  > END
+  $ cat > crates/low/specs/Rules.antt << 'END'
+  > use Rattle.low.specs.Steps.{Up, Turn as Turned}
+  > 
+  > infixl 10 ◌>>=◌
+  > 
+  > abbrev pub shift : ℕ → List ℕ → ℕ
+  > shift x = length (Up x)
+  > 
+  > abbrev pub turn : ℕ → Turned
+  > turn x = turned x x -- for far
+  > END
+  $ cat > crates/low/specs/Steps.antt << 'END'
+  > pub data Step : Type 0 where
+  >   Up : ℕ → Step
+  > 
+  > pub record Size : Type 0 where
+  >   pub wide : ℕ
+  > 
+  > abbrev pub All : Type 0
+  > All = ℕ
+  > 
+  > abbrev pub Turn : Type 0
+  > Turn = ℕ
+  > END
+  $ stale() { bodies --stale "$@" | tail -n 1; }
+  $ change() { while [ $# -gt 0 ]; do cp "crates/low/$1" was; sed -i "$2" "crates/low/$1"; cmp -s "crates/low/$1" was && echo unchanged; shift 2; done; stale; }
+  $ rm crates/toy/must-fail/stale.edit; sed -i 's/proved plain/& near(1).len()/' crates/toy/src/lib.rt; stale; stale
+  2 passed, 0 failed
+  0 passed, 0 failed
+  $ change src/lib.rt 's/shift x/shift (x)/'; change src/lib.rt 's|//1|//2|'; change specs/Rules.antt 's/Up x/Up (x)/'
+  2 passed, 0 failed
+  2 passed, 0 failed
+  2 passed, 0 failed
+  $ change specs/Steps.antt 's/Up : ℕ/& → ℕ/'; change specs/Steps.antt 's/wide : ℕ/& → ℕ/'
+  2 passed, 0 failed
+  2 passed, 0 failed
+  $ change src/lib.rt 's/turn x }/turn (x) }/' specs/Rules.antt 's/turned x x/turned x/' specs/Steps.antt 's/Turn = ℕ/& → ℕ/'
+  0 passed, 0 failed
+
+Bodies, comments and functions that aren't public aren't in it, nor is an import that no item there uses. Of methods of one name that of the type counts, and so do its
+impls of traits, and what is named between hyphens. What declares no name that can be told counts always.
+
+  $ change src/lib.rt 's/Span(x)/Span(x + 0)/' src/lib.rt 's/Before/Behind/' src/lib.rt 's/{shift, turn}/{length, shift, turn}/' src/lib.rt 's/result ≡ x /x ≡ result /'
+  0 passed, 0 failed
+  $ change src/lib.rt 's/≡ size/≡ sizes/'; change specs/Steps.antt 's/All = ℕ/& → ℕ/'; change src/lib.rt 's/out-All/each/'; change specs/Rules.antt 's/infixl 10/infixl 9/'
+  2 passed, 0 failed
+  2 passed, 0 failed
+  2 passed, 0 failed
+  2 passed, 0 failed
+  $ change src/lib.rt 's/low.specs.Rules/low.specs.Others/'
+  2 passed, 0 failed
+  $ change src/lib.rt 's/≡ halved/≡ halves/' src/lib.rt 's/≡ count/≡ counts/' src/lib.rt 's/{ none }/{ any }/'
+  0 passed, 0 failed
+
+What is imported under another name is named by that, in the crate, and in the one below. What an edit names counts for that edit alone.
+
+  $ sed -i '1i use low::{far as ahead};' crates/toy/src/lib.rt; sed -i 's/proved other/& ahead(1)/' crates/toy/src/lib.rt; stale
+  2 passed, 0 failed
+  $ change src/lib.rt 's/turn (x)/turn x/'; change specs/Steps.antt 's/Turn = ℕ/& → ℕ/'; change src/lib.rt 's/≡ halves/≡ halved/'
+  2 passed, 0 failed
+  2 passed, 0 failed
+  0 passed, 0 failed
+  $ sed -i 's/^new:.*/& half/' crates/toy/must-fail/open.edit; stale; change src/lib.rt 's/≡ halved/≡ halves/'; rm -r crates/low
+  1 passed, 0 failed
+  1 passed, 0 failed
+
+Where crates are named, the edits of others aren't looked at, and their lines stay.
+
+  $ sed 's/proved/nowhere/' crates/toy/must-fail/open.edit > edit; mkdir -p crates/low/src crates/low/must-fail; echo > crates/low/src/lib.rt; mv edit crates/low/must-fail/bad.edit
+  $ printf 'low/bad\t0\tlow::near\treturns\n' >> must-fail.tsv; stale toy; stale low; grep -c ^low/bad must-fail.tsv; rm -r crates/low; bodies --stale no
+  2 passed, 0 failed
+  0 passed, 1 failed
+  1
+  usage: wrong_bodies [-h] [--jobs JOBS] [--all] [--stale] [CRATE ...]
+  wrong_bodies: error: no crate no
+  [2]
+
+Of more than 20, those of a promise and those that have changed are tried in any case. A change of the crate's sources changes all; another letter of the kit none.
 
   $ rm crates/toy/must-fail/*; for number in $(seq 30); do printf 'fn f%s() {\n    proved %s.\n}\n\n' $number $number; done > crates/toy/src/lib.rt
   $ for number in $(seq 30); do edit $number $number. 'open returns'; done
