@@ -1,1 +1,0 @@
-../copies.py
