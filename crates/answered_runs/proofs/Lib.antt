@@ -1,6 +1,7 @@
 pub mod Runs
 pub mod AnyKinds
 pub mod Known
+pub mod EndedRuns
 pub mod Found
 pub mod Breaks
 pub mod WholeLists

@@ -1,11 +1,12 @@
 //! Laws on answered runs, as contracts of functions that do nothing.
-ghost use Rattle.std.specs.Prelude.{◌≤◌, ℕ, List};
+ghost use Rattle.std.specs.Prelude.{◌≤◌, ℕ, List, []};
 ghost use Rattle.action_eval.specs.declared.rig.Kind.{Kind};
 ghost use Rattle.answer_text.specs.Runs.{KnownRuns};
 ghost use Rattle.grown_plans.specs.GrownPlans.{Subject};
 ghost use Rattle.known_runs.specs.Known.{Agrees};
 ghost use Rattle.answered_runs.specs.Answered.{plan_runs};
 ghost use Rattle.answered_runs.specs.Components.{AgreesWithRuns, IsComponent};
+ghost use Rattle.answered_runs.specs.EndedRuns.{ended_component, ended_told, two_points};
 ghost use Rattle.answered_runs.specs.Verdicts.{AreVerdictsOf, verdict_by};
 
 /// What answers tell of the runs of plans is true of each component that agrees with the answers.
@@ -18,4 +19,11 @@ pub fn answers_tell_plans()
 pub fn answers_tell_verdicts()
     ensures { (t : Subject) (points : List (List ℕ)) (listed : List (List Kind)) (told : KnownRuns) (depth : ℕ) → IsComponent points listed t → depth ≤ 64
         → AgreesWithRuns t told → AreVerdictsOf t (verdict_by points told depth) }
+{}
+
+/// A run that somebody ended, told unresolved with fewer hits than another run has, is one of a component: of one whose end nobody knows there. So what is
+/// promised of each component that agrees with answers says something of answers that tell such runs.
+pub fn ended_runs_have_a_component()
+    ensures component { IsComponent two_points [] ended_component }
+    ensures agrees { AgreesWithRuns ended_component ended_told }
 {}

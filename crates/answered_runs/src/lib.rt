@@ -11,7 +11,7 @@ mod verdicts;
 mod whole;
 
 pub use broken::{BrokenRun, broken_run};
-pub use laws::{answers_tell_plans, answers_tell_verdicts};
+pub use laws::{answers_tell_plans, answers_tell_verdicts, ended_runs_have_a_component};
 pub use rigged::rigs_of_scenario;
 pub use scenarios::{plan_scenario, rigged_scenario};
 pub use table::AnsweredRuns;

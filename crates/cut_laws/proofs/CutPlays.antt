@@ -63,7 +63,7 @@ pub own_play : (asks : List Reply → Move) (cut : Cut) (names : List (List ℕ)
     (run_of_case asks names seed stream limit s)
 own_play asks cut names within seed stream limit s t chains =
     let own : Given = own_given names seed stream limit s in
-    let k = played asks own (suc limit) [] (omega arith) in
+    let k = played asks (length names) within own (suc limit) [] (omega arith) in
     let o = own_asked asks cut names within seed stream limit s t chains [] k.hits tt (subst (AsksAll asks []) (sym (none_yet own)) tt) k.asked in
     record {
       hits = k.hits;

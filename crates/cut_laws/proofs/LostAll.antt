@@ -9,7 +9,7 @@ use Rattle.action_eval.specs.Answers.{Given, Run, Hit, Reply, next, replies, his
 use Rattle.action_eval.proofs.TidiedEntries.{flipped}
 use Rattle.target_trait.specs.declared.judgement.Judgement.{Judgement}
 use Rattle.target_trait.specs.declared.judgement.Verdict.TheVariants.{Unresolved}
-use Rattle.target_trait.specs.Play.{Move, Ask, Done, IsDone, IsWithin}
+use Rattle.target_trait.specs.Play.{Move, Ask, Done, Unknown, IsDone, IsWithin}
 use Rattle.target_trait.specs.Outcomes.{judged, verdict_with}
 use Rattle.target_trait.specs.Cuts.{Cut, asks_with, answer_to, with_keep}
 use Rattle.cut_laws.specs.KeptSets.{run_of_case, LacksKeep, HasRoom, LosesAlike}
@@ -56,6 +56,7 @@ record Judges (move : Move) : Type 0 where
 judges : (move : Move) → IsDone move → Judges move
 judges (Ask p) h = absurd h
 judges (Done j) h = record { judgement = j; is = refl }
+judges Unknown h = absurd h
 
 module _ (asks : List Reply → Move) (cut : Cut) (names : List (List ℕ)) (within : (answers : List Reply) → IsWithin (length names) (asks answers))
     (seed stream limit : ℕ) (s : Entries) (lacks : LacksKeep s) where

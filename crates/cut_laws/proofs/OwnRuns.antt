@@ -8,7 +8,7 @@ use Rattle.action_eval.specs.declared.answer.Stop.TheVariants as stop
 use Rattle.action_eval.specs.Answers.{Given, Run, Reply, hit, replies, reply_to, stopped_by, history_of, is_over, cuts_short, is_cut_short}
 use Rattle.action_eval.proofs.CallerLemmas.{replies_open}
 use Rattle.target_trait.specs.declared.judgement.Judgement.TheVariants.{Kept}
-use Rattle.target_trait.specs.Play.{Move, Ask, Done, FollowsOn, IsDone, IsWithin, move_in}
+use Rattle.target_trait.specs.Play.{Move, Ask, Done, Unknown, FollowsOn, IsDone, IsWithin, move_in}
 use Rattle.target_trait.specs.Outcomes.{play, moved}
 use Rattle.target_trait.specs.Cuts.{Cut, IsAsking, AsksAll, asks_with, asks_from, cut_asks}
 use Rattle.target_trait.proofs.CutPlays.{asks_on}
@@ -37,20 +37,22 @@ one_further asks g n done p out e k =
     record { hits = p ∷ k.hits; few = omega (arith, k.few); is = k.is ∙ ap (at g) (append_assoc done (p ∷ []) k.hits); asked = (e, k.asked); ended = k.ended }
 
 by_move : (asks : List Reply → Move) (g : Given) (n : ℕ) (done : List ℕ) (further : ℕ → Run) → ((p : ℕ) → Played asks g n (done ++ p ∷ []) (further p))
-    → (short : Bool) → is_cut_short (at g done) ≡ short → (move : Move) → asks (replies (at g done)) ≡ move
+    → (points : ℕ) (short : Bool) → is_cut_short (at g done) ≡ short → (move : Move) → asks (replies (at g done)) ≡ move → IsWithin points move
     → Played asks g (suc n) done (moved (cond short (Done Kept) move) (at g done) further)
-by_move asks g n done further each true s move m = no_further asks g (suc n) done (λ goes. let no : true ≡ false = sym s ∙ goes in absurd cc)
-by_move asks g n done further each false s (Done j) m = no_further asks g (suc n) done (λ goes. subst IsDone (sym m) tt)
-by_move asks g n done further each false s (Ask p) m =
+by_move asks g n done further each points true s move m judged = no_further asks g (suc n) done (λ goes. let no : true ≡ false = sym s ∙ goes in absurd cc)
+by_move asks g n done further each points false s Unknown m judged = absurd judged
+by_move asks g n done further each points false s (Done j) m judged = no_further asks g (suc n) done (λ goes. subst IsDone (sym m) tt)
+by_move asks g n done further each points false s (Ask p) m judged =
     one_further asks g n done p (further p) (ap (λ b. cond b (Done Kept) (asks (replies (at g done)))) s ∙ m) (each p)
 
-pub played : (asks : List Reply → Move) (g : Given) (n : ℕ) (done : List ℕ) → g.limit < length done + n → Played asks g n done (play n asks (at g done))
+pub played : (asks : List Reply → Move) (points : ℕ) → ((answers : List Reply) → IsWithin points (asks answers)) → (g : Given) (n : ℕ) (done : List ℕ)
+    → g.limit < length done + n → Played asks g n done (play n asks (at g done))
 unfolding play
-played asks g zero done h =
+played asks points within g zero done h =
     no_further asks g zero done (λ goes. let no : true ≡ false = sym (past_limit g done (omega (arith, h))) ∙ goes in absurd cc)
-played asks g (suc n) done h =
-    by_move asks g n done (λ p. play n asks (hit (at g done) p)) (λ p. played asks g n (done ++ p ∷ []) (omega (arith, h, length_push done p)))
-    (is_cut_short (at g done)) refl (asks (replies (at g done))) refl
+played asks points within g (suc n) done h =
+    by_move asks g n done (λ p. play n asks (hit (at g done) p)) (λ p. played asks points within g n (done ++ p ∷ []) (omega (arith, h, length_push done p)))
+    points (is_cut_short (at g done)) refl (asks (replies (at g done))) refl (within (replies (at g done)))
 
 -- ---- with the cut behind
 

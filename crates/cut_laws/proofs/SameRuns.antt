@@ -4,13 +4,14 @@ use Rattle.scenario_values.specs.Scenario.{Entries}
 use Rattle.action_eval.specs.Answers.{Run, Reply, run_of, hit, cuts_short}
 use Rattle.action_eval.specs.SameMeaning.{Meaning, meaning, meaning_of}
 use Rattle.target_trait.specs.declared.judgement.Judgement.TheVariants.{Kept}
-use Rattle.target_trait.specs.Play.{Move, Ask, Done, move_in}
+use Rattle.target_trait.specs.Play.{Move, Ask, Done, Unknown, move_in}
 use Rattle.target_trait.specs.Outcomes.{play, moved}
 use Rattle.cut_laws.specs.KeptSets.{run_of_case}
 
 moved_same : (move : Move) (r q : Run) (f g : ℕ → Run) → meaning r ≡ meaning q → ((p : ℕ) → meaning (f p) ≡ meaning (g p)) → meaning (moved move r f) ≡ meaning (moved move q g)
 moved_same (Ask p) r q f g ended further = further p
 moved_same (Done j) r q f g ended further = ended
+moved_same Unknown r q f g ended further = ended
 
 module _ (asks : List Reply → Move) (names : List (List ℕ)) (seed stream limit : ℕ) (s t : Entries)
     (same : (hits : List ℕ) → meaning_of s names seed stream limit hits ≡ meaning_of t names seed stream limit hits) where

@@ -10,7 +10,7 @@ use Rattle.action_eval.specs.declared.rig.Kind.TheVariants.{OnwardReturn}
 use Rattle.action_eval.specs.RiggedScenario.{rig, text_of}
 use Rattle.action_eval.specs.Answers.{Given, Run, Hit, Reply, start, hit, replies, is_cut_short, history_of, asked, reply_of}
 use Rattle.target_trait.specs.declared.judgement.Judgement.TheVariants.{Kept}
-use Rattle.target_trait.specs.Play.{Move, Ask, Done, IsWithin, move_in}
+use Rattle.target_trait.specs.Play.{Move, Ask, Done, Unknown, AsksWithin, move_in}
 use Rattle.target_trait.specs.Outcomes.{play, moved, outcome}
 use Rattle.plan_gen.specs.LoopRuns.{times}
 use Rattle.grown_plans.specs.Runs.{Met, met, site_after, met_after, run}
@@ -129,16 +129,17 @@ goes_onward_by_asked t l n =
 
 -- ---- a run asks points of the catalogue
 
-move_within : (b : Bool) (points : ℕ) (move : Move) → IsWithin points move → IsWithin points (cond b (Done Kept) move)
+move_within : (b : Bool) (points : ℕ) (move : Move) → AsksWithin points move → AsksWithin points (cond b (Done Kept) move)
 move_within true points move w = tt
 move_within false points move w = w
 
-moved_within : (points : ℕ) (move : Move) (r : Run) (f : ℕ → Run) → IsWithin points move → AllByRecursion (λ p. p < points) r.hits
+moved_within : (points : ℕ) (move : Move) (r : Run) (f : ℕ → Run) → AsksWithin points move → AllByRecursion (λ p. p < points) r.hits
     → ((p : ℕ) → p < points → AllByRecursion (λ q. q < points) (f p).hits) → AllByRecursion (λ p. p < points) (moved move r f).hits
 moved_within points (Ask p) r f w all further = further p w
 moved_within points (Done j) r f w all further = all
+moved_within points Unknown r f w all further = all
 
-played_within : (asks : List Reply → Move) (points : ℕ) → ((answers : List Reply) → IsWithin points (asks answers)) → (n : ℕ) (r : Run)
+played_within : (asks : List Reply → Move) (points : ℕ) → ((answers : List Reply) → AsksWithin points (asks answers)) → (n : ℕ) (r : Run)
     → AllByRecursion (λ p. p < points) r.hits → AllByRecursion (λ p. p < points) (play n asks r).hits
 unfolding play
 played_within asks points within zero r all = all

@@ -6,7 +6,7 @@ use Rattle.std.proofs.lemmas.Bool.Decides.{nat_tests}
 use Rattle.std.proofs.lemmas.List.Sums.{sum_by-append}
 use Rattle.action_eval.specs.declared.rig.Site.{Site}
 use Rattle.action_eval.specs.Answers.{Reply}
-use Rattle.target_trait.specs.Play.{Move, Ask, Done}
+use Rattle.target_trait.specs.Play.{Move, Ask, Done, Unknown}
 use Rattle.plan_gen.proofs.Lists.{fold_append}
 use Rattle.grown_plans.specs.Runs.{Met, met, site_after}
 use Rattle.grown_plans.proofs.Members.{all_weaker, all_append, all_left}
@@ -20,6 +20,7 @@ times_met p ms = count_by (λ m. m.site.point == p) ms
 abbrev pub next_by : List Met → Move → Option Site
 next_by before (Ask p) = Some (site_after before p)
 next_by before (Done j) = None
+next_by before Unknown = None
 
 -- the hit that comes next
 unfoldable pub next_of : (List Reply → Move) → List Met → Option Site
@@ -38,6 +39,7 @@ next_by_is before (Ask p) s e =
     let P : Site → Type 0 = λ x. (Ask p ≡ Ask x.point) × (x ≡ site_after before x.point) in
     subst P is (refl, refl)
 next_by_is before (Done j) s e = absurd cc
+next_by_is before Unknown s e = absurd cc
 
 pub next_is : (asks : List Reply → Move) (before : List Met) (s : Site) → next_of asks before ≡ Some s → (asks (replies_of before) ≡ Ask s.point) × (s ≡ site_after before s.point)
 unfolding next_of

@@ -16,7 +16,7 @@ use Rattle.action_eval.specs.declared.rig.Kind.{Kind}
 use Rattle.action_eval.specs.declared.rig.Kind.TheVariants.{OnceReturn, OnwardReturn, OncePanic}
 use Rattle.action_eval.specs.Answers.{Given, Run, Hit, Reply, given_of, start, history_of, and_then, next, stopped, stopped_by, stop_of, task_at, name_of, is_over, asked, hit}
 use Rattle.action_eval.specs.RiggedScenario.{rigged_scenario, entries_from, entry, chain_from, terms_at, done_after, rigged, term_of, full}
-use Rattle.target_trait.specs.Play.{Move, Ask, Done, IsWithin, move_in}
+use Rattle.target_trait.specs.Play.{Move, Ask, Done, Unknown, AsksWithin, move_in}
 use Rattle.target_trait.specs.Outcomes.{play, moved, judged}
 use Rattle.plan_gen.specs.LoopRuns.{times}
 use Rattle.plan_gen.specs.RiggedAnswers.{AreInOrder, AnswersAsRigged, rigged_reply}
@@ -35,10 +35,10 @@ pub count_points : (p n : ℕ) (ms : List Met) → fold (λ a q. a + cond (q == 
 count_points p n [] = refl
 count_points p n (m ∷ ms) = count_points p (n + cond (m.site.point == p) 1 0) ms
 
-pub is_within : (points p : ℕ) (move : Move) → move ≡ Ask p → IsWithin points move → p < points
-is_within points p move e w = subst (IsWithin points) e w
+pub is_within : (points p : ℕ) (move : Move) → move ≡ Ask p → AsksWithin points move → p < points
+is_within points p move e w = subst (AsksWithin points) e w
 
-as_rigged : (asks : List Reply → Move) (names : List (List ℕ)) → ((answers : List Reply) → IsWithin (length names) (asks answers)) → (rigs : List Rig) → AnswersAsRigged names rigs
+as_rigged : (asks : List Reply → Move) (names : List (List ℕ)) → ((answers : List Reply) → AsksWithin (length names) (asks answers)) → (rigs : List Rig) → AnswersAsRigged names rigs
     → (seed stream limit room : ℕ) (before ms : List Met) → length before + room ≡ limit → IsPath asks room before ms → Answered (given_of (rigged_scenario names rigs) names seed stream limit) before ms
     → AnsweredBy (λ s. rigged_reply rigs s.point s.hit) ms
 as_rigged asks names within rigs law seed stream limit room before [] e p a = tt
@@ -134,6 +134,7 @@ calm_run r c e = calm_over (is_over r) (stopped_by (history_of r)) (calm_stop (h
 given_moved : (move : Move) (r : Run) (f : ℕ → Run) → ((p : ℕ) → (f p).given ≡ r.given) → (moved move r f).given ≡ r.given
 given_moved (Ask p) r f h = h p
 given_moved (Done j) r f h = refl
+given_moved Unknown r f h = refl
 
 same_given : (n : ℕ) (asks : List Reply → Move) (r : Run) → (play n asks r).given ≡ r.given
 unfolding play

@@ -9,7 +9,7 @@ use Rattle.action_eval.specs.declared.answer.Stop.TheVariants as stop
 use Rattle.scenario_values.specs.declared.term.Task.{Task}
 use Rattle.scenario_values.specs.declared.term.Task.TheVariants as task
 use Rattle.action_eval.specs.Answers.{Given, Run, Hit, Reply, Halt, given_of, start, replies, history_of, and_then, next, is_over, stopped, stopped_by, stop_of, cuts_short, is_cut_short, reply_of, reply_to}
-use Rattle.target_trait.specs.Play.{Move, Ask, Done}
+use Rattle.target_trait.specs.Play.{Move, Ask, Done, Unknown}
 use Rattle.target_trait.specs.Outcomes.{play, moved, judged, verdict_of, verdict_with}
 use Rattle.target_trait.specs.declared.judgement.Judgement.{Judgement}
 use Rattle.target_trait.specs.declared.judgement.Judgement.TheVariants.{Kept}
@@ -150,10 +150,10 @@ by_stop (Some stop.Panic) m a b = refl
 by_stop (Some stop.Paused) m a b = absurd (a refl)
 by_stop (Some stop.Limit) m a b = absurd (b refl)
 
-ends_here : (asks : List Reply → Move) (g : Given) (hits : List ℕ) (room : ℕ) (j : Judgement) → length hits ≤ g.limit → asks (replies_of (so_far g hits)) ≡ Done j
+ends_here : (asks : List Reply → Move) (g : Given) (hits : List ℕ) (room : ℕ) → length hits ≤ g.limit → next_of asks (so_far g hits) ≡ None
     → Came asks g (so_far g hits) room (at_hits g hits)
 unfolding next_of
-ends_here asks g hits room j h e =
+ends_here asks g hits room h e =
     record {
       rest = [];
       shown = shown g hits h ∙ sym (append-nil (so_far g hits));
@@ -168,7 +168,7 @@ ends_here asks g hits room j h e =
   where
     over : (n : ℕ) → IsPath asks n (so_far g hits) []
     over zero = tt
-    over (suc n) = ap (next_by (so_far g hits)) e
+    over (suc n) = e
 
 goes_on : (asks : List Reply → Move) (g : Given) (hits : List ℕ) (p room : ℕ) → length hits < g.limit → asks (replies_of (so_far g hits)) ≡ Ask p → (out : Run)
     → Came asks g (so_far g (hits ++ p ∷ [])) room out → Came asks g (so_far g hits) (suc room) out
@@ -206,8 +206,10 @@ past_limit asks g hits p h e =
 by_move : (asks : List Reply → Move) (g : Given) (hits : List ℕ) (room : ℕ) → length hits ≤ g.limit → (f : ℕ → Run)
     → ((p : ℕ) → asks (replies_of (so_far g hits)) ≡ Ask p → Came asks g (so_far g hits) room (f p)) → (move : Move) → asks (replies_of (so_far g hits)) ≡ move
     → Came asks g (so_far g hits) room (moved move (at_hits g hits) f)
+unfolding next_of
 by_move asks g hits room h f further (Ask p) e = further p e
-by_move asks g hits room h f further (Done j) e = ends_here asks g hits room j h e
+by_move asks g hits room h f further (Done j) e = ends_here asks g hits room h (ap (next_by (so_far g hits)) e)
+by_move asks g hits room h f further Unknown e = ends_here asks g hits room h (ap (next_by (so_far g hits)) e)
 
 by_stop_here : (asks : List Reply → Move) (g : Given) (hits : List ℕ) (room : ℕ) → length hits ≤ g.limit → (f : ℕ → Run)
     → ((p : ℕ) → asks (replies_of (so_far g hits)) ≡ Ask p → Came asks g (so_far g hits) room (f p)) → (short : Bool) → is_cut_short (at_hits g hits) ≡ short

@@ -7,7 +7,7 @@ use Rattle.action_eval.specs.Catalogue.{IsCatalogue}
 use Rattle.action_eval.specs.RiggedScenario.{rigged_scenario, HasLawfulText}
 use Rattle.action_eval.specs.declared.rig.Rig.{Rig}
 use Rattle.action_eval.specs.declared.rig.Kind.{Kind}
-use Rattle.target_trait.specs.Play.{IsWithin}
+use Rattle.target_trait.specs.Play.{AsksWithin}
 use Rattle.target_trait.specs.Outcomes.{verdict_with}
 use Rattle.target_trait.specs.declared.judgement.Verdict.{Verdict}
 use Rattle.target_trait.specs.declared.judgement.Verdict.TheVariants.{Fail}
@@ -35,7 +35,7 @@ pub record IsOfOne {A : Type 0} (P : A → Type 0) (xs : List A) : Type 0 where
 -- question follows a halt isn't needed: where one does, it has children as any other.
 pub record IsLawful (t : Subject) : Type 0 where
   pub catalogue : IsCatalogue t.names
-  pub within : (answers : List Reply) → IsWithin (length t.names) (t.asks answers)
+  pub within : (answers : List Reply) → AsksWithin (length t.names) (t.asks answers)
   pub once : (point : ℕ) → AllByRecursion (λ kind. is_onward kind ≡ false) (t.kinds point)
   pub apart : (point : ℕ) → EachTwo (λ a b. a ≢ b) (t.kinds point)
   pub texts : (point : ℕ) → AllByRecursion HasLawfulText (t.kinds point)

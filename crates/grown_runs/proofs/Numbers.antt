@@ -5,6 +5,7 @@ use Rattle.action_eval.specs.Answers.{Reply, Given}
 use Rattle.action_eval.specs.Catalogue.{IsCatalogue}
 use Rattle.target_trait.specs.Play.{Move, IsWithin}
 use Rattle.target_trait.specs.Outcomes.{outcome}
+use Rattle.target_trait.proofs.Moves.{asks_within}
 use Rattle.grown_plans.specs.GrownPlans.{cut_point, usual_subject}
 use Rattle.grown_plans.specs.Promises.{IsLawful}
 use Rattle.grown_plans.proofs.Members.{all_weaker}
@@ -15,7 +16,7 @@ pub usual_lawful : (asks : List Reply → Move) (names : List (List ℕ)) (limit
     → IsLawful (usual_subject asks names limit)
 usual_lawful asks names limit lawful within = record {
   catalogue = lawful;
-  within = within;
+  within = λ answers. asks_within _ _ (within answers);
   once = usual_once (cut_point names);
   apart = usual_apart (cut_point names);
   texts = usual_texts (cut_point names);

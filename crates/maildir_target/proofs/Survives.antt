@@ -5,7 +5,7 @@ use Rattle.action_eval.specs.Answers.{Given, Reply}
 use Rattle.target_trait.specs.declared.judgement.Judgement.{Judgement}
 use Rattle.target_trait.specs.declared.judgement.Judgement.TheVariants.{Kept}
 use Rattle.target_trait.specs.declared.judgement.Verdict.TheVariants as verdict
-use Rattle.target_trait.specs.Play.{Move, Ask, Done}
+use Rattle.target_trait.specs.Play.{Move, Ask, Done, Unknown}
 use Rattle.target_trait.specs.Outcomes.{outcome}
 use Rattle.target_trait.specs.Cuts.{Cut, asks_from, asks_with, by_own, cut_asks, keeps}
 use Rattle.target_trait.proofs.Never.{IsKept, never_fails}
@@ -17,10 +17,12 @@ use Rattle.maildir_target.proofs.Sturdy.{sound_keeps}
 same_kept : (m cut : Move) → IsKept cut → IsKept (by_own m m cut)
 same_kept (Ask p) cut k = λ j e. absurd cc
 same_kept (Done i) cut k = k
+same_kept Unknown cut k = λ j e. absurd cc
 
 own_kept : (m own cut : Move) → IsKept own → IsKept cut → IsKept (by_own m own cut)
 own_kept (Ask p) own cut a b = a
 own_kept (Done i) own cut a b = b
+own_kept Unknown own cut a b = λ j e. absurd cc
 
 cut_kept : (b : Bool) (p : ℕ) (i : Judgement) → i ≡ Kept → IsKept (cond b (Ask p) (Done i))
 cut_kept true p i k = λ j e. absurd cc

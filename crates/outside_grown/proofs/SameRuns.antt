@@ -4,7 +4,7 @@ use Rattle.std.proofs.lemmas.List.{append_cancel_right}
 use Rattle.scenario_values.specs.Scenario.{Entries}
 use Rattle.action_eval.specs.Answers.{Hit, Reply, Halt, Run, asked, cuts_short, given_of, hit, history_of, is_over, replies, reply_of, run_of}
 use Rattle.action_eval.specs.SameMeaning.{Meaning, meaning_of}
-use Rattle.target_trait.specs.Play.{Move, Ask, Done, move_in}
+use Rattle.target_trait.specs.Play.{Move, Ask, Done, Unknown, move_in}
 use Rattle.target_trait.specs.declared.judgement.Judgement.TheVariants.{Kept}
 use Rattle.target_trait.specs.Outcomes.{moved, play}
 use Rattle.grown_plans.specs.Runs.{Met, met, met_after, run, site_after}
@@ -44,6 +44,7 @@ ended_same s t names seed stream limit hits same =
 moved_same : (m : Move) (r q : Run) (f g : ℕ → Run) → met_in r ≡ met_in q → ((p : ℕ) → met_in (f p) ≡ met_in (g p)) → met_in (moved m r f) ≡ met_in (moved m q g)
 moved_same (Ask p) r q f g ended further = further p
 moved_same (Done j) r q f g ended further = ended
+moved_same Unknown r q f g ended further = ended
 
 -- under these the two scenarios mean the same
 record Alike (s t : Entries) (names : List (List ℕ)) (seed stream limit : ℕ) : Type 0 where

@@ -4,13 +4,14 @@ use Rattle.std.proofs.lemmas.List.{length-take}
 use Rattle.std.proofs.lemmas.List.Sums.{count_by-le-length}
 use Rattle.scenario_values.specs.Scenario.{Entries}
 use Rattle.action_eval.specs.Answers.{Given, Run, Reply, given_of, hit, start}
-use Rattle.target_trait.specs.Play.{Move, Ask, Done, move_in}
+use Rattle.target_trait.specs.Play.{Move, Ask, Done, Unknown, move_in}
 use Rattle.target_trait.specs.Outcomes.{play, moved}
 use Rattle.plan_gen.specs.LoopRuns.{times_of}
 
 moved_given : (move : Move) (r : Run) (further : ℕ → Run) → ((p : ℕ) → (further p).given ≡ r.given) → (moved move r further).given ≡ r.given
 moved_given (Ask p) r further h = h p
 moved_given (Done j) r further h = refl
+moved_given Unknown r further h = refl
 
 pub play_given : (n : ℕ) (asks : List Reply → Move) (r : Run) → (play n asks r).given ≡ r.given
 unfolding play

@@ -5,7 +5,7 @@ use Rattle.scenario_values.specs.Scenario.{Entries}
 use Rattle.action_eval.specs.Answers.{Given, Run, Reply, given_of, hit, asked, cuts_short}
 use Rattle.action_eval.specs.SameMeaning.{Meaning, meaning}
 use Rattle.target_trait.specs.declared.judgement.Judgement.TheVariants.{Kept}
-use Rattle.target_trait.specs.Play.{Move, Ask, Done, move_in}
+use Rattle.target_trait.specs.Play.{Move, Ask, Done, Unknown, move_in}
 use Rattle.target_trait.specs.Outcomes.{play, moved}
 use Rattle.action_eval.specs.declared.rig.Kind.{Kind}
 use Rattle.plan_gen.specs.LoopRuns.{times_of, times, IsMetAlike}
@@ -54,6 +54,7 @@ trans a b c h k = omega arith
 more_move : (p c : ℕ) (m : Move) (r : Run) (further : ℕ → Run) → c ≤ times p (asked r) → ((q : ℕ) → c ≤ times p (asked (further q))) → c ≤ times p (asked (moved m r further))
 more_move p c (Ask q) r further h k = k q
 more_move p c (Done j) r further h k = h
+more_move p c Unknown r further h k = h
 
 play_more : (n : ℕ) (asks : List Reply → Move) (p c : ℕ) (r : Run) → c ≤ times p (asked r) → c ≤ times p (asked (play n asks r))
 unfolding play
@@ -63,6 +64,7 @@ play_more (suc n) asks p c r h = more_move p c (move_in asks r) r (λ q. play n 
 alike_move : (p k : ℕ) (m : Move) (r s : Run) (f g : ℕ → Run) → asked r ≡ asked s → ((q : ℕ) → nat_le k (times p (asked (f q))) ≡ nat_le k (times p (asked (g q)))) → nat_le k (times p (asked (moved m r f))) ≡ nat_le k (times p (asked (moved m s g)))
 alike_move p k (Ask q) r s f g e h = h q
 alike_move p k (Done j) r s f g e h = ap (λ l. nat_le k (times p l)) e
+alike_move p k Unknown r s f g e h = ap (λ l. nat_le k (times p l)) e
 
 abbrev run_of : Given → List ℕ → Run
 run_of g hits = record { given = g; hits = hits }

@@ -3,7 +3,7 @@ use Rattle.std.proofs.Common.{◌≡◌, ℕ, zero, suc, ◌+◌, ◌<◌, ◌�
 use Rattle.std.proofs.lemmas.List.{append-nil, length_push}
 use Rattle.action_eval.specs.declared.rig.Site.{Site}
 use Rattle.action_eval.specs.Answers.{Reply}
-use Rattle.target_trait.specs.Play.{Move, Ask, Done}
+use Rattle.target_trait.specs.Play.{Move, Ask, Done, Unknown}
 use Rattle.grown_plans.specs.Runs.{Met, site_after}
 use Rattle.grown_plans.specs.GrownPlans.{Subject}
 use Rattle.grown_plans.proofs.Paths.{next_by, next_of, next_is, IsPath}
@@ -20,10 +20,12 @@ path_follows asks (suc n) before (m ∷ ms) p =
 at_limit : (limit hits : ℕ) (move : Move) → hits ≡ limit → IsOverAt limit hits move
 at_limit limit hits (Ask p) e = e
 at_limit limit hits (Done j) e = omega (arith, e)
+at_limit limit hits Unknown e = omega (arith, e)
 
 at_end : (limit hits : ℕ) (before : List Met) (move : Move) → hits ≤ limit → next_by before move ≡ None → IsOverAt limit hits move
 at_end limit hits before (Ask p) h e = absurd cc
 at_end limit hits before (Done j) h e = h
+at_end limit hits before Unknown h e = h
 
 path_over : (asks : List Reply → Move) (limit n : ℕ) (before ms : List Met) → length before + n ≡ limit → IsPath asks n before ms
     → IsOverAt limit (length (before ++ ms)) (asks (answers (before ++ ms)))
@@ -47,10 +49,12 @@ behaviour_of t ms p = record { follows = path_follows t.asks t.limit [] ms p; en
 ends_within : (limit hits : ℕ) (before : List Met) (move : Move) → hits < limit → IsOverAt limit hits move → next_by before move ≡ None
 ends_within limit hits before (Ask p) h e = absurd (omega (arith, h, e))
 ends_within limit hits before (Done j) h e = refl
+ends_within limit hits before Unknown h e = refl
 
 not_past : (limit hits : ℕ) (move : Move) → IsOverAt limit hits move → hits ≤ limit
 not_past limit hits (Ask p) e = omega (arith, e)
 not_past limit hits (Done j) e = e
+not_past limit hits Unknown e = e
 
 comes_next : (before : List Met) (move : Move) (s : Site) → move ≡ Ask s.point → s ≡ site_after before s.point → next_by before move ≡ Some s
 comes_next before move s e h = ap (next_by before) e ∙ ap (λ (x : Site). Some x) (sym h)

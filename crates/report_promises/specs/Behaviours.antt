@@ -5,7 +5,7 @@ use Rattle.std.specs.List.{AllByRecursion}
 use Rattle.std.specs.Option.{option_map_or}
 use Rattle.action_eval.specs.declared.rig.Site.{Site}
 use Rattle.action_eval.specs.Answers.{Reply, Go}
-use Rattle.target_trait.specs.Play.{Move, Ask, Done}
+use Rattle.target_trait.specs.Play.{Move, Ask, Done, Unknown}
 use Rattle.target_trait.specs.Outcomes.{judged}
 use Rattle.target_trait.specs.declared.judgement.Verdict.{Verdict}
 use Rattle.grown_plans.specs.Runs.{Met, site_after, is_fault, acting}
@@ -26,13 +26,14 @@ Follows asks before (hit ∷ rest) =
 abbrev pub IsOverAt : ℕ → ℕ → Move → Type 0
 IsOverAt limit hits (Ask point) = hits ≡ limit
 IsOverAt limit hits (Done judgement) = hits ≤ limit
+IsOverAt limit hits Unknown = hits ≤ limit
 
 -- a behaviour: hits with their answers, from the first one to the last
 pub record IsBehaviour (t : Subject) (hits : List Met) : Type 0 where
   pub follows : Follows t.asks [] hits
   pub ends : IsOverAt t.limit (length hits) (t.asks (answers hits))
 
--- the verdict at its end: what is judged there, and unresolved at the limit
+-- the verdict at its end: what is judged there, and unresolved at the limit and where the end is unknown
 abbrev pub verdict_at_end : Subject → List Met → Verdict
 verdict_at_end t hits = judged (t.asks (answers hits))
 

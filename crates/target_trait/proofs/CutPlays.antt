@@ -3,16 +3,18 @@ use Rattle.std.proofs.Common.{◌≡◌, ℕ, Bool, true, false, cond, List, [],
 use Rattle.std.proofs.lemmas.List.{append-nil}
 use Rattle.std.proofs.lemmas.Bool.{le-ltb}
 use Rattle.action_eval.specs.Answers.{Reply}
-use Rattle.target_trait.specs.Play.{Move, Ask, Done, IsDone}
+use Rattle.target_trait.specs.Play.{Move, Ask, Done, Unknown, IsDone}
 use Rattle.target_trait.specs.Cuts.{Cut, no_cut, judgement_of, keeps, cut_asks, by_own, asks_from, asks_with, IsAsking, AsksAll, answer_to}
 
 pub asks_on : (m own cut : Move) → IsAsking m → by_own m own cut ≡ own
 asks_on (Ask p) own cut h = refl
 asks_on (Done j) own cut h = absurd h
+asks_on Unknown own cut h = absurd h
 
 ends : (m own cut : Move) → IsDone m → by_own m own cut ≡ cut
 ends (Ask p) own cut h = absurd h
 ends (Done j) own cut h = refl
+ends Unknown own cut h = absurd h
 
 -- after a target's own answers the cut asks
 after_own : (asks : List Reply → Move) (cut : Cut) (keep : ℕ) (done rest answers : List Reply) → AsksAll asks done rest → IsDone (asks (done ++ rest))
@@ -58,6 +60,7 @@ each_set asks cut point own keep h over long =
 same_end : (m : Move) → by_own m m (Done (judgement_of m)) ≡ m
 same_end (Ask p) = refl
 same_end (Done j) = refl
+same_end Unknown = refl
 
 unchanged_from : (asks : List Reply → Move) (point : ℕ) (done rest : List Reply) → AsksAll asks done rest
     → asks_from asks (no_cut asks) point done rest ≡ asks (done ++ rest)

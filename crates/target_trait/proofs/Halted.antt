@@ -7,10 +7,10 @@ use Rattle.scenario_values.specs.declared.term.Task.{Task}
 use Rattle.scenario_values.specs.declared.term.Task.TheVariants as task
 use Rattle.action_eval.specs.declared.answer.Stop.{Stop}
 use Rattle.action_eval.specs.declared.answer.Stop.TheVariants as stop
-use Rattle.action_eval.specs.Answers.{Given, Run, Hit, Reply, Halt, hit, replies, reply_of, stop_of, stopped, stopped_by, is_over, history_of, cuts_short, is_cut_short}
+use Rattle.action_eval.specs.Answers.{Given, Run, Hit, Reply, Halt, replies, reply_of, stop_of, stopped_by, is_over, history_of, cuts_short, is_cut_short}
 use Rattle.target_trait.specs.declared.judgement.Judgement.{Judgement}
 use Rattle.target_trait.specs.declared.judgement.Judgement.TheVariants.{Kept}
-use Rattle.target_trait.specs.Play.{Move, Ask, Done, Follows, FollowsOn, IsDone, IsPlay, IsCutPlay, IsWhole, EndsSo, MayFollowHalt, move_in}
+use Rattle.target_trait.specs.Play.{Move, Ask, Done, Follows, FollowsOn, IsDone, IsPlay, IsCutPlay, IsWhole, EndsSo, MayFollowHalt}
 
 record Halted (answers : List Reply) : Type 0 where
   before : List Reply

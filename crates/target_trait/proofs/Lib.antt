@@ -1,3 +1,4 @@
+pub mod Moves
 pub mod Plays
 pub mod Verdicts
 pub mod Never

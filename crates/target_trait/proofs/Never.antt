@@ -6,7 +6,7 @@ use Rattle.action_eval.specs.Answers.{Given, Run, Reply, replies, start}
 use Rattle.target_trait.specs.declared.judgement.Judgement.{Judgement}
 use Rattle.target_trait.specs.declared.judgement.Judgement.TheVariants.{Kept, Broken}
 use Rattle.target_trait.specs.declared.judgement.Verdict.TheVariants as verdict
-use Rattle.target_trait.specs.Play.{Move, Ask, Done, IsPlay, move_by}
+use Rattle.target_trait.specs.Play.{Move, Ask, Done, Unknown, IsPlay, move_by}
 use Rattle.target_trait.specs.Outcomes.{judged, verdict_of, play, outcome}
 
 -- where this asks nothing more, it judges that all was kept
@@ -25,6 +25,7 @@ kept_run asks r (Err x) kept h = tt
 never_judged : (move : Move) (code : ℕ) → IsKept move → judged move ≡ verdict.Fail code → ⊥
 never_judged (Ask p) code kept e = cc
 never_judged (Done Kept) code kept e = cc
+never_judged Unknown code kept e = cc
 never_judged (Done (Broken n)) code kept e = let bad : Broken n ≡ Kept = kept (Broken n) refl in cc
 
 never_verdict : (s : Option Stop) (move : Move) (code : ℕ) → IsKept move → verdict_of s move ≡ verdict.Fail code → ⊥

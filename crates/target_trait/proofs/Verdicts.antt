@@ -1,14 +1,16 @@
 -- Verdicts of plays, and plays of scenarios of the same meaning.
-use Rattle.std.proofs.Common.{◌≡◌, ℕ, zero, suc, ◌+◌, ◌≤◌, cond, List, [], ◌∷◌, ◌++◌, length, refl, ap, sym, ◌∙◌, Option}
+use Rattle.std.proofs.Common.{◌≡◌, ℕ, zero, suc, ◌+◌, ◌≤◌, cond, List, [], ◌∷◌, ◌++◌, length, refl, ap, sym, ◌∙◌, Option, Some, None}
 use Rattle.scenario_values.specs.Scenario.{Entries}
 use Rattle.action_eval.specs.declared.answer.Stop.{Stop}
-use Rattle.action_eval.specs.Answers.{Run, Reply, given_of, run_of, hit, replies, stopped, cuts_short}
+use Rattle.action_eval.specs.declared.answer.Stop.TheVariants as stop
+use Rattle.action_eval.specs.Answers.{Given, Run, Reply, given_of, run_of, hit, replies, stopped, cuts_short}
 use Rattle.action_eval.specs.SameMeaning.{Meaning, MeansTheSame, meaning_of}
 use Rattle.target_trait.specs.declared.judgement.Judgement.{Judgement}
 use Rattle.target_trait.specs.declared.judgement.Verdict.{Verdict}
+use Rattle.target_trait.specs.declared.judgement.Verdict.TheVariants as verdict
 use Rattle.target_trait.specs.declared.judgement.Judgement.TheVariants.{Kept}
-use Rattle.target_trait.specs.Play.{Move, Ask, Done, IsCutPlay, move_in}
-use Rattle.target_trait.specs.Outcomes.{play, moved, Told, told, outcome, verdict_of, verdict_with, SameVerdicts}
+use Rattle.target_trait.specs.Play.{Move, Ask, Done, Unknown, IsCutPlay, move_in}
+use Rattle.target_trait.specs.Outcomes.{play, moved, Told, told, outcome, verdict_of, verdict_with, whole_play, SameVerdicts}
 use Rattle.target_trait.proofs.Plays.{told_is, judged_so}
 
 -- the verdict of a case is that of its outcome
@@ -34,6 +36,17 @@ moved_same : (asks : List Reply → Move) (m : Move) (r q : Run) (f g : ℕ → 
     → told asks r ≡ told asks q → ((p : ℕ) → told asks (f p) ≡ told asks (g p)) → told asks (moved m r f) ≡ told asks (moved m q g)
 moved_same asks (Ask p) r q f g ended further = further p
 moved_same asks (Done j) r q f g ended further = ended
+moved_same asks Unknown r q f g ended further = ended
+
+unknown_so : (s : Option Stop) → verdict_of s Unknown ≡ verdict.Unresolved
+unknown_so None = refl
+unknown_so (Some stop.Panic) = refl
+unknown_so (Some stop.Paused) = refl
+unknown_so (Some stop.Limit) = refl
+
+-- an end that nobody knows is unresolved
+pub unknown_unresolved : (asks : List Reply → Move) (g : Given) → asks (replies (whole_play asks g)) ≡ Unknown → (outcome asks g).verdict ≡ verdict.Unresolved
+unknown_unresolved asks g e = ap (verdict_of (stopped (whole_play asks g))) e ∙ unknown_so (stopped (whole_play asks g))
 
 -- under these the two scenarios mean the same
 record Alike (s t : Entries) (names : List (List ℕ)) (seed stream limit : ℕ) : Type 0 where

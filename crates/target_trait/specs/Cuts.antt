@@ -6,7 +6,7 @@ use Rattle.std.specs.Prelude.{◌≡◌, ◌<◌, ℕ, nat_lt, if◌then◌else�
 use Rattle.action_eval.specs.Answers.{Run, Reply, Go, Return, Halt, replies, is_cut_short}
 use Rattle.target_trait.specs.declared.judgement.Judgement.{Judgement}
 use Rattle.target_trait.specs.declared.judgement.Judgement.TheVariants.{Kept}
-use Rattle.target_trait.specs.Play.{Move, Ask, Done, FollowsOn}
+use Rattle.target_trait.specs.Play.{Move, Ask, Done, Unknown, FollowsOn}
 use Rattle.target_trait.specs.Protocol.{Table, state_after}
 
 -- the name of the cut's point, which stands behind the target's own
@@ -21,6 +21,7 @@ pub record Cut : Type 0 where
 abbrev pub judgement_of : Move → Judgement
 judgement_of (Ask p) = Kept
 judgement_of (Done j) = j
+judgement_of Unknown = Kept
 
 -- nothing is pending, and the judgement is the run's
 abbrev pub no_cut : (List Reply → Move) → Cut
@@ -40,6 +41,7 @@ cut_asks cut keep own answers = if nat_lt (length answers) (cut.pending own) the
 abbrev pub by_own : Move → Move → Move → Move
 by_own (Ask p) own cut = own
 by_own (Done j) own cut = cut
+by_own Unknown own cut = Unknown
 
 -- what is asked by the rest of the answers, after so many of the target's own
 abbrev pub asks_from : (List Reply → Move) → Cut → ℕ → List Reply → List Reply → Move
@@ -88,6 +90,7 @@ pub record CutEnded (keep pending : ℕ) (old new : Run) (kept : Option (List Bo
 abbrev pub IsAsking : Move → Type 0
 IsAsking (Ask p) = Unit {0}
 IsAsking (Done j) = ⊥
+IsAsking Unknown = ⊥
 
 -- the target asks after each proper front of these answers
 abbrev pub AsksAll : (List Reply → Move) → List Reply → List Reply → Type 0

@@ -8,12 +8,13 @@ use Rattle.action_eval.specs.Answers.{Given, Run, Reply, given_of, hit, start, r
 use Rattle.target_trait.specs.declared.judgement.Judgement.TheVariants as judgement
 use Rattle.target_trait.specs.declared.judgement.Verdict.{Verdict}
 use Rattle.target_trait.specs.declared.judgement.Verdict.TheVariants as verdict
-use Rattle.target_trait.specs.Play.{Move, Ask, Done, move_in}
+use Rattle.target_trait.specs.Play.{Move, Ask, Done, Unknown, move_in}
 
 -- the run after a move: what is asked is hit
 abbrev pub moved : Move → Run → (ℕ → Run) → Run
 moved (Ask p) r further = further p
 moved (Done j) r further = r
+moved Unknown r further = r
 
 -- the play from a run on, of at most n more hits: while a point is asked after the answers so far, it is hit, unless a pause or the limit cut the
 -- run short
@@ -21,11 +22,12 @@ unfoldable pub play : ℕ → (List Reply → Move) → Run → Run
 play zero asks r = r
 play (suc n) asks r = moved (move_in asks r) r (λ p. play n asks (hit r p))
 
--- the verdict of a judgement
+-- the verdict of an end: of one that is unknown, as of a run without one, none is known
 abbrev pub judged : Move → Verdict
 judged (Ask p) = verdict.Unresolved
 judged (Done judgement.Kept) = verdict.Pass
 judged (Done (judgement.Broken code)) = verdict.Fail code
+judged Unknown = verdict.Unresolved
 
 -- the verdict is the judgement's, also after a panic; a run that was stopped by a pause or by the limit is unresolved, since it might
 -- have come to anything

@@ -4,10 +4,12 @@ use Rattle.target_trait.specs.declared.judgement.Judgement.{Judgement}
 use Rattle.target_trait.specs.declared.judgement.Judgement.TheVariants.{Kept}
 use Rattle.action_eval.specs.Answers.{Given, Run, Reply, replies, stopped, is_cut_short}
 
--- what comes next: a question, or the end with a judgement
+-- what comes next: a question, the end with a judgement, or an end of which nobody can tell what the run came to, as when somebody else ended it. No
+-- target comes to such an end
 pub data Move : Type 0 where
   Ask : ℕ → Move
   Done : Judgement → Move
+  Unknown : Move
 
 -- a point is asked; without one the run is over, with this judgement
 abbrev pub move_by : Judgement → Option ℕ → Move
@@ -34,15 +36,23 @@ pub record IsPlay (asks : List Reply → Move) (r : Run) (judgement : Judgement)
   pub asked : Follows asks r.given [] r.hits
   pub ended : asks (replies r) ≡ Done judgement
 
--- a question is of one of these many points
+-- what a target comes to: a question of one of these many points, or the end with a judgement
 abbrev pub IsWithin : ℕ → Move → Type 0
 IsWithin points (Ask p) = p < points
 IsWithin points (Done j) = Unit {0}
+IsWithin points Unknown = ⊥
 
--- no question
+-- what a component comes to: the same, or an end that is unknown
+abbrev pub AsksWithin : ℕ → Move → Type 0
+AsksWithin points (Ask p) = p < points
+AsksWithin points (Done j) = Unit {0}
+AsksWithin points Unknown = Unit {0}
+
+-- the end, with a judgement
 abbrev pub IsDone : Move → Type 0
 IsDone (Ask p) = ⊥
 IsDone (Done j) = Unit {0}
+IsDone Unknown = ⊥
 
 -- ---- runs whose power cut is asked, also after a panic
 
@@ -66,7 +76,7 @@ abbrev pub IsWhole : Bool → (List Reply → Move) → Run → Judgement → Ty
 IsWhole true asks r judgement = IsCutPlay asks r judgement
 IsWhole false asks r judgement = IsPlay asks r judgement
 
--- what may come after a halt: no question, but those of a power cut
+-- what may come after a halt: the end, but for the questions of a power cut
 abbrev pub MayFollowHalt : Bool → Move → Type 0
 MayFollowHalt true move = Unit {0}
 MayFollowHalt false move = IsDone move

@@ -1,16 +1,22 @@
 //! Laws on outcomes, as contracts of functions that do nothing.
 ghost use Rattle.std.specs.Prelude.{◌≡◌, ◌++◌, ℕ, Bool, List, [], map, length};
 ghost use Rattle.scenario_values.specs.Scenario.{Entries};
-ghost use Rattle.action_eval.specs.Answers.{Reply, given_of};
+ghost use Rattle.action_eval.specs.Answers.{Given, Reply, given_of, replies};
 ghost use Rattle.action_eval.specs.SameMeaning.{MeansTheSame, meaning_of};
-ghost use Rattle.target_trait.specs.Outcomes.{outcome, verdict_with, SameVerdicts};
-ghost use Rattle.target_trait.specs.Play.{Move, Done, IsDone};
+ghost use Rattle.target_trait.specs.Outcomes.{outcome, verdict_with, whole_play, SameVerdicts};
+ghost use Rattle.target_trait.specs.Play.{Move, Done, Unknown, IsDone};
+ghost use Rattle.target_trait.specs.declared.judgement.Verdict.TheVariants.{Unresolved};
 ghost use Rattle.target_trait.specs.Cuts.{Cut, AsksAll, asks_with, cut_asks, answer_to, no_cut};
 
 /// The verdict of a case is that of its outcome.
 pub fn verdict_of_outcome()
     ensures { (asks : List Reply → Move) (names : List (List ℕ)) (seed limit stream : ℕ) (s : Entries)
         → verdict_with asks names seed limit stream s ≡ (outcome asks (given_of s names seed stream limit)).verdict }
+{}
+
+/// A run whose end nobody knows is unresolved, whatever stopped it: it neither passes nor fails.
+pub fn unknown_ends_are_unresolved()
+    ensures { (asks : List Reply → Move) (g : Given) → asks (replies (whole_play asks g)) ≡ Unknown → (outcome asks g).verdict ≡ Unresolved }
 {}
 
 /// Two scenarios that mean the same have the same outcome, and hence the same verdict, whatever is asked. For one catalogue, seed, stream

@@ -1,11 +1,10 @@
-use Rattle.std.proofs.Common.{ℕ, Bool, List, Option, Vec, Global, ap, sym, ◌∙◌, subst, length}
+use Rattle.std.proofs.Common.{ℕ, Bool, Option, Vec, Global, ap, sym, ◌∙◌, subst}
 use Rattle.std.specs.Prelude.{option_map}
-use Rattle.action_eval.specs.Answers.{replies}
 use Rattle.target_trait.specs.declared.judgement.Judgement.TheVariants.{Kept}
 use Rattle.target_trait.specs.Machine.{asks_by}
 use Rattle.target_trait.specs.MachineLaws.{halts_table}
 use Rattle.target_trait.specs.Play.{IsCutPlay}
-use Rattle.target_trait.specs.Protocol.{by_table, state_after}
+use Rattle.target_trait.specs.Protocol.{by_table}
 use Rattle.target_trait.specs.Cuts.{CutEnded, asks_with, cut_by}
 use Rattle.target_trait.proofs.CutRuns.{with_cut}
 use Rattle.target_trait.proofs.crash.play_to_cut.Goals as goal
