@@ -130,6 +130,11 @@ step_back now gs n parent child fault faults new whole is before lt some read up
           ∙ ap (λ l. faults ++ l) (sym plan) ∙ rest,
     )
 
+pub earlier : (now : List (List Rig)) (gs : List Grew) (n parent : ℕ) (child : Grew) → plans_from ([] ∷ []) gs ≡ now → AreBefore 1 gs → n < length now → 0 < n
+    → child ≡ get_or gs (n - 1) child → parent ≡ child.parent → parent < n
+earlier now gs n parent child is before lt some read up =
+    (step_back now gs n parent child child.fault [] (child.fault ∷ []) (get_or now n []) is before lt some read up refl refl refl).0
+
 pub parent_is : (now : List (List Rig)) (gs : List Grew) (n parent : ℕ) (child : Grew) → plans_from ([] ∷ []) gs ≡ now → AreBefore 1 gs → n < length now → 0 < n
     → child ≡ get_or gs (n - 1) child → parent ≡ child.parent → (r : Rig) (rs : List Rig) → get_or now n [] ≡ r ∷ rs → get_or now parent [] ≡ rs
 parent_is now gs n parent child is before lt some read up r rs plan =

@@ -1,5 +1,5 @@
 //! A list of plans that grow.
-ghost use Rattle.std.specs.Prelude.{◌≡◌, ◌<◌, ◌++◌, ◌∷◌, [], List, true, false, length, map, slice_index_or, OnOk, OnErr, MatchOption};
+ghost use Rattle.std.specs.Prelude.{◌≡◌, ◌<◌, ◌≤◌, ◌-◌, ◌++◌, ◌∷◌, [], List, true, false, length, map, slice_index_or, OnOk, OnErr, MatchOption};
 ghost use Rattle.action_eval.specs.declared.rig.Rig.{Rig};
 ghost use Rattle.grown_plans.specs.AskedPoints.{from_then_on, is_last_return};
 ghost use Rattle.grown_plans.specs.Kept.{GrewFrom, plan_of};
@@ -74,10 +74,11 @@ impl GrownPlans {
         Ok(())
     }
 
-    /// The number of the plan that the plan of this number grew from; 0 of the plan without faults, which grew from none.
+    /// The number of the plan that the plan of this number grew from, which stands before it; 0 of the plan without faults, which grew from none.
     pub fn parent_of(&self, number: usize) -> usize
         requires { number < length self.now }
-        ensures { (r : Rig) (rs : List Rig) → slice_index_or self.now number [] ≡ r ∷ rs → slice_index_or self.now result [] ≡ rs }
+        ensures before { result ≤ number - 1 }
+        ensures grew { (r : Rig) (rs : List Rig) → slice_index_or self.now number [] ≡ r ∷ rs → slice_index_or self.now result [] ≡ rs }
     {
         let children = &self.children;
         if number == 0 {

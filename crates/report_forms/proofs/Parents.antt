@@ -6,32 +6,22 @@ use Rattle.action_eval.specs.declared.rig.Rig.{Rig}
 use Rattle.campaign_plans.specs.GrownScenarios.{grown_scenario, grown_scenarios}
 use Rattle.report_forms.specs.Runs.{parent_at, parent_of}
 
--- a plan with faults is one of the list
-below : (plans : List (List Rig)) (n : ℕ) (r : Rig) (rs : List Rig) → get_or plans n [] ≡ r ∷ rs → n < length plans
-below [] n r rs h = absurd cc
-below (plan ∷ plans) zero r rs h = omega arith
-below (plan ∷ plans) (suc n) r rs h = let less = below plans n r rs h in omega (arith, less)
-
--- with two or more it grew from a plan of the list
-pub parent_within : (grown : List (List Rig)) (plans : List Entries) (points : List (List ℕ)) (n parent : ℕ) (faults : List Rig) → take (length grown) plans ≡ grown_scenarios points grown
-    → faults ≡ get_or grown n [] → 2 ≤ length faults → ((r : Rig) (rs : List Rig) → get_or grown n [] ≡ r ∷ rs → get_or grown parent [] ≡ rs) → parent < length plans
-parent_within grown plans points n parent [] first is many up = absurd (omega (arith, many))
-parent_within grown plans points n parent (last ∷ []) first is many up = absurd (omega (arith, many))
-parent_within grown plans points n parent (last ∷ (r ∷ rs)) first is many up =
-    let within = below grown parent r rs (up last (r ∷ rs) (sym is)) in
+-- each plan that grew is one of the list
+pub grown_within : (grown : List (List Rig)) (plans : List Entries) (points : List (List ℕ)) (n : ℕ) → take (length grown) plans ≡ grown_scenarios points grown
+    → n < length grown → n < length plans
+grown_within grown plans points n first within =
     let taken = length-take (length grown) plans in
     let same : length (take (length grown) plans) ≡ length grown = ap length first ∙ length-map grown (grown_scenario points) in
     omega (arith, within, taken, same)
 
--- and its scenario is that of the plan's faults but the last
-pub parent_is : (grown : List (List Rig)) (plans : List Entries) (points : List (List ℕ)) (n parent : ℕ) (faults : List Rig) → take (length grown) plans ≡ grown_scenarios points grown
+-- the parent of one with two faults or more has the scenario of its faults but the last
+pub parent_is : (grown : List (List Rig)) (plans : List Entries) (points : List (List ℕ)) (n parent : ℕ) (faults : List Rig) → parent < length grown → take (length grown) plans ≡ grown_scenarios points grown
     → faults ≡ get_or grown n [] → 2 ≤ length faults → ((r : Rig) (rs : List Rig) → get_or grown n [] ≡ r ∷ rs → get_or grown parent [] ≡ rs)
     → Some (get_or plans parent []) ≡ parent_at points grown n
-parent_is grown plans points n parent [] first is many up = absurd (omega (arith, many))
-parent_is grown plans points n parent (last ∷ []) first is many up = absurd (omega (arith, many))
-parent_is grown plans points n parent (last ∷ (r ∷ rs)) first is many up =
+parent_is grown plans points n parent [] within first is many up = absurd (omega (arith, many))
+parent_is grown plans points n parent (last ∷ []) within first is many up = absurd (omega (arith, many))
+parent_is grown plans points n parent (last ∷ (r ∷ rs)) within first is many up =
     let grew = up last (r ∷ rs) (sym is) in
-    let within = below grown parent r rs grew in
     ap (λ (s : Entries). Some s)
     (sym (get_or-take (length grown) plans parent [] within) ∙ ap (λ (l : List Entries). get_or l parent []) first
     ∙ get_or-map (grown_scenario points) grown parent [] [] within ∙ ap (grown_scenario points) grew)

@@ -51,7 +51,7 @@ grow_one-requires-clause-serves g c =
     subst (λ (p : List Rig). Serves c.args.workspace.now.begun parent p c.as_slice-asked.result.now) (sym faults_too)
     (serves_next t seed n parent input.plans.now c.args.workspace.now.begun plan c.as_slice-asked.result.now
     (asked_few _ g.T.Target.names 0 law.lawful (law.within c.args.target.now input.workload.now) _ parents refl)
-    (c.requires.alike n c.requires.within) c.parent_of-parent.ensures asked_is c.requires.begun)
+    (c.requires.alike n c.requires.within) c.parent_of-parent.ensures.grew asked_is c.requires.begun)
 
 pub grow_one-requires-clause-points : goal.grow_one-requires-clause-points
 grow_one-requires-clause-points g c =
@@ -93,7 +93,7 @@ returns-clause-begun g c =
     c.as_slice-asked.ensures.value ∙ c.in_ok-verdict.ensures.asked ∙ ap (λ (rs : List Rig). (told_of_rigs t seed n rs).asked) rigs_is in
     let parent = c.parent_of-parent.result in
     tells_next t seed n parent input.plans.now c.args.workspace.now.begun c.grow_one.new.begun plan c.as_slice-asked.result.now (c.requires.alike n c.requires.within)
-    c.parent_of-parent.ensures asked_is c.requires.begun
+    c.parent_of-parent.ensures.grew asked_is c.requires.begun
     (subst (λ (p : List Rig). MovesOn c.args.workspace.now.begun c.grow_one.new.begun parent p c.as_slice-asked.result.now) faults_too c.in_ok-growing.ensures.begun)
 
 pub returns-clause-grown : goal.returns-clause-grown
