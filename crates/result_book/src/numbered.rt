@@ -1,6 +1,5 @@
 //! A plan's number and verdict.
 ghost use Rattle.std.specs.Prelude.{◌≡◌, ℕ, ◌<◌, List, [], not, filter, length, IfOk, OnOk, slice_index_or};
-ghost use Rattle.action_eval.specs.Answers.{given_of, start, texts};
 ghost use Rattle.result_book.specs.Says.{input_says};
 ghost use Rattle.result_book.specs.Runs.{input_runs, is_asked};
 
@@ -8,13 +7,12 @@ use crate::input::RunInput;
 use crate::watched::leave_unasked;
 use crate::workspace::Workspace;
 use action_eval::{Session, SessionBuffers};
-use campaign_given::CampaignSettings;
-use campaign_plans::{CampaignPlan, CampaignRigger};
+use campaign_plans::CampaignRigger;
 use scenario_values::Scenario;
 use std::alloc::{AllocError, Global};
 use std::marker::Model;
 use std::mem;
-use target_trait::{Target, Verdict, run_session};
+use target_trait::{Target, Verdict, run_session, session_of};
 
 /// The verdict of the run of this number under what is rigged in a workspace, whose buffers are left again for the next run. Of the points that
 /// no run asked so far those are left that this one doesn't ask. Want of memory may give the buffers back to the system.
@@ -52,44 +50,24 @@ fn rigged_verdict<T: Target>(
     Ok(verdict)
 }
 
-/// The session of a plan whose scenario is made, over a catalogue.
-fn session_of<'a>(
-    alloc: Global,
-    scenario: &'a Scenario,
-    catalogue: &'a [&'a str],
-    settings: &CampaignSettings,
-    number: u32,
-) -> Result<Session<'a>, AllocError>
-    ensures { IfOk result (λ session. session ≡ start
-        (given_of scenario.now (texts catalogue.now) settings.now.plans.seed number settings.now.max_hits)) }
-{
-    let stream = u64::from(number);
-    Session::new(
-        alloc,
-        scenario,
-        catalogue,
-        settings.seed,
-        stream,
-        settings.max_hits,
-    )
-}
-
-/// The verdict of the run of this number under a plan whose scenario is made, and the points that are left, as of one that is rigged.
+/// The verdict of the plan of this number, whose scenario is made, and the points that are left, as of one that is rigged.
 fn written_verdict<T: Target>(
     alloc: Global,
     target: &mut T,
     input: &RunInput<'_, T>,
-    plan: &CampaignPlan<'_>,
     number: u32,
     unreached: &mut Vec<u32>,
 ) -> Result<Verdict, AllocError>
-    ensures ok { IfOk result (λ verdict. verdict ≡ input_says T.Target target.old input.now number plan.now) }
+    requires { number < length input.now.plans.now }
+    ensures ok { IfOk result (λ verdict. verdict ≡ input_says T.Target target.old input.now number (slice_index_or input.now.plans.now number [])) }
     ensures unreached { OnOk result (unreached.new.items
-        ≡ filter (λ p. not (is_asked p (input_runs T.Target target.old input.now number plan.now).asked)) unreached.old.items) }
+        ≡ filter (λ p. not (is_asked p (input_runs T.Target target.old input.now number (slice_index_or input.now.plans.now number [])).asked))
+        unreached.old.items) }
     ensures setup { target.new ≡ target.old }
 {
-    let scenario = plan.scenario(alloc)?;
-    let mut session = session_of(alloc, &scenario, T::catalogue(), input.settings, number)?;
+    let scenario = input.plans.plan(number as usize).scenario(alloc)?;
+    let case = input.settings.case(&scenario, u64::from(number));
+    let mut session = session_of(alloc, &case, T::catalogue())?;
     let verdict = run_session(target, input.workload, &mut session)?;
     leave_unasked(unreached, session.trace());
     Ok(verdict)
@@ -118,8 +96,7 @@ pub(crate) fn verdict_of<T: Target>(
     if is_loaded {
         rigged_verdict(target, input, workspace, number, unreached)
     } else {
-        let plan = input.plans.plan(number as usize);
-        written_verdict(workspace.alloc, target, input, &plan, number, unreached)
+        written_verdict(workspace.alloc, target, input, number, unreached)
     }
 }
 

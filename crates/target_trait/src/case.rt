@@ -59,7 +59,7 @@ fn verdict_of(stopped: Option<Stop>, judgement: Judgement) -> Verdict
     }
 }
 
-/// The session of a case, over a catalogue.
+/// A new session of a case, over a catalogue. An error means that memory was refused.
 pub fn session_of<'a>(
     alloc: Global,
     case: &Case<'a>,

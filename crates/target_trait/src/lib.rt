@@ -11,10 +11,13 @@ mod target;
 mod telling;
 
 pub use action_eval::{Answer, Note, Session, Stop};
-pub use case::{Case, Outcome, run_case, run_session, run_verdict};
+pub use case::{Case, Outcome, run_case, run_session, run_verdict, session_of};
 pub use crash::{CrashProtocol, CrashTarget, WithCut, ask_cut};
 pub use judgement::{Judgement, Verdict};
-pub use laws::{cut_asks_after_the_target, same_meaning_same_outcome, verdict_of_outcome};
+pub use laws::{
+    cut_asks_after_the_target, same_meaning_same_outcome, unknown_ends_are_unresolved,
+    verdict_of_outcome,
+};
 pub use output::{Out, Sink};
 pub use protocol::{ByTable, Protocol};
 pub use target::Target;
