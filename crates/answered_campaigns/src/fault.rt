@@ -4,13 +4,11 @@ ghost use Rattle.campaign_core.specs.CommandTexts.{plan_fault};
 ghost use Rattle.campaign_core.specs.declared.ending.CampaignFault.TheVariants.{Memory, Write};
 ghost use Rattle.outside_campaign.specs.Results.{answers_fault};
 ghost use Rattle.outside_campaign.specs.declared.refusal.OutsideFault.TheVariants.{Campaign};
-ghost use Rattle.answered_campaigns.specs.Faults.{known_fault};
 ghost use Rattle.answered_campaigns.specs.declared.fault.QuestionFault.TheVariants.{Outside, Scenario};
 
 use answer_text::AnswersFault;
 use answered_runs::BrokenRun;
 use campaign_core::CampaignFault;
-use known_runs::KnownFault;
 use outside_campaign::OutsideFault;
 use plan_gen::PlanFault;
 use report::WriteFault;
@@ -60,18 +58,6 @@ impl From<ScenarioFault> for QuestionFault {
 
     fn from(cause: ScenarioFault) -> QuestionFault {
         QuestionFault::Scenario(cause)
-    }
-}
-
-impl From<KnownFault> for QuestionFault {
-    ghost from_gives = { λ cause fault. fault ≡ Outside (Campaign (known_fault cause)) };
-
-    fn from(cause: KnownFault) -> QuestionFault {
-        let cause = match cause {
-            KnownFault::TooManyPlans => CampaignFault::TooManyPlans,
-            KnownFault::Memory => CampaignFault::Memory,
-        };
-        QuestionFault::Outside(OutsideFault::Campaign(cause))
     }
 }
 

@@ -12,7 +12,8 @@ use crate::scenarios::plan_scenario;
 use crate::table::AnsweredRuns;
 use action_eval::{Kind, Rig};
 use grown_plans::GrownPlans;
-use known_runs::{Break, KnownFault, Look, RunTable, break_of};
+use known_runs::{Break, Look, RunTable, break_of};
+use plan_gen::PlanFault;
 use std::alloc::{AllocError, Global};
 use std::fmt;
 
@@ -161,14 +162,14 @@ pub fn broken_run(
     runs: &AnsweredRuns<'_>,
     depth: u32,
     most: usize,
-) -> Result<Option<BrokenRun>, KnownFault>
+) -> Result<Option<BrokenRun>, PlanFault>
     requires depth { depth ≤ 64 }
     requires most { most ≤ 65536 }
     ensures first { IfOk result (AreBroken runs.now (known_plans runs.now depth)) }
     // No component agrees with answers of which a run breaks.
     ensures none { IfOk result (λ found. IfSome found (λ broken. (t : Subject) → IsComponent runs.now.points runs.now.listed t
         → AgreesWithRuns t (told_in runs.now.book) → ⊥)) }
-    ensures many { IsErrOf result KnownFault.TooManyPlans → most < length (known_plans runs.now depth) }
+    ensures many { IsErrOf result PlanFault.TooManyPlans → most < length (known_plans runs.now depth) }
 {
     let known = runs.known_plans(alloc, depth, most)?;
     Ok(first_break(alloc, runs, &known.plans)?)

@@ -10,7 +10,8 @@ ghost use Rattle.answered_runs.specs.Components.{AgreesWithRuns, IsComponent};
 
 use crate::table::AnsweredRuns;
 use grown_plans::Kinds;
-use known_runs::{KnownFault, KnownPlans};
+use known_runs::KnownPlans;
+use plan_gen::PlanFault;
 use std::alloc::Global;
 
 impl<'a> AnsweredRuns<'a> {
@@ -23,7 +24,7 @@ impl<'a> AnsweredRuns<'a> {
         alloc: Global,
         depth: u32,
         most: usize,
-    ) -> Result<KnownPlans, KnownFault>
+    ) -> Result<KnownPlans, PlanFault>
         requires depth { depth ≤ 64 }
         requires most { most ≤ 65536 }
         ensures grown { IfOk result (λ known. known.plans ≡ known_plans self.now depth) }
@@ -34,7 +35,7 @@ impl<'a> AnsweredRuns<'a> {
         // Of each of them a scenario can be made.
         ensures rigs { IfOk result (λ known. AllByRecursion (λ plan. CanBeRigged (rigs_of plan)) known.plans) }
         ensures few { IfOk result (λ known. length known.plans ≤ most) }
-        ensures many { IsErrOf result KnownFault.TooManyPlans → most < length (known_plans self.now depth) }
+        ensures many { IsErrOf result PlanFault.TooManyPlans → most < length (known_plans self.now depth) }
     {
         let kinds = Kinds::with(self.points(), self.listed());
         known_runs::known_plans(alloc, self, &kinds, depth, most)

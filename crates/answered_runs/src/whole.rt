@@ -11,7 +11,8 @@ ghost use Rattle.answered_runs.specs.WholeList.{AreTold, unseen_count};
 
 use crate::table::AnsweredRuns;
 use grown_plans::GrownPlans;
-use known_runs::{KnownFault, KnownPlans, Look, RunTable};
+use known_runs::{KnownPlans, Look, RunTable};
+use plan_gen::PlanFault;
 use std::alloc::{AllocError, Global};
 
 /// The first of these plans of whose run nothing is told, and how many of those before it are told without their hits.
@@ -58,7 +59,7 @@ pub fn listed_plans(
     runs: &AnsweredRuns<'_>,
     depth: u32,
     most: usize,
-) -> Result<Listed, KnownFault>
+) -> Result<Listed, PlanFault>
     requires depth { depth ≤ 64 }
     requires most { most ≤ 65536 }
     ensures grown { IfOk result (λ listed. listed.known.plans ≡ known_plans runs.now depth) }
@@ -71,7 +72,7 @@ pub fn listed_plans(
     // Of each plan a scenario can be made.
     ensures rigs { IfOk result (λ listed. AllByRecursion (λ plan. CanBeRigged (rigs_of plan)) listed.known.plans) }
     ensures few { IfOk result (λ listed. length listed.known.plans ≤ most) }
-    ensures many { IsErrOf result KnownFault.TooManyPlans → most < length (known_plans runs.now depth) }
+    ensures many { IsErrOf result PlanFault.TooManyPlans → most < length (known_plans runs.now depth) }
 {
     let known = runs.known_plans(alloc, depth, most)?;
     let (gap, unseen) = look_through(alloc, runs, &known.plans)?;

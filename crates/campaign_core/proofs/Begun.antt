@@ -1,6 +1,6 @@
 -- The plans with which a list begins, and those behind them.
 use Rattle.std.proofs.Common.{◌≡◌, ℕ, zero, suc, ◌+◌, ◌<◌, ◌≤◌, Option, None, Some, List, [], ◌∷◌, ◌++◌, map, length, refl, ap, sym, ◌∙◌, arith, append_assoc, length-append, subst}
-use Rattle.std.specs.Prelude.{slice_get}
+use Rattle.std.specs.Prelude.{slice_get, Result, Ok, Err, IfOk, OnOk}
 use Rattle.std.specs.List.{AllByRecursion}
 use Rattle.std.proofs.lemmas.List.{length-map, map-append}
 use Rattle.scenario_values.specs.Scenario.{Entries}
@@ -20,6 +20,12 @@ use Rattle.plan_gen.specs.PlanList.{Asked, plan_list}
 use Rattle.grown_plans.specs.Promises.{IsLawful}
 use Rattle.campaign_core.proofs.FirstLevel.{few_sites_of}
 use Rattle.campaign_core.proofs.Grown.{list_is, listed_is, plans_counted, plans_some}
+
+-- ---- an answer with what holds where there is one
+
+pub if_ok_both : {A E : Type 0} (r : Result A E) (P : A → Type 0) (Q : Type 0) → IfOk r P → OnOk r Q → IfOk r (λ x. P x × Q)
+if_ok_both (Ok x) P Q p q = (p, q)
+if_ok_both (Err e) P Q p q = tt
 
 -- ---- all plans that grew
 

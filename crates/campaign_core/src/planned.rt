@@ -12,7 +12,7 @@ use crate::subject::{Host, Subject};
 use campaign_given::CampaignSettings;
 use campaign_plans::CampaignPlans;
 use grown_plans::{GrownPlans, each_plan_can_be_rigged, each_target_is_a_lawful_subject};
-use grown_runs::{Conditions, GrowFault, Grown, Limits, grow, grow_list};
+use grown_runs::{Conditions, Grown, Limits, grow, grow_list};
 use plan_gen::{Census, PlanFault, PlanList, by_census, further_plans, plans};
 use std::alloc::{AllocError, Global};
 use std::sync::Wait;
@@ -84,16 +84,6 @@ fn conditions<'s, T: Target, G: Gate, R: Threads + Wait + Sync>(
     }
 }
 
-/// Why a campaign has no list of plans where they don't grow.
-fn planning_fault(fault: GrowFault) -> PlanFault
-    ensures { result ≡ PlanFault.TooManyPlans → fault ≡ GrowFault.TooManyPlans }
-{
-    match fault {
-        GrowFault::TooManyPlans => PlanFault::TooManyPlans,
-        GrowFault::Memory => PlanFault::Memory,
-    }
-}
-
 /// The plans that grow to this depth, with what their runs come to.
 fn grown_to<T: Target + Send, G: Gate, R: Threads + Wait + Sync>(
     host: &Host<'_, G, R>,
@@ -110,10 +100,7 @@ where
 {
     each_target_is_a_lawful_subject::<T>();
     each_plan_can_be_rigged();
-    match grow(&conditions(host, subject, depth)) {
-        Ok(grown) => Ok(grown),
-        Err(fault) => Err(planning_fault(fault)),
-    }
+    grow(&conditions(host, subject, depth))
 }
 
 /// The plans that grow to this depth, level by level until they are `count` or more; all of them where they never are.
@@ -133,10 +120,7 @@ where
 {
     each_target_is_a_lawful_subject::<T>();
     each_plan_can_be_rigged();
-    match grow_list(&conditions(host, subject, depth), count) {
-        Ok(plans) => Ok(plans),
-        Err(fault) => Err(planning_fault(fault)),
-    }
+    grow_list(&conditions(host, subject, depth), count)
 }
 
 /// Of a campaign with a depth, the plans that grow, level by level until they are `count` or more; all of them where they never are. No more

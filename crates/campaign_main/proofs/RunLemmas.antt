@@ -9,8 +9,8 @@ use Rattle.plan_gen.specs.PlanList.{Asked}
 use Rattle.answer_text.specs.Runs.{KnownRuns, TellsAnswers, known_runs, told_in}
 use Rattle.answer_text.specs.declared.fault.AnswersFault.{AnswersFault}
 use Rattle.answer_text.specs.declared.fault.AnswersFault.TheVariants as answers
-use Rattle.known_runs.specs.declared.growing.KnownFault.{KnownFault}
-use Rattle.known_runs.specs.declared.growing.KnownFault.TheVariants as known
+use Rattle.plan_gen.specs.declared.list.PlanFault.{PlanFault}
+use Rattle.plan_gen.specs.declared.list.PlanFault.TheVariants as planning
 use Rattle.answered_runs.specs.Answered.{Answered, known_plans}
 use Rattle.campaign_given.specs.Description.{Description}
 use Rattle.campaign_given.specs.Given.{Given}
@@ -18,7 +18,7 @@ use Rattle.campaign_core.specs.declared.ending.CampaignFault.TheVariants as camp
 use Rattle.outside_campaign.specs.Results.{answers_fault}
 use Rattle.outside_campaign.specs.declared.refusal.OutsideFault.TheVariants as outside
 use Rattle.outside_grown.specs.Further.{AreTooMany}
-use Rattle.answered_campaigns.specs.Faults.{known_fault}
+use Rattle.campaign_core.specs.CommandTexts.{plan_fault}
 use Rattle.answered_campaigns.specs.Kinds.{listed_kinds}
 use Rattle.answered_campaigns.specs.Questions.{IsReadingFault, Tells}
 use Rattle.answered_campaigns.specs.declared.fault.QuestionFault.{QuestionFault}
@@ -84,11 +84,11 @@ pub places_below : (t : ℕ → Bool) (n m : ℕ) (places : List ℕ) → n ≡ 
 places_below t n m places many is = subst (λ (xs : List ℕ). All (λ p. p < m) xs) (sym is) (All-filter t (λ p. p < m) (range_with_len 0 n) (below 0 n m (omega (arith, many))))
 
 -- too many plans that are passed up
-pub many_up : {T : Type 0} (a : Answered) (asks asked : Asked) (n : ℕ) (result : Result T KnownFault) (f : KnownFault) → asks ≡ asked → IsErrAnd result (λ e. e ≡ f)
-    → (f ≡ known.TooManyPlans → AreTooMany a asks n) → result ≡ Err known.TooManyPlans → AreTooMany a asked n
+pub many_up : {T : Type 0} (a : Answered) (asks asked : Asked) (n : ℕ) (result : Result T PlanFault) (f : PlanFault) → asks ≡ asked → IsErrAnd result (λ e. e ≡ f)
+    → (f ≡ planning.TooManyPlans → AreTooMany a asks n) → result ≡ Err planning.TooManyPlans → AreTooMany a asked n
 many_up a asks asked n (Ok x) f same up many is = absurd up
 many_up a asks asked n (Err e) f same up many is =
-    let cause : e ≡ known.TooManyPlans = cc in subst (λ (x : Asked). AreTooMany a x n) same (many (sym up ∙ cause))
+    let cause : e ≡ planning.TooManyPlans = cc in subst (λ (x : Asked). AreTooMany a x n) same (many (sym up ∙ cause))
 
 -- ---- by the text of answers
 
@@ -113,10 +113,10 @@ module _ (d : Description) (given : Given) (depth : ℕ) (text : List ℕ) where
   reading_is_unnoted (fault.Scenario f) h = absurd h
   reading_is_unnoted (fault.Unseen line) h = absurd h
 
-  pub many_runs : (a : Answered) → Tells d text a → (cause : KnownFault) → (cause ≡ known.TooManyPlans → AreTooMany a given.plans (length (known_plans a depth)))
-      → IsUnnotedTo (Some depth) (given, d) text (fault.Outside (outside.Campaign (known_fault cause)))
-  many_runs a tells known.TooManyPlans many = (a, tells, many refl)
-  many_runs a tells known.Memory many = tt
+  pub many_runs : (a : Answered) → Tells d text a → (cause : PlanFault) → (cause ≡ planning.TooManyPlans → AreTooMany a given.plans (length (known_plans a depth)))
+      → IsUnnotedTo (Some depth) (given, d) text (fault.Outside (outside.Campaign (plan_fault cause)))
+  many_runs a tells planning.TooManyPlans many = (a, tells, many refl)
+  many_runs a tells planning.Memory many = tt
 
   pub answers_fault_is_unnoted : (f : AnswersFault) → TellsAnswers f d.codes d.points text
       → IsUnnotedTo None (given, d) text (fault.Outside (answers_fault f))

@@ -13,6 +13,7 @@ ghost use Rattle.campaign_main.specs.Notes.{control_line, control_lines, doubt_n
 use campaign_core::{Ran, Subject};
 use campaign_given::CampaignSettings;
 use outside_campaign::{OutsideCampaign, borrowed};
+use report::unresolved;
 use scenario_grammar::{Scenario, print};
 use std::alloc::{AllocError, Global};
 use std::fmt::{self, Write};
@@ -287,29 +288,10 @@ pub fn draws_nothing(settings: &CampaignSettings) -> bool
     settings.storms > 0 && settings.rate == 0
 }
 
-/// The verdict of the run without faults.
-fn clean_of(verdicts: &[Verdict]) -> Verdict
-    requires { 0 < length verdicts.now }
-    ensures { result ≡ slice_index_or verdicts.now 0 Unresolved }
-{
-    verdicts[0]
-}
-
 fn is_unresolved(verdict: Verdict) -> bool
     ensures { result ≡ is_unresolved verdict }
 {
     matches!(verdict, Verdict::Unresolved)
-}
-
-/// How many of these verdicts are unresolved.
-fn count_unresolved(verdicts: &[Verdict]) -> u32
-    requires { length verdicts.now < 2 ^ 32 }
-    ensures { result ≡ count_by is_unresolved verdicts.now }
-{
-    verdicts
-        .iter()
-        .filter(|verdict| matches!(verdict, Verdict::Unresolved))
-        .count() as u32
 }
 
 /// What makes the report of a campaign with these verdicts and this census say less than it seems to.
@@ -323,8 +305,8 @@ fn doubts_of(verdicts: &[Verdict], census: &[u32], settings: &CampaignSettings) 
     ensures unstormed { result.unstormed ≡ draws_nothing settings.now.plans }
 {
     Doubts {
-        clean: is_unresolved(clean_of(verdicts)),
-        unresolved: count_unresolved(verdicts),
+        clean: is_unresolved(verdicts[0]),
+        unresolved: unresolved(verdicts) as u32,
         plans: verdicts.len() as u32,
         unhit: is_unhit(census),
         unstormed: draws_nothing(settings),

@@ -18,8 +18,9 @@ use answered_runs::AnsweredRuns;
 use campaign_given::CampaignSettings;
 use campaign_plans::CampaignPlans;
 use grown_plans::GrownPlans;
-use known_runs::{KnownFault, Look, RunTable};
+use known_runs::{Look, RunTable};
 use outside_grown::{census, grown_lists, reached};
+use plan_gen::PlanFault;
 use scenario_values::{Scenario, build};
 use std::alloc::{AllocError, Global};
 use std::fmt::Write;
@@ -200,10 +201,10 @@ pub fn run_doubts(
     runs: &AnsweredRuns<'_>,
     settings: &CampaignSettings,
     depth: u32,
-) -> Result<String, KnownFault>
+) -> Result<String, PlanFault>
     requires { depth ≤ 64 }
     ensures ok { IfOk result (λ lines. string_bytes lines ≡ run_doubts runs.now.points runs.now.listed (told_in runs.now.book) depth settings.now) }
-    ensures many { IsErrOf result KnownFault.TooManyPlans → AreTooMany runs.now settings.now.plans (length (known_plans runs.now depth)) }
+    ensures many { IsErrOf result PlanFault.TooManyPlans → AreTooMany runs.now settings.now.plans (length (known_plans runs.now depth)) }
 {
     let lists = grown_lists(alloc, runs, depth, &settings.plan_settings())?;
     let grown = &lists.listed.known.plans;

@@ -6,7 +6,6 @@ ghost use Rattle.action_eval.specs.declared.rig.Rig.{Rig};
 ghost use Rattle.grown_plans.specs.GrownPlans.{Subject, rigs_of, grown};
 ghost use Rattle.grown_runs.specs.declared.input.Part.{Part};
 ghost use Rattle.grown_runs.specs.declared.input.Place.TheVariants.{Last};
-ghost use Rattle.grown_runs.specs.declared.levels.GrowFault.TheVariants.{Memory};
 ghost use Rattle.grown_plans.specs.AskedPoints.{AsksLikeParent};
 ghost use Rattle.grown_runs.specs.inside.Beginnings.{AskLikeParents};
 ghost use Rattle.grown_runs.specs.inside.Growths.{IsGrowth};
@@ -18,6 +17,7 @@ use crate::input::{Limits, Part, Place, Purpose};
 use crate::kept::Growth;
 use crate::parts::{Conditions, run_part};
 use grown_plans::{GrownPlans, each_target_is_a_lawful_subject};
+use plan_gen::PlanFault;
 use std::alloc::{AllocError, Global};
 use std::sync::Wait;
 use std::thread::Threads;
@@ -49,23 +49,6 @@ pub struct Grown {
     pub outcomes: Outcomes,
 }
 
-/// Why plans didn't grow to their depth.
-#[derive(Clone, Copy, Debug, PartialEq, Eq)]
-pub enum GrowFault {
-    /// There are more than there may be.
-    TooManyPlans,
-    /// Memory was refused.
-    Memory,
-}
-
-impl From<AllocError> for GrowFault {
-    ghost from_gives = { λ _ fault. fault ≡ Memory };
-
-    fn from(_: AllocError) -> Self {
-        GrowFault::Memory
-    }
-}
-
 impl Outcomes {
     /// Adds what the plans after these came to. An error means that memory was refused.
     fn note(&mut self, growth: &Growth) -> Result<(), AllocError>
@@ -83,14 +66,14 @@ impl Outcomes {
 }
 
 /// Whether so many plans more may be added.
-fn check_room(limits: Limits, plans: usize, more: usize) -> Result<(), GrowFault>
+fn check_room(limits: Limits, plans: usize, more: usize) -> Result<(), PlanFault>
     ensures ok { OnOk result (plans + more ≤ limits.most_plans) }
-    ensures many { IsErrOf result GrowFault.TooManyPlans → limits.most_plans < plans + more }
-    ensures no_other { IsErrOf result GrowFault.Memory → ⊥ }
+    ensures many { IsErrOf result PlanFault.TooManyPlans → limits.most_plans < plans + more }
+    ensures no_other { IsErrOf result PlanFault.Memory → ⊥ }
 {
     match (limits.most_plans as usize).checked_sub(plans) {
         Some(room) if more <= room => Ok(()),
-        _ => Err(GrowFault::TooManyPlans),
+        _ => Err(PlanFault::TooManyPlans),
     }
 }
 
@@ -108,7 +91,7 @@ fn add_level<T: Target + Send, G: Gate, R: Threads + Wait + Sync>(
     grown: &mut Grown,
     purpose: Purpose,
     last: usize,
-) -> Result<usize, GrowFault>
+) -> Result<usize, PlanFault>
 where
     T::Workload: Sync,
     requires last { last ≤ length grown.old.plans }
@@ -119,7 +102,7 @@ where
     ensures next { IfOk result (λ next. next ≡ length grown.old.plans) }
     ensures added { OnOk result (IsNextLevel (subject_in T.Target on.now) on.now.limits.seed purpose last grown.old grown.new) }
     ensures few { OnOk result (length grown.new.plans ≤ on.now.limits.most_plans) }
-    ensures many { IsErrOf result GrowFault.TooManyPlans → on.now.limits.most_plans < length grown.old.plans
+    ensures many { IsErrOf result PlanFault.TooManyPlans → on.now.limits.most_plans < length grown.old.plans
         + length (new_children (subject_in T.Target on.now) on.now.limits.seed grown.old.plans last) }
 {
     let end = grown.plans.len();
@@ -166,19 +149,19 @@ fn grow_levels<T: Target + Send, G: Gate, R: Threads + Wait + Sync>(
     on: &Conditions<'_, T, G, R>,
     purpose: Purpose,
     count: usize,
-) -> Result<(Grown, usize), GrowFault>
+) -> Result<(Grown, usize), PlanFault>
 where
     T::Workload: Sync,
     ensures levels { IfOk result (λ r. AreLevels (subject_in T.Target on.now) on.now.limits.seed purpose on.now.limits.depth count r.1 r.0) }
     ensures hits { on.now.limits.max_hits < 2 ^ 32 }
     ensures few { IfOk result (λ r. length r.0.plans ≤ on.now.limits.most_plans) }
-    ensures many { IsErrOf result GrowFault.TooManyPlans
+    ensures many { IsErrOf result PlanFault.TooManyPlans
         → on.now.limits.most_plans < length (begun (subject_in T.Target on.now) on.now.limits.depth count) }
 {
     each_target_is_a_lawful_subject::<T>();
     let limits = on.limits;
     if limits.most_plans == 0 {
-        return Err(GrowFault::TooManyPlans);
+        return Err(PlanFault::TooManyPlans);
     }
     let mut grown = first_level(on.alloc, T::catalogue().len())?;
     let mut last = 0;
@@ -197,7 +180,7 @@ fn add_onward<T: Target + Send, G: Gate, R: Threads + Wait + Sync>(
     plans: &mut GrownPlans,
     purpose: Purpose,
     last: usize,
-) -> Result<Growth, GrowFault>
+) -> Result<Growth, PlanFault>
 where
     T::Workload: Sync,
     requires last { last ≤ length plans.old }
@@ -208,7 +191,7 @@ where
         plans.old last (length plans.old - last) growth) }
     ensures added { OnOk result (plans.new ≡ plans.old ++ going_onward (subject_in T.Target on.now) on.now.limits.seed plans.old last) }
     ensures few { OnOk result (length plans.new ≤ on.now.limits.most_plans) }
-    ensures many { IsErrOf result GrowFault.TooManyPlans → on.now.limits.most_plans < length plans.old
+    ensures many { IsErrOf result PlanFault.TooManyPlans → on.now.limits.most_plans < length plans.old
         + length (going_onward (subject_in T.Target on.now) on.now.limits.seed plans.old last) }
 {
     let place = Place::Last;
@@ -225,7 +208,7 @@ fn run_onward<T: Target + Send, G: Gate, R: Threads + Wait + Sync>(
     on: &Conditions<'_, T, G, R>,
     grown: &mut Grown,
     last: usize,
-) -> Result<(), GrowFault>
+) -> Result<(), PlanFault>
 where
     T::Workload: Sync,
     requires last { last ≤ length grown.old.plans }
@@ -239,7 +222,7 @@ where
         (going_onward (subject_in T.Target on.now) on.now.limits.seed grown.old.plans last) }
     ensures added { OnOk result (HasOnward (subject_in T.Target on.now) on.now.limits.seed last grown.old grown.new) }
     ensures few { OnOk result (length grown.new.plans ≤ on.now.limits.most_plans) }
-    ensures many { IsErrOf result GrowFault.TooManyPlans → on.now.limits.most_plans < length grown.old.plans
+    ensures many { IsErrOf result PlanFault.TooManyPlans → on.now.limits.most_plans < length grown.old.plans
         + length (going_onward (subject_in T.Target on.now) on.now.limits.seed grown.old.plans last) }
 {
     let end = grown.plans.len();
@@ -265,12 +248,12 @@ where
 /// The plans are too many where a level, or those from then on, would make more than the limits say: none of these has been run then.
 pub fn grow<T: Target + Send, G: Gate, R: Threads + Wait + Sync>(
     on: &Conditions<'_, T, G, R>,
-) -> Result<Grown, GrowFault>
+) -> Result<Grown, PlanFault>
 where
     T::Workload: Sync,
     ensures grown { IfOk result (HasGrown (subject_in T.Target on.now) on.now.limits.seed on.now.limits.depth) }
     ensures few { OnOk result (length (grown (subject_in T.Target on.now) on.now.limits.depth) ≤ on.now.limits.most_plans) }
-    ensures many { IsErrOf result GrowFault.TooManyPlans
+    ensures many { IsErrOf result PlanFault.TooManyPlans
         → on.now.limits.most_plans < length (grown (subject_in T.Target on.now) on.now.limits.depth) }
 {
     each_target_is_a_lawful_subject::<T>();
@@ -286,12 +269,12 @@ where
 pub fn grow_list<T: Target + Send, G: Gate, R: Threads + Wait + Sync>(
     on: &Conditions<'_, T, G, R>,
     count: usize,
-) -> Result<GrownPlans, GrowFault>
+) -> Result<GrownPlans, PlanFault>
 where
     T::Workload: Sync,
     ensures begun { IfOk result (λ plans. plans ≡ begun (subject_in T.Target on.now) on.now.limits.depth count) }
     ensures few { OnOk result (length (begun (subject_in T.Target on.now) on.now.limits.depth count) ≤ on.now.limits.most_plans) }
-    ensures many { IsErrOf result GrowFault.TooManyPlans
+    ensures many { IsErrOf result PlanFault.TooManyPlans
         → on.now.limits.most_plans < length (begun (subject_in T.Target on.now) on.now.limits.depth count) }
 {
     each_target_is_a_lawful_subject::<T>();

@@ -11,5 +11,5 @@ mod levels;
 mod parts;
 
 pub use input::Limits;
-pub use levels::{GrowFault, Grown, grow, grow_list};
+pub use levels::{Grown, grow, grow_list};
 pub use parts::Conditions;

@@ -1,7 +1,8 @@
 //! How a target's plans grow, and what is wanted of that.
 ghost use Rattle.std.specs.Prelude.{◌≤◌};
 
-use grown_runs::{Conditions, GrowFault, Grown, Limits, grow};
+use grown_runs::{Conditions, Grown, Limits, grow};
+use plan_gen::PlanFault;
 use std::alloc::Global;
 use std::process::Abort;
 use std::sync::Wait;
@@ -17,7 +18,7 @@ pub fn grown_on<T: Target + Send, R: Threads + Wait + Sync>(
     target: &T,
     workload: &T::Workload,
     limits: Limits,
-) -> Result<Grown, GrowFault>
+) -> Result<Grown, PlanFault>
 where
     T::Workload: Sync,
 {

@@ -4,7 +4,8 @@
 use crate::commits::one_transaction;
 use crate::growing::to_depth;
 use commit_target::{Commit, Variant};
-use grown_runs::{Conditions, GrowFault, Limits, grow, grow_list};
+use grown_runs::{Conditions, Limits, grow, grow_list};
+use plan_gen::PlanFault;
 use std::alloc::Global;
 use std::process::Abort;
 use std::sync::Wait;
@@ -21,7 +22,7 @@ fn listed<R: Threads + Wait + Sync>(
     alloc: Global,
     limits: Limits,
     count: usize,
-) -> Result<(Result<usize, GrowFault>, Arrivals), Fail> {
+) -> Result<(Result<usize, PlanFault>, Arrivals), Fail> {
     let workload = one_transaction(alloc)?;
     let target = Commit::new(alloc, Variant::TwoTries);
     let gate = Arrivals::new(alloc, PLANS)?;
@@ -74,7 +75,7 @@ fn a_level_that_is_not_needed_may_be_too_large(rt: HostRuntime) -> Result<(), Fa
     for (count, plans, runs) in [
         (1, Ok(1), 0),
         (27, Ok(27), 1),
-        (28, Err(GrowFault::TooManyPlans), 27),
+        (28, Err(PlanFault::TooManyPlans), 27),
     ] {
         let (listed, gate) = listed(&rt, rt.alloc(), limits, count)?;
         assert_eq!(&rt; listed, plans);

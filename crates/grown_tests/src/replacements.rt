@@ -3,7 +3,8 @@ ghost use Rattle.std.specs.Prelude.{◌≤◌};
 
 use crate::growing::{Wanted, first_with, grown_on, have_grown, to_depth};
 use file_replace::{Replace, TORN, Variant};
-use grown_runs::{GrowFault, Grown, Limits};
+use grown_runs::{Grown, Limits};
+use plan_gen::PlanFault;
 use std::alloc::Global;
 use std::process::Abort;
 use std::sync::Wait;
@@ -17,7 +18,7 @@ fn grown_by<R: Threads + Wait + Sync>(
     alloc: Global,
     variant: Variant,
     limits: Limits,
-) -> Result<Result<Grown, GrowFault>, Fail> {
+) -> Result<Result<Grown, PlanFault>, Fail> {
     let workload = small_workload(alloc)?;
     let target = Replace::new(alloc, variant);
     Ok(grown_on(rt, alloc, &target, &workload, limits))
@@ -120,6 +121,6 @@ fn a_level_that_is_too_large_is_refused(rt: HostRuntime) -> Result<(), Fail> {
     assert!(&rt; fits.is_ok());
     limits.most_plans = 20;
     let over = grown_by(&rt, alloc, Variant::Sound, limits)?;
-    assert_eq!(&rt; over.err(), Some(GrowFault::TooManyPlans));
+    assert_eq!(&rt; over.err(), Some(PlanFault::TooManyPlans));
     Ok(())
 }

@@ -8,31 +8,14 @@ ghost use Rattle.grown_plans.specs.Promises.{IsLawful};
 ghost use Rattle.known_runs.specs.Known.{Agrees};
 ghost use Rattle.known_runs.specs.KnownPlans.{AreKnown};
 ghost use Rattle.known_runs.specs.ToldPart.{levels_known, part_known};
-ghost use Rattle.known_runs.specs.declared.growing.KnownFault.TheVariants.{Memory};
 ghost use Rattle.known_runs.specs.inside.Grown.{again_known, kept_known, kept_over, onward_known, onward_over};
 ghost use Rattle.known_runs.specs.inside.GrownLevels.{AreLevels, HasOnward};
 
 use crate::table::{Look, RunTable};
 use action_eval::Rig;
 use grown_plans::{Child, GrownPlans, Kinds, add_children};
+use plan_gen::PlanFault;
 use std::alloc::{AllocError, Global};
-
-/// Why there is no list of plans.
-#[derive(Clone, Copy, Debug, PartialEq, Eq)]
-pub enum KnownFault {
-    /// There are more than there may be.
-    TooManyPlans,
-    /// Memory was refused.
-    Memory,
-}
-
-impl From<AllocError> for KnownFault {
-    ghost from_gives = { λ _ fault. fault ≡ Memory };
-
-    fn from(_: AllocError) -> Self {
-        KnownFault::Memory
-    }
-}
 
 /// The lists that a look into a table needs.
 #[derive(Drop)]
@@ -99,13 +82,13 @@ fn children_from<T: RunTable>(
 }
 
 /// Whether so many plans more may be added.
-fn check_room(most: usize, plans: usize, more: usize) -> Result<(), KnownFault>
+fn check_room(most: usize, plans: usize, more: usize) -> Result<(), PlanFault>
     ensures ok { OnOk result (plans + more ≤ most) }
-    ensures many { IsErrOf result KnownFault.TooManyPlans → most < plans + more }
+    ensures many { IsErrOf result PlanFault.TooManyPlans → most < plans + more }
 {
     match most.checked_sub(plans) {
         Some(room) if more <= room => Ok(()),
-        _ => Err(KnownFault::TooManyPlans),
+        _ => Err(PlanFault::TooManyPlans),
     }
 }
 
@@ -117,14 +100,14 @@ fn add_level<T: RunTable>(
     plans: &mut GrownPlans,
     last: usize,
     most: usize,
-) -> Result<usize, KnownFault>
+) -> Result<usize, PlanFault>
     requires last { last ≤ length plans.old }
     requires few { length plans.old ≤ 65536 }
     ensures next { IfOk result (λ next. next ≡ length plans.old) }
     ensures added { OnOk result (plans.new
         ≡ plans.old ++ map (plan_of plans.old) (kept_over (kinds_at kinds.now) (T.known table.now) plans.old last (length plans.old - last))) }
     ensures few { OnOk result (length plans.new ≤ most) }
-    ensures many { IsErrOf result KnownFault.TooManyPlans
+    ensures many { IsErrOf result PlanFault.TooManyPlans
         → most < length plans.old + length (kept_over (kinds_at kinds.now) (T.known table.now) plans.old last (length plans.old - last)) }
 {
     let end = plans.len();
@@ -231,12 +214,12 @@ fn grow_levels<T: RunTable>(
     kinds: &Kinds<'_>,
     depth: u32,
     most: usize,
-) -> Result<Levels, KnownFault>
+) -> Result<Levels, PlanFault>
     requires some { 0 < most }
     requires few { most ≤ 65536 }
     ensures levels { IfOk result (AreLevels (kinds_at kinds.now) (T.known table.now) depth) }
     ensures few { IfOk result (λ levels. length levels.plans ≤ most) }
-    ensures many { IsErrOf result KnownFault.TooManyPlans → most < length (levels_known (kinds_at kinds.now) (T.known table.now) depth) }
+    ensures many { IsErrOf result PlanFault.TooManyPlans → most < length (levels_known (kinds_at kinds.now) (T.known table.now) depth) }
 {
     let mut plans = GrownPlans::new(alloc);
     let mut sizes = Vec::new(alloc);
@@ -270,13 +253,13 @@ fn with_onward<T: RunTable>(
     levels: Levels,
     beyond: u64,
     most: usize,
-) -> Result<KnownPlans, KnownFault>
+) -> Result<KnownPlans, PlanFault>
     requires last { levels.last ≤ length levels.plans }
     requires plans { length levels.plans ≤ 65536 }
     requires most { most ≤ 65536 }
     ensures added { IfOk result (HasOnward (T.known table.now) levels beyond) }
     ensures few { IfOk result (λ known. length known.plans ≤ most) }
-    ensures many { IsErrOf result KnownFault.TooManyPlans
+    ensures many { IsErrOf result PlanFault.TooManyPlans
         → most < length levels.plans + length (onward_over (T.known table.now) levels.plans levels.last (length levels.plans - levels.last)) }
 {
     let Levels { plans, sizes, last } = levels;
@@ -303,17 +286,17 @@ pub fn known_plans<T: RunTable>(
     kinds: &Kinds<'_>,
     depth: u32,
     most: usize,
-) -> Result<KnownPlans, KnownFault>
+) -> Result<KnownPlans, PlanFault>
     requires { most ≤ 65536 }
     ensures known { IfOk result (λ known. (t : Subject) → IsLawful t → t.kinds ≡ kinds_at kinds.now → Agrees t depth (T.known table.now)
         → AreKnown t depth (T.known table.now) known) }
     ensures grown { IfOk result (λ known. known.plans ≡ part_known (kinds_at kinds.now) (T.known table.now) depth) }
     ensures short { IfOk result (λ known. AllByRecursion (λ plan. length plan ≤ depth) known.plans) }
     ensures few { IfOk result (λ known. length known.plans ≤ most) }
-    ensures many { IsErrOf result KnownFault.TooManyPlans → most < length (part_known (kinds_at kinds.now) (T.known table.now) depth) }
+    ensures many { IsErrOf result PlanFault.TooManyPlans → most < length (part_known (kinds_at kinds.now) (T.known table.now) depth) }
 {
     if most == 0 {
-        return Err(KnownFault::TooManyPlans);
+        return Err(PlanFault::TooManyPlans);
     }
     let levels = grow_levels(alloc, table, kinds, depth, most)?;
     let beyond = count_children(alloc, table, kinds, &levels.plans, levels.last)?;

@@ -18,8 +18,8 @@ use action_eval::Rig;
 use answered_runs::{AnsweredRuns, plan_scenario};
 use asked_lines::AskedLines;
 use grown_plans::GrownPlans;
-use known_runs::{KnownFault, Look, RunTable, Workspace};
-use plan_gen::{Plan, PlanList, PlanSettings};
+use known_runs::{Look, RunTable, Workspace};
+use plan_gen::{Plan, PlanFault, PlanList, PlanSettings};
 use scenario_values::{Scenario, tidy};
 use std::alloc::{AllocError, Global};
 
@@ -118,14 +118,14 @@ pub fn asks(
     runs: &AnsweredRuns<'_>,
     depth: u32,
     settings: &PlanSettings<'_>,
-) -> Result<AskedLines, KnownFault>
+) -> Result<AskedLines, PlanFault>
     requires { depth ≤ 64 }
     ensures lines { IfOk result (λ lines. lines ≡ lines_for (to_try runs.now depth settings.now)) }
     ensures once { IfOk result (λ lines. AreApart lines) }
     // For every component that agrees with the answers.
     ensures asked { IfOk result (λ lines. (t : Subject) → IsComponent runs.now.points runs.now.listed t → AgreesWithRuns t (told_in runs.now.book)
         → IsAskedOf t runs.now depth settings.now lines) }
-    ensures many { IsErrOf result KnownFault.TooManyPlans → AreTooMany runs.now settings.now (length (known_plans runs.now depth)) }
+    ensures many { IsErrOf result PlanFault.TooManyPlans → AreTooMany runs.now settings.now (length (known_plans runs.now depth)) }
 {
     let known = runs.known_plans(alloc, depth, MOST_PLANS)?;
     let further = further_plans(alloc, runs, settings, known.plans.len())?;

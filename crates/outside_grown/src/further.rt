@@ -10,7 +10,7 @@ ghost use Rattle.answered_runs.specs.Components.{AgreesWithRuns, IsComponent};
 ghost use Rattle.outside_grown.specs.Further.{AreTooMany, HasFewHits, census_told, clean_hits, clean_run, further_known, further_told};
 
 use answered_runs::AnsweredRuns;
-use known_runs::{KnownFault, Look, RunTable};
+use known_runs::{Look, RunTable};
 use plan_gen::{Census, PlanFault, PlanList, PlanSettings, counts_of};
 use scenario_values::Scenario;
 use std::alloc::{AllocError, Global};
@@ -54,26 +54,22 @@ fn plans_over<'a>(
     hits: &[u32],
     settings: &PlanSettings<'a>,
     before: usize,
-) -> Result<PlanList<'a>, KnownFault>
+) -> Result<PlanList<'a>, PlanFault>
     requires lawful { IsCatalogue (texts points.now) }
     ensures over { IfOk result (λ plans. plans ≡ further_list (texts points.now) (counts_of (length points.now) hits.now) settings.now) }
     ensures few { OnOk result (before + length (further_list (texts points.now) (counts_of (length points.now) hits.now) settings.now) ≤ most_plans) }
     ensures low { OnOk result (length hits.now < most_plans) }
-    ensures many { IsErrOf result KnownFault.TooManyPlans
+    ensures many { IsErrOf result PlanFault.TooManyPlans
         → (most_plans < before + length (further_list (texts points.now) (counts_of (length points.now) hits.now) settings.now))
         ⊎ (most_plans ≤ length hits.now) }
 {
     // a census of fewer hits has fewer sites than a list may have plans
     if hits.len() >= MOST_PLANS {
-        return Err(KnownFault::TooManyPlans);
+        return Err(PlanFault::TooManyPlans);
     }
     let counts = counts_of(alloc, points.len() as u32, hits)?;
     let census = Census { counts };
-    match plan_gen::further_plans(alloc, &census, points, settings, before) {
-        Ok(plans) => Ok(plans),
-        Err(PlanFault::TooManyPlans) => Err(KnownFault::TooManyPlans),
-        Err(PlanFault::Memory) => Err(KnownFault::Memory),
-    }
+    plan_gen::further_plans(alloc, &census, points, settings, before)
 }
 
 /// These scenarios alone, behind so many plans.
@@ -82,11 +78,11 @@ fn listed_alone<'a>(
     points: &'a [&'a str],
     listed: &'a [Scenario],
     before: usize,
-) -> Result<PlanList<'a>, KnownFault>
+) -> Result<PlanList<'a>, PlanFault>
     requires lawful { IsCatalogue (texts points.now) }
     ensures listed { IfOk result (λ plans. plans ≡ listed.now) }
     ensures few { OnOk result (before + length listed.now ≤ most_plans) }
-    ensures many { IsErrOf result KnownFault.TooManyPlans → most_plans < before + length listed.now }
+    ensures many { IsErrOf result PlanFault.TooManyPlans → most_plans < before + length listed.now }
 {
     let settings = PlanSettings {
         pairs: false,
@@ -108,11 +104,11 @@ pub fn further_plans<'a>(
     runs: &AnsweredRuns<'a>,
     settings: &PlanSettings<'a>,
     before: usize,
-) -> Result<PlanList<'a>, KnownFault>
+) -> Result<PlanList<'a>, PlanFault>
     ensures told { IfOk result (λ plans. plans ≡ further_told runs.now settings.now) }
     ensures few { OnOk result (before + length (further_told runs.now settings.now) ≤ most_plans) }
     ensures clean { OnOk result (HasFewHits runs.now) }
-    ensures many { IsErrOf result KnownFault.TooManyPlans → AreTooMany runs.now settings.now before }
+    ensures many { IsErrOf result PlanFault.TooManyPlans → AreTooMany runs.now settings.now before }
     // For every component that agrees with the answers.
     ensures known { IfOk result (λ plans. (t : Subject) → IsComponent runs.now.points runs.now.listed t → AgreesWithRuns t (told_in runs.now.book)
         → plans ≡ further_known t settings.now (clean_run runs.now)) }

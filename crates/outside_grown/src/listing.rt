@@ -13,8 +13,7 @@ ghost use Rattle.outside_grown.specs.Lists.{AreListsOf};
 
 use crate::further::{MOST_PLANS, further_plans};
 use answered_runs::{AnsweredRuns, Listed, listed_plans};
-use known_runs::KnownFault;
-use plan_gen::{PlanList, PlanSettings};
+use plan_gen::{PlanFault, PlanList, PlanSettings};
 use std::alloc::Global;
 
 /// The plans of a campaign with a depth, by what answers tell of their runs.
@@ -37,7 +36,7 @@ pub fn grown_lists<'a>(
     runs: &AnsweredRuns<'a>,
     depth: u32,
     settings: &PlanSettings<'a>,
-) -> Result<GrownLists<'a>, KnownFault>
+) -> Result<GrownLists<'a>, PlanFault>
     requires { depth ≤ 64 }
     ensures grown { IfOk result (λ lists. lists.listed.known.plans ≡ known_plans runs.now depth) }
     ensures further { IfOk result (λ lists. lists.further ≡ further_told runs.now settings.now) }
@@ -50,7 +49,7 @@ pub fn grown_lists<'a>(
     // For every component that agrees with the answers.
     ensures whole { IfOk result (λ lists. (t : Subject) → IsComponent runs.now.points runs.now.listed t → AgreesWithRuns t (told_in runs.now.book)
         → AreListsOf t depth settings.now runs.now lists) }
-    ensures many { IsErrOf result KnownFault.TooManyPlans → AreTooMany runs.now settings.now (length (known_plans runs.now depth)) }
+    ensures many { IsErrOf result PlanFault.TooManyPlans → AreTooMany runs.now settings.now (length (known_plans runs.now depth)) }
 {
     let listed = listed_plans(alloc, runs, depth, MOST_PLANS)?;
     let further = further_plans(alloc, runs, settings, listed.known.plans.len())?;

@@ -2,6 +2,7 @@
 ghost use Rattle.std.specs.Prelude.{◌≡◌, ◌≤◌, ◌<◌, ◌+◌, ◌*◌, [], length, slice_index_or, IfOk, OnOk, IsErrOf};
 ghost use Rattle.action_eval.specs.Answers.{texts};
 ghost use Rattle.action_eval.specs.Catalogue.{IsCatalogue};
+ghost use Rattle.plan_gen.specs.declared.list.PlanFault.TheVariants.{Memory};
 ghost use Rattle.plan_gen.specs.inside.Counts.{total_of};
 ghost use Rattle.plan_gen.specs.PlanList.{most_plans, plan_list};
 ghost use Rattle.plan_gen.specs.inside.Drawn.{plans_of, sources_of};
@@ -26,6 +27,14 @@ pub enum PlanFault {
     TooManyPlans,
     /// Memory was refused.
     Memory,
+}
+
+impl From<AllocError> for PlanFault {
+    ghost from_gives = { λ _ fault. fault ≡ Memory };
+
+    fn from(_: AllocError) -> Self {
+        PlanFault::Memory
+    }
 }
 
 /// A list of plans, at most 65536. A plan's number is its place in it, from 0. Contracts see the list of their scenarios.
