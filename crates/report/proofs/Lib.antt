@@ -1,4 +1,3 @@
 mod WritingLemmas
 pub mod Written
 pub mod ReportedLines
-mod Tens

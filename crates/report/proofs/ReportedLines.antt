@@ -16,36 +16,6 @@ pub lines_on : (old new whole : List ℕ) (lines rest : List (List ℕ)) → new
 lines_on old new whole lines rest added h =
     goes_on old new (text_of lines) (text_of rest) whole (ap (λ (t : List ℕ). old ++ t) (sym (flat_map-append ended lines rest)) ∙ h) added
 
-verdict_lines-append : (code_name : ℕ → List ℕ) (n : ℕ) (vs more : List Verdict)
-    → verdict_lines code_name n (vs ++ more) ≡ verdict_lines code_name n vs ++ verdict_lines code_name (n + length vs) more
-verdict_lines-append code_name n [] more = ap (λ k. verdict_lines code_name k more) (omega arith)
-verdict_lines-append code_name n (v ∷ vs) more =
-    let at : n + 1 + length vs ≡ n + length (v ∷ vs) = omega arith in
-    ap (λ ls. verdict_line code_name (n, v) ∷ ls) (verdict_lines-append code_name (n + 1) vs more
-    ∙ ap (λ k. verdict_lines code_name (n + 1) vs ++ verdict_lines code_name k more) at)
-
--- the lines of the next ten verdicts are written
-pub ten_on : (code_name : ℕ → List ℕ) (old new whole : List ℕ) (ten : ℕ) (vs : List Verdict) → 10 * ten + 10 ≤ length vs
-    → new ≡ old ++ text_of (verdict_lines code_name (10 * ten) (between (10 * ten) (10 * ten + 10) vs))
-    → old ++ text_of (verdict_lines code_name (10 * ten) (drop (10 * ten) vs)) ≡ whole
-    → new ++ text_of (verdict_lines code_name (10 * (ten + 1)) (drop (10 * (ten + 1)) vs)) ≡ whole
-ten_on code_name old new whole ten vs within added h =
-    let n = 10 * ten in
-    let rest : List Verdict = drop (10 * (ten + 1)) vs in
-    let own : List Verdict = between n (n + 10) vs in
-    let size : n + 10 - n ≡ 10 = omega arith in
-    let is : own ≡ take 10 (drop n vs) = ap (λ k. take k (drop n vs)) size in
-    let long : 10 ≤ length (drop n vs) = simp length-drop (omega (arith, within)) in
-    let len : length own ≡ 10 = ap length is ∙ length-take-le 10 (drop n vs) long in
-    let at : n + length own ≡ 10 * (ten + 1) = omega (arith, len) in
-    let after : n + 10 ≡ 10 * (ten + 1) = omega arith in
-    let parts : drop n vs ≡ own ++ rest =
-    sym (take-append-drop 10 (drop n vs)) ∙ ap (λ l. l ++ drop 10 (drop n vs)) (sym is)
-    ∙ ap (λ l. own ++ l) (drop-drop 10 n vs ∙ ap (λ k. drop k vs) after) in
-    lines_on old new whole (verdict_lines code_name n own) (verdict_lines code_name (10 * (ten + 1)) rest) added
-    (ap (λ ls. old ++ text_of ls) (sym (ap (verdict_lines code_name n) parts ∙ verdict_lines-append code_name n own rest
-    ∙ ap (λ k. verdict_lines code_name n own ++ verdict_lines code_name k rest) at)) ∙ h)
-
 -- the line of a verdict is written, or none
 pub told_next : (code_name : ℕ → List ℕ) (old new whole : List ℕ) (n : ℕ) (v : Verdict) (plan : Entries) (verdicts vs : List Verdict) (plans ps : List Entries)
     → verdicts ≡ v ∷ vs → plans ≡ plan ∷ ps → new ≡ old ++ text_of (reported_line_of code_name n v plan)

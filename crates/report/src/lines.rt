@@ -1,10 +1,7 @@
 //! The lines of a report.
-ghost use Rattle.std.specs.Prelude.{◌≡◌, ◌+◌, ◌-◌, ◌*◌, ◌%◌, ◌^◌, ◌<◌, ◌++◌, ◌∷◌, [], length, string_bytes, codes, IfOk, IfSome, OnOk, OnErr};
+ghost use Rattle.std.specs.Prelude.{◌≡◌, ◌++◌, ◌∷◌, [], length, string_bytes, codes, IfOk, IfSome, OnOk, OnErr};
 ghost use Rattle.std.specs.Fmt.{decimal};
-ghost use Rattle.std.specs.List.{list_all};
 ghost use Rattle.report.specs.ReportText.{verdict_text, scenario_text, head_lines, point_line, point_lines, growth_lines, nonzero_lines, count_line};
-ghost use Rattle.target_trait.specs.Verdicts.{is_pass};
-ghost use Rattle.report.specs.inside.Tens.{tens_of, ten_passed};
 ghost use Rattle.report.specs.ReportText.{verdict_line, verdict_lines, finding_lines, findings_lines, causes_lines, report_lines, ended, text_of};
 
 use crate::facts::{Finding, Report};
@@ -61,140 +58,35 @@ pub(crate) fn write_points<N: Names>(
     Ok(())
 }
 
-/// The tens of a number, as its line has them: nothing where there are none.
-fn tens_of(digits: &mut Buffer, ten: usize) -> &str
-    ensures { result.now ≡ tens_of ten }
-{
-    if ten == 0 {
-        return "";
-    }
-    digits.format(ten)
-}
-
-/// The lines of ten plans that pass, numbered from ten times `ten` on.
-fn begin_ten(lines: &mut Vec<u8>, ten: usize) -> Result<(), AllocError>
-    ensures { OnOk result (lines.new.items ≡ ten_passed ten) }
-{
-    lines.clear();
-    let mut digits = Buffer::new();
-    let tens = tens_of(&mut digits, ten);
-    for digit in b"0123456789" {
-        lines.extend_from_slice(b"verdict ")?;
-        lines.extend_from_slice(tens.as_bytes())?;
-        lines.push(*digit)?;
-        lines.extend_from_slice(b" pass\n")?;
-    }
-    Ok(())
-}
-
-/// The lines of the ten plans after these, which differ in one digit each: the last of the tens, eight bytes before a line's end.
-fn next_ten(lines: &mut Vec<u8>, ten: usize)
-    requires before { lines.old.items ≡ ten_passed (ten - 1) }
-    requires more { 1 < ten }
-    requires digit { 0 < ten % 10 }
-    ensures { lines.new.items ≡ ten_passed ten }
-{
-    let len = lines.len() / 10;
-    let digit = b'0' + (ten % 10) as u8;
-    for line in 0..10 {
-        lines[line * len + (len - 8)] = digit;
-    }
-}
-
-/// The lines of ten plans that pass, where `lines` has those of the ten before. Nine times in ten that takes but ten bytes.
-fn turn_ten(lines: &mut Vec<u8>, ten: usize) -> Result<(), AllocError>
-    requires { 0 < ten → lines.old.items ≡ ten_passed (ten - 1) }
-    ensures { OnOk result (lines.new.items ≡ ten_passed ten) }
-{
-    if ten <= 1 || ten % 10 == 0 {
-        return begin_ten(lines, ten);
-    }
-    next_ten(lines, ten);
-    Ok(())
-}
-
-/// The line of a plan, made in a text that is kept: so the lines of many plans that fail take no memory each.
+/// The line of a plan.
 fn write_numbered<N: Names>(
-    out: &mut Vec<u8>,
-    line: &mut String,
+    out: &mut String,
     names: &N,
     number: usize,
     verdict: Verdict,
 ) -> Result<(), AllocError>
-    ensures { OnOk result (out.new.items ≡ out.old.items ++ ended (verdict_line (N.code_text names.now) (number, verdict))) }
+    ensures { OnOk result (string_bytes out.new ≡ string_bytes out.old ++ ended (verdict_line (N.code_text names.now) (number, verdict))) }
 {
     let mut digits = Buffer::new();
-    line.clear();
-    line.push_str("verdict ")?;
-    line.push_str(digits.format(number))?;
-    line.push_str(" ")?;
-    write_verdict(line, names, verdict)?;
-    line.push_str("\n")?;
-    out.extend_from_slice(line.as_bytes())
+    out.push_str("verdict ")?;
+    out.push_str(digits.format(number))?;
+    out.push_str(" ")?;
+    write_verdict(out, names, verdict)?;
+    out.push_str("\n")
 }
 
-/// A line for each plan, of plans numbered from `first` on.
-fn write_each<N: Names>(
-    out: &mut Vec<u8>,
-    line: &mut String,
+/// A line for each plan.
+fn write_verdicts<N: Names>(
+    out: &mut String,
     names: &N,
-    first: usize,
     verdicts: &[Verdict],
 ) -> Result<(), AllocError>
-    requires { first + length verdicts.now < 2 ^ 64 }
-    ensures { OnOk result (out.new.items ≡ out.old.items ++ text_of (verdict_lines (N.code_text names.now) first verdicts.now)) }
+    ensures { OnOk result (string_bytes out.new ≡ string_bytes out.old ++ text_of (verdict_lines (N.code_text names.now) 0 verdicts.now)) }
 {
-    for (place, verdict) in verdicts.iter().enumerate() {
-        write_numbered(out, line, names, first + place, *verdict)?;
+    for (number, verdict) in verdicts.iter().enumerate() {
+        write_numbered(out, names, number, *verdict)?;
     }
     Ok(())
-}
-
-fn all_pass(verdicts: &[Verdict]) -> bool
-    ensures { result ≡ list_all is_pass verdicts.now }
-{
-    verdicts
-        .iter()
-        .all(|verdict| matches!(verdict, Verdict::Pass))
-}
-
-/// A line for each of ten plans. Most plans pass: where all ten do, their lines are one piece, `passed`.
-fn write_ten<N: Names>(
-    out: &mut Vec<u8>,
-    line: &mut String,
-    names: &N,
-    passed: &[u8],
-    ten: usize,
-    verdicts: &[Verdict],
-) -> Result<(), AllocError>
-    requires passed { passed.now ≡ ten_passed ten }
-    requires count { length verdicts.now ≡ 10 }
-    requires fits { 10 * ten + 10 < 2 ^ 64 }
-    ensures { OnOk result (out.new.items ≡ out.old.items ++ text_of (verdict_lines (N.code_text names.now) (10 * ten) verdicts.now)) }
-{
-    if all_pass(verdicts) {
-        return out.extend_from_slice(passed);
-    }
-    write_each(out, line, names, 10 * ten, verdicts)
-}
-
-fn write_verdicts<N: Names>(
-    alloc: Global,
-    out: &mut Vec<u8>,
-    names: &N,
-    verdicts: &[Verdict],
-) -> Result<(), AllocError>
-    ensures { OnOk result (out.new.items ≡ out.old.items ++ text_of (verdict_lines (N.code_text names.now) 0 verdicts.now)) }
-{
-    let mut passed = Vec::new(alloc);
-    let mut line = String::new(alloc);
-    let tens = verdicts.len() / 10;
-    for ten in 0..tens {
-        turn_ten(&mut passed, ten)?;
-        let own = &verdicts[10 * ten..10 * ten + 10];
-        write_ten(out, &mut line, names, &passed, ten, own)?;
-    }
-    write_each(out, &mut line, names, 10 * tens, &verdicts[10 * tens..])
 }
 
 /// Appends a scenario as reports say it: its printed form, or `none` where it has no entry.
@@ -321,10 +213,7 @@ pub fn text<N: Names>(alloc: Global, names: &N, report: &Report<'_>) -> Result<V
 {
     let mut out = String::with_capacity(alloc, room(report))?;
     write_front(&mut out, names, report)?;
-    let mut text = out.into_bytes();
-    write_verdicts(alloc, &mut text, names, report.verdicts)?;
-    let mut end = String::new(alloc);
-    write_end(alloc, &mut end, names, report)?;
-    text.extend_from_slice(end.as_bytes())?;
-    Ok(text)
+    write_verdicts(&mut out, names, report.verdicts)?;
+    write_end(alloc, &mut out, names, report)?;
+    Ok(out.into_bytes())
 }

@@ -28,13 +28,9 @@ returns g c =
     let fronted =
     lines_on (string_bytes c.in_ok-out.out) (string_bytes c.write_front.new.out) whole (front r) (each ++ end r)
     (c.in_ok-write_front.ensures ∙ ap (λ (r : ReportFacts). string_bytes c.in_ok-out.out ++ text_of (front r)) (sym c.report.view_is)) begun in
-    let told =
-    lines_on (string_bytes c.write_front.new.out) c.write_verdicts.new.out.items whole each (end r)
-    (c.in_ok-write_verdicts.ensures ∙ ap (λ (v : Vec ℕ Global). v.items ++ text_of each) c.into_bytes-text.ensures.value) fronted in
-    let ended : string_bytes c.write_end.new.out ≡ text_of (end r) =
-    c.in_ok-write_end.ensures ∙ ap (λ (s : List ℕ). s ++ text_of (end c.args.report.now)) c.new-end.ensures.bytes
-    ∙ ap (λ (r : ReportFacts). text_of (end r)) (sym c.report.view_is) in
-    c.in_ok-extend_from_slice.ensures.items ∙ ap (λ (t : List ℕ). c.write_verdicts.new.out.items ++ t) (c.as_bytes.ensures.value ∙ ended) ∙ told
+    let told = lines_on (string_bytes c.write_front.new.out) (string_bytes c.write_verdicts.new.out) whole each (end r) c.in_ok-write_verdicts.ensures fronted in
+    ap (λ (v : Vec ℕ Global). v.items) c.into_bytes.ensures.value ∙ c.in_ok-write_end.ensures
+    ∙ ap (λ (r : ReportFacts). string_bytes c.write_verdicts.new.out ++ text_of (end r)) (sym c.report.view_is) ∙ told
     ∙ ap (λ (lines : List (List ℕ)). text_of lines)
     (joined_whole (head_lines name r) (point_lines (codes "census") points r.census) (growth_lines points r.growth) each
     (nonzero_lines (codes "unmet") r.unmet) (findings_lines name r.findings) (causes_lines name r.growth) (count_line r.verdicts))
