@@ -1,10 +1,14 @@
 //! What is looked for in a target that isn't proved.
-ghost use Rattle.std.specs.Prelude.{◌≡◌, None, IfOk};
+ghost use Rattle.std.specs.Prelude.{◌≡◌, ◌≤◌, None, IfOk, length};
 
 use example_target::{Amount, Transfer};
 use result_book::RunInput;
 use std::alloc::{AllocError, Global};
-use target_laws::{BrokenLaw, ChangedVerdict, broken_law, changed_verdict};
+use target_laws::{
+    BrokenLaw, CampaignCases, ChangedVerdict, broken_law, changed_verdict, first_broken_law,
+    first_changed_verdict,
+};
+use target_trait::Verdict;
 
 /// A law that a run breaks.
 pub fn law_that_a_transfer_breaks(
@@ -26,4 +30,26 @@ pub fn plan_that_says_otherwise(
     ensures { IfOk result (λ changed. changed ≡ None) }
 {
     changed_verdict(alloc, transfer, input, &[])
+}
+
+/// The same of a transfer as a candidate, of which nothing is known but its runs.
+pub fn law_that_a_candidate_breaks(
+    alloc: Global,
+    transfer: &mut Transfer,
+    amount: &Amount,
+) -> Result<Option<BrokenLaw>, AllocError> {
+    first_broken_law(alloc, transfer, amount, 0, 10)
+}
+
+/// And of a plan's second run.
+pub fn plan_that_a_candidate_changes(
+    alloc: Global,
+    transfer: &mut Transfer,
+    amount: &Amount,
+    cases: CampaignCases<'_>,
+    verdicts: &[Verdict],
+) -> Result<Option<ChangedVerdict>, AllocError>
+    requires { length verdicts.now ≤ length cases.plans.now }
+{
+    first_changed_verdict(alloc, transfer, amount, cases, verdicts)
 }

@@ -1,2 +1,4 @@
+pub mod Candidates
+pub mod Rechecked
 pub mod Names
 pub mod NamesAt

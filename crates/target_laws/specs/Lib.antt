@@ -1,1 +1,3 @@
+pub mod Candidates
+pub mod Rechecked
 pub mod inside

@@ -1,12 +1,14 @@
 //! Which law a target breaks.
-ghost use Rattle.std.specs.Prelude.{◌≡◌, false, None, IfOk};
+ghost use Rattle.std.specs.Prelude.{◌≡◌, None, IfOk};
+ghost use Rattle.target_laws.specs.Candidates.{IsSeenIn};
 
+use crate::candidate::Candidate;
 use crate::catalogue::{CatalogueFault, catalogue_fault};
-use crate::trial::{are_alike, asks_after_halt};
+use crate::trial::{are_alike, asks_after_a_halt};
 use scenario_values::build;
 use std::alloc::{AllocError, Global};
 use std::fmt;
-use target_trait::{Case, Target, run_case};
+use target_trait::{Case, Target};
 
 /// A law of [`target_trait::Target`] that a target breaks.
 #[derive(Clone, Copy, Debug, PartialEq, Eq)]
@@ -29,30 +31,43 @@ impl fmt::Display for BrokenLaw {
     }
 }
 
-/// Whether the target asks on after it was stopped at the first hit of some point.
-fn asks_after_a_halt<T: Target>(
+/// The first law that a candidate is seen to break: by its catalogue, in a run for each point that stops at the point's first hit, and in two runs
+/// without faults, one before these and one after. A candidate may still break a law that shows in other runs alone.
+///
+/// An error means that memory was refused.
+pub fn first_broken_law<C: Candidate>(
     alloc: Global,
-    target: &mut T,
-    workload: &T::Workload,
+    candidate: &mut C,
+    workload: &C::Workload,
     seed: u64,
     max_hits: u32,
-) -> Result<bool, AllocError>
-    ensures never { IfOk result (λ asked. asked ≡ false) }
-    ensures setup { target.new ≡ target.old }
+) -> Result<Option<BrokenLaw>, AllocError>
+    ensures { IfOk result (IsSeenIn (C.made workload.now) C.names seed max_hits candidate.old candidate.new) }
 {
-    for name in T::catalogue() {
-        if asks_after_halt(alloc, target, workload, name, seed, max_hits)? {
-            return Ok(true);
-        }
+    if let Some(fault) = catalogue_fault(C::points()) {
+        return Ok(Some(BrokenLaw::Catalogue(fault)));
     }
-    Ok(false)
+    let scenario = build(alloc, &[])?;
+    let case = Case {
+        scenario: &scenario,
+        seed,
+        stream: 0,
+        max_hits,
+    };
+    let first = candidate.look(alloc, workload, &case)?;
+    if asks_after_a_halt(alloc, candidate, workload, seed, max_hits)? {
+        return Ok(Some(BrokenLaw::AsksAfterHalt));
+    }
+    let again = candidate.look(alloc, workload, &case)?;
+    if !are_alike(&first, &again) {
+        return Ok(Some(BrokenLaw::KeepsState));
+    }
+    Ok(None)
 }
 
-/// The first law that a target is seen to break: by its catalogue, in a run for each point that stops at the point's first hit, and in two
-/// runs without faults, one before these and one after. The caller's target isn't touched.
+/// The first law that a target is seen to break, as of a candidate. The caller's target isn't touched.
 ///
-/// A proved target breaks none, and the answer is `None`; one that isn't may still break a law that shows in other runs alone. An error
-/// means that memory was refused.
+/// A proved target breaks none, and the answer is `None`. An error means that memory was refused.
 pub fn broken_law<T: Target>(
     alloc: Global,
     target: &T,
@@ -62,24 +77,6 @@ pub fn broken_law<T: Target>(
 ) -> Result<Option<BrokenLaw>, AllocError>
     ensures { IfOk result (λ law. law ≡ None) }
 {
-    if let Some(fault) = catalogue_fault(T::catalogue()) {
-        return Ok(Some(BrokenLaw::Catalogue(fault)));
-    }
     let mut twin = target.twin()?;
-    let scenario = build(alloc, &[])?;
-    let case = Case {
-        scenario: &scenario,
-        seed,
-        stream: 0,
-        max_hits,
-    };
-    let first = run_case(alloc, &mut twin, workload, &case)?;
-    if asks_after_a_halt(alloc, &mut twin, workload, seed, max_hits)? {
-        return Ok(Some(BrokenLaw::AsksAfterHalt));
-    }
-    let again = run_case(alloc, &mut twin, workload, &case)?;
-    if !are_alike(&first, &again) {
-        return Ok(Some(BrokenLaw::KeepsState));
-    }
-    Ok(None)
+    first_broken_law(alloc, &mut twin, workload, seed, max_hits)
 }

@@ -1,11 +1,16 @@
 //! Whether plans that fail fail again.
-ghost use Rattle.std.specs.Prelude.{◌≡◌, ◌<◌, ◌≤◌, [], None, length, slice_index_or, IfOk};
+ghost use Rattle.std.specs.Prelude.{◌≡◌, ◌<◌, ◌≤◌, None, List, length, IfOk};
 ghost use Rattle.result_book.specs.Ranges.{AreSaid};
 ghost use Rattle.result_book.specs.Says.{input_says};
+ghost use Rattle.target_laws.specs.Candidates.{Lead, Look};
+ghost use Rattle.target_laws.specs.Rechecked.{IsRecheckedIn, IsRerun};
 
+use crate::candidate::Candidate;
+use campaign_given::CampaignSettings;
+use campaign_plans::CampaignPlans;
 use result_book::RunInput;
 use std::alloc::{AllocError, Global};
-use target_trait::{Target, Verdict, run_verdict};
+use target_trait::{Target, Verdict};
 
 /// A plan whose verdict isn't the same twice.
 #[derive(Clone, Copy, Debug, PartialEq, Eq)]
@@ -18,22 +23,29 @@ pub struct ChangedVerdict {
     pub second: Verdict,
 }
 
-/// Whether the plan of this number, which fails, says something else when it is run once more.
-fn changed<T: Target>(
+/// The plans of a campaign, and the settings that say under which seed and limit they run.
+#[derive(Clone, Copy)]
+pub struct CampaignCases<'a> {
+    pub plans: &'a CampaignPlans<'a>,
+    pub settings: &'a CampaignSettings,
+}
+
+/// Whether the plan of this number comes to something else than the first time when it is run once more.
+fn changed<C: Candidate>(
     alloc: Global,
-    target: &mut T,
-    input: &RunInput<'_, T>,
+    candidate: &mut C,
+    workload: &C::Workload,
+    cases: CampaignCases<'_>,
     number: usize,
     first: Verdict,
 ) -> Result<Option<ChangedVerdict>, AllocError>
-    requires { number < length input.now.plans.now }
-    ensures same { first ≡ input_says T.Target target.old input.now number (slice_index_or input.now.plans.now number [])
-        → IfOk result (λ changed. changed ≡ None) }
-    ensures setup { target.new ≡ target.old }
+    requires { number < length cases.plans.now }
+    ensures { IfOk result (λ changed. (runs : List Look) × Lead (C.made workload.now) candidate.old runs candidate.new
+        × IsRerun cases.entry.settings.now cases.entry.plans.now runs number first changed) }
 {
-    let scenario = input.plans.plan(number).scenario(alloc)?;
-    let case = input.settings.case(&scenario, number as u64);
-    let second = run_verdict(alloc, target, input.workload, &case)?;
+    let scenario = cases.plans.plan(number).scenario(alloc)?;
+    let case = cases.settings.case(&scenario, number as u64);
+    let second = candidate.look(alloc, workload, &case)?.verdict;
     if first == second {
         return Ok(None);
     }
@@ -44,8 +56,30 @@ fn changed<T: Target>(
     }))
 }
 
-/// The first plan of an input that fails by these verdicts, which are those of its first plans, and says something else when it is run once more,
-/// on a twin of the target. Plans that don't fail aren't run. The caller's target isn't touched.
+/// The first of a campaign's plans that fails by these verdicts, which are those of its first plans, and comes to something else when it is run once
+/// more. Plans that don't fail aren't run. An error means that memory was refused.
+pub fn first_changed_verdict<C: Candidate>(
+    alloc: Global,
+    candidate: &mut C,
+    workload: &C::Workload,
+    cases: CampaignCases<'_>,
+    verdicts: &[Verdict],
+) -> Result<Option<ChangedVerdict>, AllocError>
+    requires { length verdicts.now ≤ length cases.plans.now }
+    ensures { IfOk result (IsRecheckedIn (C.made workload.now) cases.entry.settings.now cases.entry.plans.now verdicts.now candidate.old candidate.new) }
+{
+    for number in 0..verdicts.len() {
+        if let Verdict::Fail(_) = verdicts[number] {
+            let changed = changed(alloc, candidate, workload, cases, number, verdicts[number])?;
+            if changed.is_some() {
+                return Ok(changed);
+            }
+        }
+    }
+    Ok(None)
+}
+
+/// The same of a target, on a twin: the caller's target isn't touched.
 ///
 /// Of a proved target there is none: its verdict is a function of the scenario. An error means that memory was refused.
 pub fn changed_verdict<T: Target>(
@@ -58,13 +92,9 @@ pub fn changed_verdict<T: Target>(
     ensures { AreSaid (input_says T.Target target.now input.now) input.now.plans.now 0 verdicts.now → IfOk result (λ changed. changed ≡ None) }
 {
     let mut twin = target.twin()?;
-    for number in 0..verdicts.len() {
-        if let Verdict::Fail(_) = verdicts[number] {
-            let changed = changed(alloc, &mut twin, input, number, verdicts[number])?;
-            if changed.is_some() {
-                return Ok(changed);
-            }
-        }
-    }
-    Ok(None)
+    let cases = CampaignCases {
+        plans: input.plans,
+        settings: input.settings,
+    };
+    first_changed_verdict(alloc, &mut twin, input.workload, cases, verdicts)
 }

@@ -1,0 +1,75 @@
+//! A target about which nothing is proved: its calls without its laws, and what its runs came to when they were made.
+ghost use Rattle.std.specs.Prelude.{◌≡◌, IfOk};
+ghost use Rattle.action_eval.specs.Answers.{texts};
+ghost use Rattle.target_laws.specs.Candidates.{look};
+ghost use Rattle.target_laws.specs.inside.Lawful.{IsMadeOf};
+
+use std::alloc::{AllocError, Global};
+use target_trait::{Case, Target, Verdict, run_session, session_of};
+
+/// What a run came to that is looked at.
+#[derive(Debug, Drop)]
+pub struct Looked {
+    pub verdict: Verdict,
+    /// The points that were asked, in order; a hit past the limit isn't among them.
+    pub asked: Vec<u32>,
+    /// Whether a point was asked after the run was stopped.
+    pub is_asked_on: bool,
+}
+
+/// The calls of a [`Target`], without its laws: of a candidate nothing is known but what the runs came to that were made. Each target is one.
+pub trait Candidate {
+    ghost use Rattle.std.specs.Prelude.{ℕ, List};
+    ghost use Rattle.target_laws.specs.Candidates.{Look};
+
+    type Workload;
+
+    /// The names of its points.
+    ghost names: { List (List ℕ) };
+
+    /// A run on a workload that was made came to this, and led from one state of the candidate to another.
+    ghost made: { Self.Workload → Self → Look → Self → Type 0 };
+
+    /// The names of its points.
+    fn points() -> &'static [&'static str]
+        ensures { texts result.now ≡ names };
+
+    /// Makes a run of a case. An error means that memory was refused.
+    fn look(
+        &mut self,
+        alloc: Global,
+        workload: &Self::Workload,
+        case: &Case<'_>,
+    ) -> Result<Looked, AllocError>
+        ensures { IfOk result (λ looked. made workload.now self.old
+            (look case.now.scenario.now case.now.seed case.now.stream case.now.max_hits looked) self.new) };
+}
+
+impl<T: Target> Candidate for T {
+    type Workload = T::Workload;
+
+    ghost names = { T.names };
+
+    ghost made = { λ workload before run after. IsMadeOf T.Target before workload run × (after ≡ before) };
+
+    fn points() -> &'static [&'static str] {
+        T::catalogue()
+    }
+
+    fn look(
+        &mut self,
+        alloc: Global,
+        workload: &T::Workload,
+        case: &Case<'_>,
+    ) -> Result<Looked, AllocError> {
+        let mut session = session_of(alloc, case, T::catalogue())?;
+        let verdict = run_session(self, workload, &mut session)?;
+        let asked = Vec::from_slice(alloc, session.trace())?;
+        let is_asked_on = session.was_asked_after_stop();
+        Ok(Looked {
+            verdict,
+            asked,
+            is_asked_on,
+        })
+    }
+}
