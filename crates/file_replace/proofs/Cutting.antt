@@ -1,6 +1,7 @@
 -- A run on a device that tells what is pending, up to its power cut.
 use Rattle.std.proofs.Common.{◌≡◌, ℕ, ◌+◌, ◌≤◌, Bool, List, length, Option, None, ap, sym, ◌∙◌}
-use Rattle.sim_device.specs.Pending.{Noted, Tells, pending}
+use Rattle.sim_device.specs.FileEffects.{pending}
+use Rattle.sim_device.specs.Disk.{Noted, Tells}
 use Rattle.action_eval.specs.Answers.{Given, Run, Reply, replies}
 use Rattle.target_trait.specs.declared.judgement.Judgement.{Judgement}
 use Rattle.target_trait.specs.Play.{IsCutPlay, move_by}

@@ -5,7 +5,6 @@ pub mod Never
 pub mod Readying
 pub mod Flawed
 mod Kept
-mod Keeping
 mod Cutting
 mod Sturdy
 mod Survives

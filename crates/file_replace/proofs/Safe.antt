@@ -4,8 +4,9 @@ use Rattle.std.proofs.lemmas.Bool.{eq-eqb, ne_eqb}
 use Rattle.std.proofs.lemmas.List.{append-nil}
 use Rattle.std.specs.List.{list_any}
 use Rattle.std.specs.Str.{bytes_eq}
-use Rattle.sim_device.specs.FileEffects.{Effect, Create, Append, Sync, Rename, Unlink, SyncDir, PowerCut, Live, Lasting, leads, contents, created, is_file}
-use Rattle.sim_device.proofs.EffectLaws.{leads_created}
+use Rattle.sim_device.specs.FileEffects.{Effect, Create, Append, Sync, Rename, Unlink, SyncDir, PowerCut, Live, Lasting, leads, contents, created}
+use Rattle.sim_device.specs.Pending.{is_file}
+use Rattle.sim_device.proofs.InUse.{leads_created}
 use Rattle.action_eval.specs.Answers.{Reply, Go, Return, Halt}
 use Rattle.target_trait.specs.declared.judgement.Judgement.{Judgement}
 use Rattle.target_trait.specs.declared.judgement.Judgement.TheVariants.{Kept, Broken}
@@ -284,7 +285,7 @@ start_safe w = begun_safe false (before_all w) w.replacements (prepared w.old) (
 
 judged_kept : (past : Past) (es : List Effect) → Solid es past.allowed → judged past es ≡ Kept
 judged_kept past es k =
-    ap (λ o. judged_by past (option_map (contents (PowerCut ∷ es) Live) o)) k.lasting
+    ap (λ o. judged_by past (option_map (contents (PowerCut [] ∷ es) Live) o)) k.lasting
     ∙ ap (λ b. cond b Kept (cond (among (contents es Lasting k.g) past.known) (Broken stale) (Broken torn))) k.good_g
 
 -- whatever is answered, the sound variant keeps its word

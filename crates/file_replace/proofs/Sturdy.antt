@@ -1,10 +1,11 @@
 -- The sound variant: whatever part of what is pending a power cut keeps, `target` holds whole contents that are allowed.
-use Rattle.std.proofs.Common.{◌≡◌, ℕ, ◌<◌, Bool, true, false, not, ◌&&◌, cond, List, [], ◌∷◌, ◌++◌, filter, option_map, Option, Some, None, refl, ap, sym, ◌∙◌, subst, arith, nat_eq}
-use Rattle.sim_device.specs.FileEffects.{Effect, Create, Append, Sync, Rename, Unlink, SyncDir, Live, Lasting, leads, contents, created, is_file}
+use Rattle.std.proofs.Common.{◌≡◌, ℕ, ◌<◌, Bool, true, false, not, cond, List, [], ◌∷◌, ◌++◌, filter, option_map, Option, Some, None, refl, ap, sym, ◌∙◌, subst, arith, nat_eq}
+use Rattle.sim_device.specs.FileEffects.{Effect, Create, Append, Sync, Rename, Unlink, SyncDir, PowerCut, Live, Lasting, leads, contents, created, pending, held}
 use Rattle.sim_device.specs.declared.pending.Call.{Call}
 use Rattle.sim_device.specs.declared.pending.Call.TheVariants as call
-use Rattle.sim_device.specs.Pending.{Pending, pending, kept, is_to, is_of_contents, led_by, leads_with, held_by, holds_with, renames, further, written, long}
-use Rattle.sim_device.proofs.EffectLaws.{leads_created}
+use Rattle.sim_device.specs.Pending.{Pending, kept, is_to, is_of_contents, led_by, leads_with, renames, further, written, long}
+use Rattle.sim_device.proofs.InUse.{leads_created}
+use Rattle.sim_device.proofs.Untouched.{Untouched, untouched_push, untouched_filter, untouched_kept, synced_untouched, written_untouched, holds_same}
 use Rattle.action_eval.specs.Answers.{Reply, Go, Return, Halt}
 use Rattle.target_trait.specs.declared.judgement.Judgement.TheVariants.{Kept, Broken}
 use Rattle.target_trait.specs.Machine.{led, after}
@@ -13,16 +14,11 @@ use Rattle.file_replace.specs.declared.variant.Variant.TheVariants.{Sound}
 use Rattle.file_replace.specs.Work.{Work}
 use Rattle.file_replace.specs.Words.{torn, stale}
 use Rattle.file_replace.specs.Judgement.{Past, judged_by}
-use Rattle.file_replace.specs.Crash.{held_keeping, judged_keeping}
+use Rattle.file_replace.specs.Crash.{judged_keeping}
 use Rattle.file_replace.specs.Steps.{Step, Clearing, Creating, Writing, WritingAgain, Syncing, Renaming, SyncingRenamed, SyncingDir, SyncingLate, Cleaning, Over, Tally, State, state, begun_of, is_there, acknowledged, write_step, on_go, on_return, stepped, first_step, prepared, before_all, start_of, machine}
 use Rattle.file_replace.proofs.Safe.{Safe, StepSafe, among, more_among, among_same, first_among, other_file, not_new, new_apart, absurd_none, step_safe, start_safe}
 
 -- ---- lists of pending writes
-
--- none of these writes changes what the file holds
-abbrev Untouched : List Pending → ℕ → Type 0
-Untouched [] f = Unit {0}
-Untouched (p ∷ ps) f = (is_to (Some f) p ≡ false) × Untouched ps f
 
 -- the write changes no name but `tmp`, or renames a file of which this holds to `target`
 abbrev NameOk : (ℕ → Type 0) → Call → Option ℕ → Type 0
@@ -37,33 +33,6 @@ NameOk P (call.Unlink m) file = m ≡ 1
 abbrev Names : (ℕ → Type 0) → List Pending → Type 0
 Names P [] = Unit {0}
 Names P (p ∷ ps) = NameOk P p.call p.file × Names P ps
-
-untouched_push : (ps : List Pending) (q : Pending) (f : ℕ) → Untouched ps f → is_to (Some f) q ≡ false → Untouched (ps ++ q ∷ []) f
-untouched_push [] q f u h = (h, tt)
-untouched_push (p ∷ ps) q f u h = (u.0, untouched_push ps q f u.1 h)
-
-untouched_case : (b : Bool) (p : Pending) (ps : List Pending) (f : ℕ) → is_to (Some f) p ≡ false → Untouched ps f → Untouched (cond b (p ∷ ps) ps) f
-untouched_case true p ps f h u = (h, u)
-untouched_case false p ps f h u = u
-
-untouched_filter : (t : Pending → Bool) (ps : List Pending) (f : ℕ) → Untouched ps f → Untouched (filter t ps) f
-untouched_filter t [] f u = tt
-untouched_filter t (p ∷ ps) f u = untouched_case (t p) p (filter t ps) f u.0 (untouched_filter t ps f u.1)
-
-synced_case : (b : Bool) (p : Pending) (ps : List Pending) (f : ℕ) → is_to (Some f) p ≡ b → Untouched ps f → Untouched (cond (not b) (p ∷ ps) ps) f
-synced_case true p ps f h u = u
-synced_case false p ps f h u = (h, u)
-
--- after its sync no write to a file is pending
-synced_untouched : (ps : List Pending) (f : ℕ) → Untouched (filter (λ p. not (is_to (Some f) p)) ps) f
-synced_untouched [] f = tt
-synced_untouched (p ∷ ps) f = synced_case (is_to (Some f) p) p (filter (λ q. not (is_to (Some f) q)) ps) f refl (synced_untouched ps f)
-
-untouched_kept : (keep : List Bool) (ps : List Pending) (f : ℕ) → Untouched ps f → Untouched (kept keep ps) f
-untouched_kept [] ps f u = tt
-untouched_kept (b ∷ keep) [] f u = tt
-untouched_kept (true ∷ keep) (p ∷ ps) f u = (u.0, untouched_kept keep ps f u.1)
-untouched_kept (false ∷ keep) (p ∷ ps) f u = untouched_kept keep ps f u.1
 
 name_map : (P Q : ℕ → Type 0) → ((f : ℕ) → P f → Q f) → (c : Call) (file : Option ℕ) → NameOk P c file → NameOk Q c file
 name_map P Q m (call.Create n) file k = k
@@ -112,24 +81,6 @@ contents_name_nothing P (p ∷ ps) = content_case P p.call p (filter (λ q. is_o
 
 -- ---- what a cut leaves
 
-held_case : (b : Bool) (x : List ℕ) → cond b x x ≡ x
-held_case true x = refl
-held_case false x = refl
-
-held_same : (c : Call) (b : Bool) (bytes x : List ℕ) → (is_of_contents c && b) ≡ false → cond b (held_by c bytes x) x ≡ x
-held_same (call.Create m) b bytes x e = held_case b x
-held_same (call.Append m place) b bytes x e = ap (λ t. cond t (held_by (call.Append m place) bytes x) x) e
-held_same (call.WriteAt m place) b bytes x e = ap (λ t. cond t (held_by (call.WriteAt m place) bytes x) x) e
-held_same (call.Truncate m count) b bytes x e = ap (λ t. cond t (held_by (call.Truncate m count) bytes x) x) e
-held_same (call.Rename a d) b bytes x e = held_case b x
-held_same (call.Link a d) b bytes x e = held_case b x
-held_same (call.Unlink m) b bytes x e = held_case b x
-
-holds_same : (ps : List Pending) (f : ℕ) (x : List ℕ) → Untouched ps f → holds_with ps f x ≡ x
-holds_same [] f x u = refl
-holds_same (p ∷ ps) f x u =
-    ap (holds_with ps f) (held_same p.call (is_file f p.file) p.bytes x u.0) ∙ holds_same ps f x u.1
-
 record Found (P : ℕ → Type 0) (o : Option ℕ) : Type 0 where
   f : ℕ
   is : o ≡ Some f
@@ -167,11 +118,11 @@ found_map : (P Q : ℕ → Type 0) (o : Option ℕ) → ((f : ℕ) → P f → Q
 found_map P Q o m k = record { f = k.f; is = k.is; good = m k.f k.good }
 
 -- with the same names of `target` and further pending writes
-sturdy_kept : (past : Past) (es : List Effect) (keep : List Bool) → Sturdy es past.allowed → judged_by past (held_keeping (kept keep (pending es)) es 0) ≡ Kept
+sturdy_kept : (past : Past) (es : List Effect) (keep : List Bool) → Sturdy es past.allowed → judged_by past (held (PowerCut keep ∷ es) Live 0) ≡ Kept
 sturdy_kept past es keep k =
     let writes : List Pending = kept keep (pending es) in
     let at = leads_found (Good es past.allowed) writes (leads es Lasting 0) (names_kept (Good es past.allowed) keep (pending es) k.names) k.lasting in
-    ap (λ o. judged_by past (option_map (λ f. holds_with writes f (contents es Lasting f)) o)) at.is
+    ap (λ o. judged_by past (option_map (contents (PowerCut keep ∷ es) Live) o)) at.is
     ∙ ap (λ x. judged_by past (Some x)) (holds_same writes at.f (contents es Lasting at.f) (untouched_kept keep (pending es) at.f at.good.untouched))
     ∙ ap (λ b. cond b Kept (cond (among (contents es Lasting at.f) past.known) (Broken stale) (Broken torn))) at.good.holds
 
@@ -217,12 +168,6 @@ sturdy_create es allowed k =
       names = names_push Q (pending es) (renames (call.Create 1) (Some (created es))) (names_map P Q (good_create es allowed) (pending es) k.names) refl;
     }
 
-further_untouched : (ps : List Pending) (place : ℕ) (bytes : List ℕ) (o : Option ℕ) (x : ℕ) → Untouched ps x → is_file x o ≡ false
-    → Untouched (further ps (written (call.Append 1 place) bytes o)) x
-further_untouched ps place bytes None x u h = u
-further_untouched ps place [] (Some f) x u h = u
-further_untouched ps place (b ∷ bytes) (Some f) x u h = untouched_push ps (record { call = call.Append 1 place; file = Some f; bytes = b ∷ bytes }) x u h
-
 further_names : (P : ℕ → Type 0) (ps : List Pending) (place : ℕ) (bytes : List ℕ) (o : Option ℕ) → Names P ps → Names P (further ps (written (call.Append 1 place) bytes o))
 further_names P ps place bytes None k = k
 further_names P ps place [] (Some f) k = k
@@ -232,7 +177,7 @@ good_append : (es : List Effect) (allowed : List (List ℕ)) (bytes : List ℕ) 
 good_append es allowed bytes x k = record {
   made = k.made;
   holds = k.holds;
-  untouched = further_untouched (pending es) (long es (leads es Live 1)) bytes (leads es Live 1) x k.untouched (other_file (leads es Live 1) x k.apart);
+  untouched = written_untouched (pending es) (call.Append 1 (long (contents es Live) (leads es Live 1))) bytes (leads es Live 1) x k.untouched (other_file (leads es Live 1) x k.apart);
   apart = k.apart;
 }
 
@@ -243,7 +188,7 @@ sturdy_append es allowed bytes k =
     record {
       lasting = found_map P Q (leads es Lasting 0) (good_append es allowed bytes) k.lasting;
       live = found_map P Q (leads es Live 0) (good_append es allowed bytes) k.live;
-      names = further_names Q (pending es) (long es (leads es Live 1)) bytes (leads es Live 1) (names_map P Q (good_append es allowed bytes) (pending es) k.names);
+      names = further_names Q (pending es) (long (contents es Live) (leads es Live 1)) bytes (leads es Live 1) (names_map P Q (good_append es allowed bytes) (pending es) k.names);
     }
 
 good_sync : (es : List Effect) (allowed : List (List ℕ)) (x : ℕ) → Good es allowed x → Good (Sync 1 ∷ es) allowed x

@@ -1,6 +1,6 @@
 -- What a run leaves to the power cut at its end: how many writes are pending, what each of them did, and what is judged where the cut keeps some of
 -- them. And workloads and scenarios in which only a kept write shows a flaw.
-use Rattle.std.specs.Prelude.{ℕ, suc, Bool, List, [], ◌∷◌, ◌++◌, map, length, Option, Some, None, option_map, codes}
+use Rattle.std.specs.Prelude.{ℕ, suc, Bool, List, [], ◌∷◌, ◌++◌, map, length, Option, Some, None, codes}
 use Rattle.std.specs.Fmt.{decimal}
 use Rattle.scenario_values.specs.declared.term.Term.{Term}
 use Rattle.scenario_values.specs.declared.term.Task.{Task}
@@ -9,8 +9,8 @@ use Rattle.scenario_values.specs.Scenario.{Entries}
 use Rattle.action_eval.specs.Answers.{Given, replies, start}
 use Rattle.sim_device.specs.declared.pending.Call.{Call}
 use Rattle.sim_device.specs.declared.pending.Call.TheVariants as call
-use Rattle.sim_device.specs.FileEffects.{Effect, Lasting, leads, contents}
-use Rattle.sim_device.specs.Pending.{Pending, pending, kept, leads_with, holds_with}
+use Rattle.sim_device.specs.FileEffects.{PowerCut, Live, held, pending}
+use Rattle.sim_device.specs.Pending.{Pending}
 use Rattle.target_trait.specs.declared.judgement.Judgement.{Judgement}
 use Rattle.target_trait.specs.Machine.{after}
 use Rattle.target_trait.specs.Outcomes.{play}
@@ -22,13 +22,9 @@ use Rattle.file_replace.specs.Work.{Work}
 use Rattle.file_replace.specs.Judgement.{judged_by}
 use Rattle.file_replace.specs.Steps.{State, machine, asks_of}
 
--- what a name holds after a power cut that kept these writes
-abbrev pub held_keeping : List Pending → List Effect → ℕ → Option (List ℕ)
-held_keeping writes effects name = option_map (λ f. holds_with writes f (contents effects Lasting f)) (leads_with writes name (leads effects Lasting name))
-
 -- what stands under `target` after a cut of which these answers tell what it keeps
 abbrev pub judged_keeping : State → List Bool → Judgement
-judged_keeping s keep = judged_by s.tally.past (held_keeping (kept keep (pending s.effects)) s.effects target)
+judged_keeping s keep = judged_by s.tally.past (held (PowerCut keep ∷ s.effects) Live target)
 
 -- by the answers of a run
 abbrev pub cut_of : Variant → Work → Cut

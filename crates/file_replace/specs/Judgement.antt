@@ -35,4 +35,4 @@ judged_by p (Some x) = if is_among x p.allowed then Kept else (if is_among x p.k
 
 -- what stands under `target` after a power cut
 abbrev pub judged : Past → List Effect → Judgement
-judged p effects = judged_by p (held (PowerCut ∷ effects) Live target)
+judged p effects = judged_by p (held (PowerCut [] ∷ effects) Live target)

@@ -220,4 +220,4 @@ asks_of v w = asks_by (machine v w)
 
 -- what the device accepted in a run of these answers, with the power cut at its end
 abbrev pub effects_of : Variant → Work → List Reply → List Effect
-effects_of v w answers = PowerCut ∷ (after (machine v w) answers).effects
+effects_of v w answers = PowerCut [] ∷ (after (machine v w) answers).effects

@@ -1,8 +1,7 @@
 //! The devices of a run, and its calls on them. None of the calls is refused but for want of memory.
 ghost use Rattle.std.specs.Prelude.{◌≡◌, ◌≤◌, ℕ, List, [], length, take, OnOk, IsOk, MatchOption, None, Some, is_some, is_none, false};
 ghost use Rattle.sim_device.specs.FileEffects.{Effect, Append, Create, Sync, SyncDir, Rename, Unlink, Live, held, leads};
-ghost use Rattle.sim_device.specs.Disk.{StandsFor, entry_at, reads};
-ghost use Rattle.sim_device.specs.Pending.{Tells};
+ghost use Rattle.sim_device.specs.Disk.{StandsFor, Tells, entry_at, reads};
 ghost use Rattle.sim_device.specs.declared.names.Entry.{Entry};
 ghost use Rattle.file_replace.specs.Words.{number_of, target, tmp};
 ghost use Rattle.file_replace.specs.inside.Left.{left};

@@ -1,9 +1,7 @@
-ghost use Rattle.std.specs.Prelude.{◌≡◌, ◌∷◌, ℕ, List, Some, IfOk};
-ghost use Rattle.sim_device.specs.Pending.{Tells, pending, kept};
+ghost use Rattle.std.specs.Prelude.{◌≡◌, [], ◌∷◌, ℕ, List, Some, IfOk};
 ghost use Rattle.file_replace.specs.Words.{target};
-ghost use Rattle.file_replace.specs.Crash.{held_keeping};
-ghost use Rattle.sim_device.specs.FileEffects.{Effect, PowerCut};
-ghost use Rattle.sim_device.specs.Disk.{StandsFor, AddsEffect};
+ghost use Rattle.sim_device.specs.FileEffects.{Effect, PowerCut, Live, held};
+ghost use Rattle.sim_device.specs.Disk.{StandsFor, AddsEffect, Tells};
 ghost use Rattle.file_replace.specs.Judgement.{judged_by, judged};
 
 use crate::disk::{target_contents, target_kept};
@@ -34,7 +32,7 @@ fn judgement(progress: &Progress<'_>, bytes: &[u8]) -> Judgement
 /// Cuts the power, and judges what `target` then holds.
 pub fn judge(device: &mut FileDevice, progress: &Progress<'_>) -> Judgement
     ensures judged { (es : List Effect) → StandsFor device.old es → result ≡ judged progress.now.past es }
-    ensures cut { AddsEffect device.old device.new PowerCut }
+    ensures cut { AddsEffect device.old device.new (PowerCut []) }
 {
     device.power_cut();
     match target_contents(device) {
@@ -51,7 +49,7 @@ pub fn judge_keeping(
     keep: &[bool],
 ) -> Result<Judgement, AllocError>
     ensures { IfOk result (λ judgement. (es : List Effect) → Tells device.old es
-        → judgement ≡ judged_by progress.now.past (held_keeping (kept keep.now (pending es)) es target)) }
+        → judgement ≡ judged_by progress.now.past (held (PowerCut keep.now ∷ es) Live target)) }
 {
     device.cut_keeping(keep)?;
     match target_kept(device) {

@@ -1,6 +1,7 @@
 -- A run on a device that tells what is pending, up to its power cut.
-use Rattle.std.proofs.Common.{◌≡◌, ℕ, ◌+◌, ◌≤◌, Bool, List, length, Option, ap, sym, ◌∙◌}
-use Rattle.sim_device.specs.Pending.{Noted, Tells, pending, kept}
+use Rattle.std.proofs.Common.{◌≡◌, ℕ, ◌+◌, ◌≤◌, Bool, List, ◌∷◌, length, Option, ap, sym, ◌∙◌}
+use Rattle.sim_device.specs.FileEffects.{PowerCut, pending}
+use Rattle.sim_device.specs.Disk.{Noted, Tells}
 use Rattle.action_eval.specs.Answers.{Given, Run, Reply, replies}
 use Rattle.target_trait.specs.declared.judgement.Judgement.{Judgement}
 use Rattle.target_trait.specs.Play.{IsCutPlay, move_by}
@@ -12,9 +13,9 @@ use Rattle.target_trait.proofs.Plays.{replies_are}
 use Rattle.target_trait.proofs.CutRuns.{with_cut, IsJudged}
 use Rattle.maildir_target.specs.declared.variant.Variant.{Variant}
 use Rattle.maildir_target.specs.declared.mailbox.Mailbox.{Mailbox}
-use Rattle.maildir_target.specs.Judgement.{judged, judged_now}
+use Rattle.maildir_target.specs.Judgement.{judged, judged_now, standing}
 use Rattle.maildir_target.specs.Steps.{State, state, machine, point_at, asks_of}
-use Rattle.maildir_target.specs.Crash.{cut_of, judged_keeping, standing_keeping, call_texts, calls_of}
+use Rattle.maildir_target.specs.Crash.{cut_of, judged_keeping, call_texts, calls_of}
 use Rattle.maildir_target.specs.Lawful.{asks-halts}
 use Rattle.maildir_target.specs.inside.Seen.{IsOver}
 
@@ -34,11 +35,11 @@ cut_run v w old new box k count count_is kept ended j is_judged =
 
 -- what is judged is what the answers of the run say
 pub kept_judged : (v : Variant) (w : List (List (List ℕ))) (r : Run) (box : Mailbox Noted) (k : IsOver Tells v w r box) (keep : List Bool) (j : Judgement)
-    → j ≡ judged_now w box.acknowledged.items (standing_keeping (kept keep (pending k.played.effects)) k.played.effects)
+    → j ≡ judged_now w box.acknowledged.items (standing (PowerCut keep ∷ k.played.effects))
     → j ≡ judged_keeping w (after (machine v w) (replies r)) keep
 kept_judged v w r box k keep j is =
     is
-    ∙ ap (λ (l : List ℕ). judged_now w l (standing_keeping (kept keep (pending k.played.effects)) k.played.effects)) (sym k.acknowledged)
+    ∙ ap (λ (l : List ℕ). judged_now w l (standing (PowerCut keep ∷ k.played.effects))) (sym k.acknowledged)
     ∙ ap (λ (s : State). judged_keeping w s keep) (sym k.played.reached.here)
 
 -- what a device tells at the end of a run is pending after the play of what the run is given

@@ -8,5 +8,4 @@ pub mod Numbers
 mod Sturdy
 mod Survives
 mod Kept
-mod Keeping
 mod Cutting

@@ -4,8 +4,10 @@ use Rattle.std.proofs.Common.{◌≡◌, ℕ, ◌+◌, ◌<◌, ◌≤◌, ◌==
 use Rattle.std.proofs.lemmas.Bool.{eq-eqb, ne_eqb}
 use Rattle.std.proofs.lemmas.List.{append-nil}
 use Rattle.std.proofs.lemmas.Slice.Eq.{bytes_eq-Decides}
-use Rattle.sim_device.specs.FileEffects.{Effect, Create, Append, Sync, Link, Unlink, SyncDir, PowerCut, Side, Live, Lasting, leads, contents, created, is_file}
-use Rattle.sim_device.proofs.EffectLaws.{leads_created, names_alone, contents_stay, link_shares, create_names, create_empties, append_adds, synced_stays}
+use Rattle.sim_device.specs.FileEffects.{Effect, Create, Append, Sync, Link, Unlink, SyncDir, PowerCut, Side, Live, Lasting, leads, contents, created}
+use Rattle.sim_device.specs.Pending.{is_file}
+use Rattle.sim_device.proofs.EffectLaws.{names_alone, contents_stay, link_shares, create_names, create_empties, append_adds, synced_stays}
+use Rattle.sim_device.proofs.InUse.{leads_created}
 use Rattle.action_eval.specs.Answers.{Reply, Go, Return, Halt}
 use Rattle.target_trait.specs.declared.judgement.Judgement.{Judgement}
 use Rattle.target_trait.specs.declared.judgement.Judgement.TheVariants.{Kept}
@@ -273,7 +275,7 @@ go_safe w t es (Writing c cs) k r = record {
 }
 go_safe w t es Syncing k r = record {
   base = sync_base w t es (tmp t) r.0 r.1.0 r.1.1.0 k;
-  step = (r.0, (r.1.0, synced_stays [] es (tmp t) r.0 r.1.0 tt ∙ r.1.1.1));
+  step = (r.0, (r.1.0, synced_stays [] es (tmp t) r.0 [] r.1.0 tt ∙ r.1.1.1));
 }
 go_safe w t es Linking k r = linked_safe w (is_there (new t) es) t es r.0 r.1.0 r.1.1 k
 go_safe w t es Unlinking k r = record { base = unlink_base w t es k; step = unlink_there es t.message t.attempt t.message r }
@@ -383,7 +385,7 @@ none_lost s (m ∷ ms) k = or_none _ _ (let at = k.0 in ap not (there_delivered 
 pub judged_kept : (messages : List (List (List ℕ))) (done : List ℕ) (s : Standing) → has_torn s 1 messages ≡ false → has_lost s done ≡ false → judged_now messages done s ≡ Kept
 judged_kept messages done s whole there = ap (λ b. judged_by b (has_lost s done)) whole ∙ ap (judged_by false) there
 
-lasting_stand : (es : List Effect) (ms : List ℕ) → Delivered es ms → Stand (standing (PowerCut ∷ es)) ms
+lasting_stand : (es : List Effect) (ms : List ℕ) → Delivered es ms → Stand (standing (PowerCut [] ∷ es)) ms
 lasting_stand es [] k = tt
 lasting_stand es (m ∷ ms) k = (k.0 Lasting, lasting_stand es ms k.1)
 
@@ -393,7 +395,7 @@ sound_kept messages answers j e =
     let w = whole_of messages in
     let s = after (machine Sound messages) answers in
     let k = (led_safe w messages (start_of Sound messages) answers (start_safe messages)).base in
-    let left : Standing = standing (PowerCut ∷ s.effects) in
+    let left : Standing = standing (PowerCut [] ∷ s.effects) in
     let kept =
     judged_kept messages s.tally.acknowledged left (none_torn w left 1 messages (λ m a f e. k.solid Lasting m a f e) (whole_tells 0 ([] ∷ messages)).1)
     (none_lost left s.tally.acknowledged (lasting_stand s.effects s.tally.acknowledged k.delivered)) in

@@ -1,10 +1,11 @@
 -- The sound delivery: whatever part of what is pending a power cut keeps, each name under `new/` leads to a whole message, and no acknowledged one is missing.
-use Rattle.std.proofs.Common.{◌≡◌, ℕ, ◌==◌, Bool, true, false, not, ◌&&◌, cond, List, [], ◌∷◌, ◌++◌, filter, Option, Some, None, is_some, refl, ap, sym, ◌∙◌, subst, eqb-true}
-use Rattle.sim_device.specs.FileEffects.{Effect, Create, Append, Sync, Link, Unlink, SyncDir, Side, Live, Lasting, leads, contents, created, is_file}
+use Rattle.std.proofs.Common.{◌≡◌, ℕ, ◌==◌, Bool, true, false, not, cond, List, [], ◌∷◌, ◌++◌, filter, Option, Some, None, is_some, refl, ap, sym, ◌∙◌, subst, eqb-true}
+use Rattle.sim_device.specs.FileEffects.{Effect, Create, Append, Sync, Link, Unlink, SyncDir, PowerCut, Side, Live, Lasting, leads, contents, created, pending}
 use Rattle.sim_device.specs.declared.pending.Call.{Call}
 use Rattle.sim_device.specs.declared.pending.Call.TheVariants as call
-use Rattle.sim_device.specs.Pending.{Pending, pending, kept, is_to, is_of_contents, led_by, leads_with, held_by, holds_with, renames, further, written, long}
+use Rattle.sim_device.specs.Pending.{Pending, kept, is_to, is_of_contents, led_by, leads_with, renames, further, written, long}
 use Rattle.sim_device.proofs.EffectLaws.{names_alone, link_shares}
+use Rattle.sim_device.proofs.Untouched.{Untouched, untouched_push, untouched_filter, untouched_kept, synced_untouched, written_untouched, holds_same}
 use Rattle.action_eval.specs.Answers.{Reply, Go, Return, Halt}
 use Rattle.target_trait.specs.declared.judgement.Judgement.TheVariants.{Kept}
 use Rattle.target_trait.specs.Machine.{led, after}
@@ -13,67 +14,10 @@ use Rattle.maildir_target.specs.declared.variant.Variant.TheVariants.{Sound}
 use Rattle.maildir_target.specs.declared.name.Attempt.{Attempt}
 use Rattle.maildir_target.specs.declared.name.Attempt.TheVariants.{First, Second}
 use Rattle.maildir_target.specs.Words.{tmp_name, new_name}
-use Rattle.maildir_target.specs.Judgement.{Standing}
-use Rattle.maildir_target.specs.Crash.{standing_keeping, judged_keeping}
+use Rattle.maildir_target.specs.Judgement.{Standing, standing}
+use Rattle.maildir_target.specs.Crash.{judged_keeping}
 use Rattle.maildir_target.specs.Steps.{Step, Looking, Creating, Writing, Syncing, Linking, Unlinking, SyncingDir, Cleaning, Over, Tally, State, state, begun_of, acknowledged, failed_of, looked, linked, is_there, write_step, on_go, on_return, stepped, before_all, start_of, machine}
 use Rattle.maildir_target.proofs.Safe.{Solid, Delivered, IsOwn, StepSafe, Safe, Stand, tmp, new, not_tmp, same_message, some_same, not_own, step_safe, start_safe, whole_of, whole_tells, none_torn, none_lost, judged_kept}
-
--- ---- writes to a file
-
--- none of these writes changes what the file holds
-abbrev Untouched : List Pending → ℕ → Type 0
-Untouched [] f = Unit {0}
-Untouched (p ∷ ps) f = (is_to (Some f) p ≡ false) × Untouched ps f
-
-untouched_push : (ps : List Pending) (q : Pending) (f : ℕ) → Untouched ps f → is_to (Some f) q ≡ false → Untouched (ps ++ q ∷ []) f
-untouched_push [] q f u h = (h, tt)
-untouched_push (p ∷ ps) q f u h = (u.0, untouched_push ps q f u.1 h)
-
-untouched_case : (b : Bool) (p : Pending) (ps : List Pending) (f : ℕ) → is_to (Some f) p ≡ false → Untouched ps f → Untouched (cond b (p ∷ ps) ps) f
-untouched_case true p ps f h u = (h, u)
-untouched_case false p ps f h u = u
-
-untouched_filter : (t : Pending → Bool) (ps : List Pending) (f : ℕ) → Untouched ps f → Untouched (filter t ps) f
-untouched_filter t [] f u = tt
-untouched_filter t (p ∷ ps) f u = untouched_case (t p) p (filter t ps) f u.0 (untouched_filter t ps f u.1)
-
-synced_case : (b : Bool) (p : Pending) (ps : List Pending) (f : ℕ) → is_to (Some f) p ≡ b → Untouched ps f → Untouched (cond (not b) (p ∷ ps) ps) f
-synced_case true p ps f h u = u
-synced_case false p ps f h u = (h, u)
-
--- after its sync no write to a file is pending
-synced_untouched : (ps : List Pending) (f : ℕ) → Untouched (filter (λ p. not (is_to (Some f) p)) ps) f
-synced_untouched [] f = tt
-synced_untouched (p ∷ ps) f = synced_case (is_to (Some f) p) p (filter (λ q. not (is_to (Some f) q)) ps) f refl (synced_untouched ps f)
-
-untouched_kept : (keep : List Bool) (ps : List Pending) (f : ℕ) → Untouched ps f → Untouched (kept keep ps) f
-untouched_kept [] ps f u = tt
-untouched_kept (b ∷ keep) [] f u = tt
-untouched_kept (true ∷ keep) (p ∷ ps) f u = (u.0, untouched_kept keep ps f u.1)
-untouched_kept (false ∷ keep) (p ∷ ps) f u = untouched_kept keep ps f u.1
-
-further_untouched : (ps : List Pending) (n place : ℕ) (bytes : List ℕ) (o : Option ℕ) (x : ℕ) → Untouched ps x → is_file x o ≡ false
-    → Untouched (further ps (written (call.Append n place) bytes o)) x
-further_untouched ps n place bytes None x u h = u
-further_untouched ps n place [] (Some f) x u h = u
-further_untouched ps n place (b ∷ bytes) (Some f) x u h = untouched_push ps (record { call = call.Append n place; file = Some f; bytes = b ∷ bytes }) x u h
-
-held_case : (b : Bool) (x : List ℕ) → cond b x x ≡ x
-held_case true x = refl
-held_case false x = refl
-
-held_same : (c : Call) (b : Bool) (bytes x : List ℕ) → (is_of_contents c && b) ≡ false → cond b (held_by c bytes x) x ≡ x
-held_same (call.Create m) b bytes x e = held_case b x
-held_same (call.Append m place) b bytes x e = ap (λ t. cond t (held_by (call.Append m place) bytes x) x) e
-held_same (call.WriteAt m place) b bytes x e = ap (λ t. cond t (held_by (call.WriteAt m place) bytes x) x) e
-held_same (call.Truncate m count) b bytes x e = ap (λ t. cond t (held_by (call.Truncate m count) bytes x) x) e
-held_same (call.Rename a d) b bytes x e = held_case b x
-held_same (call.Link a d) b bytes x e = held_case b x
-held_same (call.Unlink m) b bytes x e = held_case b x
-
-holds_same : (ps : List Pending) (f : ℕ) (x : List ℕ) → Untouched ps f → holds_with ps f x ≡ x
-holds_same [] f x u = refl
-holds_same (p ∷ ps) f x u = ap (holds_with ps f) (held_same p.call (is_file f p.file) p.bytes x u.0) ∙ holds_same ps f x u.1
 
 -- ---- changes of names
 
@@ -234,14 +178,14 @@ sturdy_unlink es i b k = record { calm = calm; names = names_push (leads (Unlink
     calm Lasting m a f e = untouched_push (pending es) (renames (call.Unlink (tmp_name i b)) None) f (k.calm Lasting m a f e) refl
 
 sturdy_append : (es : List Effect) (n own : ℕ) (bytes : List ℕ) → leads es Live n ≡ Some own → IsOwn es own → Sturdy es → Sturdy (Append n bytes ∷ es)
-sturdy_append es n own bytes at alone k = record { calm = calm; names = further_names (leads es Live) (pending es) n (long es (leads es Live n)) bytes (leads es Live n) k.names }
+sturdy_append es n own bytes at alone k = record { calm = calm; names = further_names (leads es Live) (pending es) n (long (contents es Live) (leads es Live n)) bytes (leads es Live n) k.names }
   where
     calm : Calm (Append n bytes ∷ es)
     calm Live m a f e =
-        further_untouched (pending es) n (long es (leads es Live n)) bytes (leads es Live n) f (k.calm Live m a f e)
+        written_untouched (pending es) (call.Append n (long (contents es Live) (leads es Live n))) bytes (leads es Live n) f (k.calm Live m a f e)
         (not_own es n own f at (λ same. alone Live m a (e ∙ ap Some (sym same))))
     calm Lasting m a f e =
-        further_untouched (pending es) n (long es (leads es Live n)) bytes (leads es Live n) f (k.calm Lasting m a f e)
+        written_untouched (pending es) (call.Append n (long (contents es Live) (leads es Live n))) bytes (leads es Live n) f (k.calm Lasting m a f e)
         (not_own es n own f at (λ same. alone Lasting m a (e ∙ ap Some (sym same))))
 
 sturdy_sync : (es : List Effect) (n : ℕ) → Sturdy es → Sturdy (Sync n ∷ es)
@@ -382,14 +326,14 @@ record IsWhole (w : ℕ → List ℕ) (es : List Effect) (m f : ℕ) : Type 0 wh
   untouched : Untouched (pending es) f
 
 whole_left : (w : ℕ → List ℕ) (es : List Effect) (keep : List Bool) → Solid w es → Sturdy es → (m : ℕ) (a : Attempt) (f : ℕ)
-    → (standing_keeping (kept keep (pending es)) es).leads (new_name m a) ≡ Some f → (standing_keeping (kept keep (pending es)) es).contents f ≡ w m
+    → leads (PowerCut keep ∷ es) Live (new_name m a) ≡ Some f → contents (PowerCut keep ∷ es) Live f ≡ w m
 whole_left w es keep solid k m a f e =
     let all : (side : Side) (i : ℕ) (b : Attempt) (g : ℕ) → leads es side (new_name i b) ≡ Some g → IsWhole w es i g =
     λ side i b g at. record { holds = solid side i b g at; untouched = k.calm side i b g at } in
     let good = good_leads (leads es Live) (IsWhole w es) (all Live) m a (kept keep (pending es)) (leads es Lasting (new_name m a)) (names_kept (leads es Live) keep (pending es) k.names) (all Lasting m a) f e in
     holds_same (kept keep (pending es)) f (contents es Lasting f) (untouched_kept keep (pending es) f good.untouched) ∙ good.holds
 
-stand_left : (es : List Effect) (keep : List Bool) → Sturdy es → (ms : List ℕ) → Delivered es ms → Stand (standing_keeping (kept keep (pending es)) es) ms
+stand_left : (es : List Effect) (keep : List Bool) → Sturdy es → (ms : List ℕ) → Delivered es ms → Stand (standing (PowerCut keep ∷ es)) ms
 stand_left es keep k [] d = tt
 stand_left es keep k (m ∷ ms) d =
     let at = d.0 Lasting in
@@ -401,7 +345,7 @@ sound_keeps messages own keep =
     let w = whole_of messages in
     let s = after (machine Sound messages) own in
     let k = led_both w messages (start_of Sound messages) own (start_both messages) in
-    let left : Standing = standing_keeping (kept keep (pending s.effects)) s.effects in
+    let left : Standing = standing (PowerCut keep ∷ s.effects) in
     judged_kept messages s.tally.acknowledged left
     (none_torn w left 1 messages (whole_left w s.effects keep k.safe.base.solid k.firm.sturdy) (whole_tells 0 ([] ∷ messages)).1)
     (none_lost left s.tally.acknowledged (stand_left s.effects keep k.firm.sturdy s.tally.acknowledged k.safe.base.delivered))

@@ -9,28 +9,21 @@ use Rattle.scenario_values.specs.Scenario.{Entries}
 use Rattle.action_eval.specs.Answers.{Given, replies, start}
 use Rattle.sim_device.specs.declared.pending.Call.{Call}
 use Rattle.sim_device.specs.declared.pending.Call.TheVariants as call
-use Rattle.sim_device.specs.FileEffects.{Effect, Lasting, leads, contents}
-use Rattle.sim_device.specs.Pending.{Pending, pending, kept, leads_with, holds_with}
+use Rattle.sim_device.specs.FileEffects.{PowerCut, pending}
+use Rattle.sim_device.specs.Pending.{Pending}
 use Rattle.target_trait.specs.declared.judgement.Judgement.{Judgement}
 use Rattle.target_trait.specs.Machine.{after}
 use Rattle.target_trait.specs.Outcomes.{play}
 use Rattle.target_trait.specs.Cuts.{Cut}
 use Rattle.maildir_target.specs.declared.variant.Variant.{Variant}
 use Rattle.maildir_target.specs.Words.{name_text}
-use Rattle.maildir_target.specs.Judgement.{Standing, judged_now}
+use Rattle.maildir_target.specs.Judgement.{judged_now, standing}
 use Rattle.maildir_target.specs.Steps.{State, machine, asks_of}
 use Rattle.maildir_target.specs.Flaws.{sync_and_unlink_fail}
 
--- what stands after a power cut that kept these writes
-abbrev pub standing_keeping : List Pending → List Effect → Standing
-standing_keeping writes effects = record {
-  leads = λ name. leads_with writes name (leads effects Lasting name);
-  contents = λ f. holds_with writes f (contents effects Lasting f);
-}
-
 -- the judgement after a cut of which these answers tell what it keeps
 abbrev pub judged_keeping : List (List (List ℕ)) → State → List Bool → Judgement
-judged_keeping messages s keep = judged_now messages s.tally.acknowledged (standing_keeping (kept keep (pending s.effects)) s.effects)
+judged_keeping messages s keep = judged_now messages s.tally.acknowledged (standing (PowerCut keep ∷ s.effects))
 
 -- by the answers of a run
 abbrev pub cut_of : Variant → List (List (List ℕ)) → Cut

@@ -53,4 +53,4 @@ judged_now messages acknowledged s = judged_by (has_torn s 1 messages) (has_lost
 
 -- the judgement of these messages, of which these were acknowledged, by what stands after a power cut
 abbrev pub judged : List (List (List ℕ)) → List ℕ → List Effect → Judgement
-judged messages acknowledged effects = judged_now messages acknowledged (standing (PowerCut ∷ effects))
+judged messages acknowledged effects = judged_now messages acknowledged (standing (PowerCut [] ∷ effects))

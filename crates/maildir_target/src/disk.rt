@@ -1,8 +1,7 @@
 //! The devices of a run. None of the calls on them is refused but for want of memory.
 ghost use Rattle.std.specs.Prelude.{◌≡◌, ◌≤◌, ◌-◌, ℕ, List, [], length, take, drop, OnOk, IsOk, MatchOption, None, Some, is_some, is_none, false};
 ghost use Rattle.sim_device.specs.FileEffects.{Effect, Append, Create, Sync, SyncDir, Link, Unlink, Live, leads};
-ghost use Rattle.sim_device.specs.Disk.{StandsFor, entry_at, reads};
-ghost use Rattle.sim_device.specs.Pending.{Tells};
+ghost use Rattle.sim_device.specs.Disk.{StandsFor, Tells, entry_at, reads};
 ghost use Rattle.sim_device.specs.declared.names.Entry.{Entry};
 ghost use Rattle.maildir_target.specs.Judgement.{Standing, standing, held_in};
 ghost use Rattle.maildir_target.specs.inside.Devices.{Adds, with_chunks};

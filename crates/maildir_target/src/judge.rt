@@ -1,11 +1,9 @@
 //! The judgement: what the names under `new/` hold after a power cut.
-ghost use Rattle.std.specs.Prelude.{◌≡◌, ◌≤◌, ◌∷◌, ℕ, List, length, not, is_none, IfOk};
+ghost use Rattle.std.specs.Prelude.{◌≡◌, ◌≤◌, [], ◌∷◌, ℕ, List, length, not, is_none, IfOk};
 ghost use Rattle.sim_device.specs.FileEffects.{Effect, PowerCut};
-ghost use Rattle.sim_device.specs.Disk.{StandsFor, AddsEffect};
-ghost use Rattle.sim_device.specs.Pending.{Tells, pending, kept};
+ghost use Rattle.sim_device.specs.Disk.{StandsFor, AddsEffect, Tells};
 ghost use Rattle.chunked_text.specs.Chunks.{joined};
-ghost use Rattle.maildir_target.specs.Judgement.{Standing, held_in, differs, is_torn, has_torn, is_delivered, has_lost, judged_now, judged};
-ghost use Rattle.maildir_target.specs.Crash.{standing_keeping};
+ghost use Rattle.maildir_target.specs.Judgement.{Standing, held_in, differs, is_torn, has_torn, is_delivered, has_lost, judged_now, judged, standing};
 
 use crate::disk::Device;
 use crate::name::{Attempt, new_name};
@@ -97,7 +95,7 @@ fn judgement<D: Device>(device: &D, messages: &[Chunks], acknowledged: &[u16]) -
 pub fn judge(device: &mut FileDevice, messages: &[Chunks], acknowledged: &[u16]) -> Judgement
     requires { length messages.now ≤ 1000 }
     ensures judged { (es : List Effect) → StandsFor device.old es → result ≡ judged messages.now acknowledged.now es }
-    ensures cut { AddsEffect device.old device.new PowerCut }
+    ensures cut { AddsEffect device.old device.new (PowerCut []) }
 {
     device.power_cut();
     judgement(device, messages, acknowledged)
@@ -113,7 +111,7 @@ pub fn judge_keeping(
 ) -> Result<Judgement, AllocError>
     requires { length messages.now ≤ 1000 }
     ensures { IfOk result (λ judgement. (es : List Effect) → Tells device.old es
-        → judgement ≡ judged_now messages.now acknowledged.now (standing_keeping (kept keep.now (pending es)) es)) }
+        → judgement ≡ judged_now messages.now acknowledged.now (standing (PowerCut keep.now ∷ es))) }
 {
     device.cut_keeping(keep)?;
     Ok(judgement(device, messages, acknowledged))

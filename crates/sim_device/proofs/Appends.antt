@@ -2,7 +2,8 @@
 use Rattle.std.proofs.Common.{◌≡◌, ℕ, Bool, true, false, cond, List, [], ◌∷◌, ◌++◌, refl, sym, ◌∙◌, append_assoc}
 use Rattle.std.proofs.lemmas.List.{append-nil}
 use Rattle.std.specs.List.{concat}
-use Rattle.sim_device.specs.FileEffects.{Effect, Append, Live, leads, contents, is_file}
+use Rattle.sim_device.specs.FileEffects.{Effect, Append, Live, leads, contents}
+use Rattle.sim_device.specs.Pending.{is_file}
 use Rattle.sim_device.specs.Disk.{Disk, StandsFor}
 
 both : (b : Bool) (held first second : List ℕ) → cond b (held ++ (first ++ second)) held ≡ cond b (cond b (held ++ first) held ++ second) (cond b (held ++ first) held)

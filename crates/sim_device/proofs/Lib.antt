@@ -1,7 +1,9 @@
 pub mod Appends
+pub mod InUse
+pub mod Untouched
+pub mod PendingLaws
 pub mod EffectLaws
 pub mod Keeping
 pub mod KeptWrites
 pub mod Overwrites
-pub mod PendingLaws
 pub mod LogLaws

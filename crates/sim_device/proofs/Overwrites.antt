@@ -3,7 +3,7 @@ use Rattle.std.proofs.Common.{◌≡◌, ℕ, ◌+◌, ◌-◌, ◌<◌, ◌≤�
 use Rattle.std.proofs.Math.Seq.{take-append-add}
 use Rattle.std.proofs.lemmas.List.{append-nil, drop_all, length-replicate, take-append-le, take-replicate}
 use Rattle.std.proofs.lemmas.Bool.{cases_lt}
-use Rattle.sim_device.specs.FileEffects.{overwritten}
+use Rattle.sim_device.specs.Pending.{overwritten}
 
 -- so many zeros after what is held
 zeros_after : (old : List ℕ) (k n : ℕ) → k ≤ n → take (length old + k) (old ++ replicate n 0) ≡ old ++ replicate k 0

@@ -1,89 +1,26 @@
 -- Laws of pending writes.
-use Rattle.std.proofs.Common.{◌≡◌, ℕ, ◌+◌, ◌<◌, ◌≤◌, ◌&&◌, not, nat_eq, nat_lt, Bool, true, false, cond, List, [], ◌∷◌, ◌++◌, take, drop, filter, length, Option, Some, None, IfSome, ◌⊎◌, inl, inr, replicate, refl, ap, sym, subst, ◌∙◌, arith}
+use Rattle.std.proofs.Common.{◌≡◌, ℕ, ◌+◌, ◌<◌, ◌≤◌, ◌&&◌, not, nat_eq, nat_lt, Bool, true, false, cond, List, [], ◌∷◌, ◌++◌, take, drop, filter, length, Option, Some, None, replicate, refl, ap, sym, subst, ◌∙◌, arith}
 use Rattle.std.proofs.lemmas.Bool.{eqb-true, eqb-false, ltb-false, ne_eqb}
 use Rattle.std.proofs.lemmas.List.{append-nil, drop_all, take_all, take_at}
 use Rattle.sim_device.specs.declared.pending.Call.{Call}
 use Rattle.sim_device.specs.declared.pending.Call.TheVariants as call
-use Rattle.sim_device.specs.FileEffects.{Effect, Create, Append, Write, Truncate, Sync, Rename, Link, Unlink, SyncDir, PowerCut, Live, Lasting, created, leads, contents, is_file, overwritten}
-use Rattle.sim_device.specs.Disk.{Disk, StandsFor}
-use Rattle.sim_device.specs.Pending.{Pending, Noted, IsLeft, CutsKeeping, pending, kept, further, written, shortened, long, renames, is_to, is_of_contents, led_by, held_by, held_with, leads_with, holds_with}
+use Rattle.sim_device.specs.FileEffects.{Effect, Create, Append, Write, Truncate, Sync, Rename, Link, Unlink, SyncDir, PowerCut, Side, Live, Lasting, created, leads, contents, pending}
+use Rattle.sim_device.specs.Disk.{Noted, AddsNoted}
+use Rattle.sim_device.specs.Pending.{Pending, is_file, overwritten, kept, further, written, shortened, long, renames, is_to, is_of_contents, led_by, held_by, held_with, leads_with, holds_with}
 use Rattle.sim_device.specs.inside.Laid.{SettlesTo, AreOfFiles}
-use Rattle.sim_device.proofs.EffectLaws.{leads_created}
-
--- ---- each pending write is of a file in use
-
-abbrev InUse : ℕ → Option ℕ → Type 0
-InUse used o = IfSome o (λ f. f < used)
-
-more_in_use : (o : Option ℕ) (used more : ℕ) → used ≤ more → InUse used o → InUse more o
-more_in_use None used more few h = tt
-more_in_use (Some f) used more few h = omega (arith, few, h)
-
-more_files : (writes : List Pending) (used more : ℕ) → used ≤ more → AreOfFiles writes used → AreOfFiles writes more
-more_files [] used more few h = tt
-more_files (p ∷ writes) used more few h = (more_in_use p.file used more few h.0, more_files writes used more few h.1)
-
-one_more : (writes : List Pending) (p : Pending) (used : ℕ) → AreOfFiles writes used → InUse used p.file → AreOfFiles (writes ++ p ∷ []) used
-one_more [] p used h k = (k, tt)
-one_more (q ∷ writes) p used h k = (h.0, one_more writes p used h.1 k)
-
-fewer : (test : Pending → Bool) (writes : List Pending) (used : ℕ) → AreOfFiles writes used → AreOfFiles (filter test writes) used
-fewer test [] used h = tt
-fewer test (p ∷ writes) used h = by_test (test p) p (filter test writes) used h.0 (fewer test writes used h.1)
-  where
-    by_test : (b : Bool) (p : Pending) (writes : List Pending) (used : ℕ) → InUse used p.file → AreOfFiles writes used → AreOfFiles (cond b (p ∷ writes) writes) used
-    by_test true p writes used k h = (k, h)
-    by_test false p writes used k h = h
-
-written_more : (writes : List Pending) (c : Call) (bytes : List ℕ) (o : Option ℕ) (used : ℕ) → AreOfFiles writes used → InUse used o
-    → AreOfFiles (further writes (written c bytes o)) used
-written_more writes c bytes None used h k = h
-written_more writes c [] (Some f) used h k = h
-written_more writes c (byte ∷ bytes) (Some f) used h k = one_more writes (record { call = c; file = Some f; bytes = byte ∷ bytes }) used h k
-
-shortened_more : (writes : List Pending) (n count size : ℕ) (o : Option ℕ) (used : ℕ) → AreOfFiles writes used → InUse used o
-    → AreOfFiles (further writes (shortened n count size o)) used
-shortened_more writes n count size None used h k = h
-shortened_more writes n count size (Some f) used h k =
-    by_test (nat_lt count size) writes (record { call = call.Truncate n count; file = Some f; bytes = [] }) used h k
-  where
-    by_test : (b : Bool) (writes : List Pending) (p : Pending) (used : ℕ) → AreOfFiles writes used → InUse used p.file → AreOfFiles (further writes (cond b (Some p) None)) used
-    by_test true writes p used h k = one_more writes p used h k
-    by_test false writes p used h k = h
-
-led_in_use : (es : List Effect) (n : ℕ) → InUse (created es) (leads es Live n)
-led_in_use es n = by_file (leads es Live n) (created es) (λ f e. leads_created es Live n f e)
-  where
-    by_file : (o : Option ℕ) (used : ℕ) → ((f : ℕ) → o ≡ Some f → f < used) → InUse used o
-    by_file None used h = tt
-    by_file (Some f) used h = h f refl
-
-pub pending_of_files : (es : List Effect) → AreOfFiles (pending es) (created es)
-pending_of_files [] = tt
-pending_of_files (Create m ∷ es) =
-    one_more (pending es) (renames (call.Create m) (Some (created es))) (created es + 1) (more_files (pending es) (created es) (created es + 1) (omega arith) (pending_of_files es)) (omega arith)
-pending_of_files (Append m bytes ∷ es) =
-    written_more (pending es) (call.Append m (long es (leads es Live m))) bytes (leads es Live m) (created es) (pending_of_files es) (led_in_use es m)
-pending_of_files (Write m place bytes ∷ es) =
-    written_more (pending es) (call.WriteAt m place) bytes (leads es Live m) (created es) (pending_of_files es) (led_in_use es m)
-pending_of_files (Truncate m count ∷ es) =
-    shortened_more (pending es) m count (long es (leads es Live m)) (leads es Live m) (created es) (pending_of_files es) (led_in_use es m)
-pending_of_files (Sync m ∷ es) = fewer (λ p. not (is_to (leads es Live m) p)) (pending es) (created es) (pending_of_files es)
-pending_of_files (Rename a b ∷ es) = one_more (pending es) (renames (call.Rename a b) (leads es Live a)) (created es) (pending_of_files es) (led_in_use es a)
-pending_of_files (Link a b ∷ es) = one_more (pending es) (renames (call.Link a b) (leads es Live a)) (created es) (pending_of_files es) (led_in_use es a)
-pending_of_files (Unlink m ∷ es) = one_more (pending es) (renames (call.Unlink m) None) (created es) (pending_of_files es) tt
-pending_of_files (SyncDir ∷ es) = fewer (λ p. is_of_contents p.call) (pending es) (created es) (pending_of_files es)
-pending_of_files (PowerCut ∷ es) = tt
+use Rattle.sim_device.proofs.InUse.{InUse, pending_of_files}
+use Rattle.sim_device.proofs.Untouched.{held_case, held_untouched, holds_same, synced_untouched}
 
 -- ---- what the device does is what a cut leaves
 
 pub cuts_keeping : (old new : Noted) (keep : List Bool) → (AreOfFiles old.pending (length old.disk.files) → SettlesTo old.disk new.disk (kept keep old.pending)) → new.pending ≡ []
-    → CutsKeeping old new keep
+    → AddsNoted old new (PowerCut keep)
 cuts_keeping old new keep settles none es k =
     let of_files : AreOfFiles old.pending (length old.disk.files) =
     subst (λ used. AreOfFiles old.pending used) (sym k.disk.made) (subst (λ (l : List Pending). AreOfFiles l (created es)) (sym k.pending) (pending_of_files es)) in
-    let s : SettlesTo old.disk new.disk (kept keep (pending es)) = subst (λ (l : List Pending). SettlesTo old.disk new.disk (kept keep l)) k.pending (settles of_files) in (
-      record {
+    let s : SettlesTo old.disk new.disk (kept keep (pending es)) = subst (λ (l : List Pending). SettlesTo old.disk new.disk (kept keep l)) k.pending (settles of_files) in
+    record {
+      disk = record {
         live = λ n. s.live n ∙ ap (leads_with (kept keep (pending es)) n) (k.disk.lasting n);
         lasting = λ n. s.lasting n ∙ ap (leads_with (kept keep (pending es)) n) (k.disk.lasting n);
         made = s.made ∙ k.disk.made;
@@ -93,9 +30,9 @@ cuts_keeping old new keep settles none es k =
         disk = λ f within.
             let used : f < length old.disk.files = subst (λ m. f < m) s.made within in
             s.disk f used ∙ ap (holds_with (kept keep (pending es)) f) (k.disk.disk f used);
-      },
-      none,
-    )
+      };
+      pending = none;
+    }
 
 -- ---- names, where all is kept
 
@@ -164,9 +101,9 @@ all_names (Create m ∷ es) n =
     leads_more (pending es) (renames (call.Create m) (Some (created es))) n (leads es Lasting n)
     ∙ ap (led_by (call.Create m) (Some (created es)) n) (all_names es n)
 all_names (Append m bytes ∷ es) n =
-    leads_written (pending es) (call.Append m (long es (leads es Live m))) bytes (leads es Live m) n (leads es Lasting n) refl ∙ all_names es n
+    leads_written (pending es) (call.Append m (long (contents es Live) (leads es Live m))) bytes (leads es Live m) n (leads es Lasting n) refl ∙ all_names es n
 all_names (Write m place bytes ∷ es) n = leads_written (pending es) (call.WriteAt m place) bytes (leads es Live m) n (leads es Lasting n) refl ∙ all_names es n
-all_names (Truncate m count ∷ es) n = leads_shortened (pending es) m count (long es (leads es Live m)) (leads es Live m) n (leads es Lasting n) ∙ all_names es n
+all_names (Truncate m count ∷ es) n = leads_shortened (pending es) m count (long (contents es Live) (leads es Live m)) (leads es Live m) n (leads es Lasting n) ∙ all_names es n
 all_names (Sync m ∷ es) n = leads_unsynced (leads es Live m) (pending es) n (leads es Lasting n) ∙ all_names es n
 all_names (Rename a b ∷ es) n =
     leads_more (pending es) (renames (call.Rename a b) (leads es Live a)) n (leads es Lasting n)
@@ -177,7 +114,7 @@ all_names (Link a b ∷ es) n =
 all_names (Unlink m ∷ es) n =
     leads_more (pending es) (renames (call.Unlink m) None) n (leads es Lasting n) ∙ ap (led_by (call.Unlink m) None n) (all_names es n)
 all_names (SyncDir ∷ es) n = leads_contents (pending es) n (leads es Live n)
-all_names (PowerCut ∷ es) n = refl
+all_names (PowerCut keep ∷ es) n = refl
 
 -- ---- contents, where all is kept
 
@@ -185,22 +122,9 @@ holds_more : (writes : List Pending) (p : Pending) (f : ℕ) (x : List ℕ) → 
 holds_more [] p f x = refl
 holds_more (q ∷ writes) p f x = holds_more writes p f (held_with q f x)
 
-same_both : {X : Type 0} → (b : Bool) (x : X) → cond b x x ≡ x
-same_both true x = refl
-same_both false x = refl
-
-held_same : (c : Call) (bytes x : List ℕ) → is_of_contents c ≡ false → held_by c bytes x ≡ x
-held_same (call.Create m) bytes x e = refl
-held_same (call.Append m place) bytes x e = absurd cc
-held_same (call.WriteAt m place) bytes x e = absurd cc
-held_same (call.Truncate m count) bytes x e = absurd cc
-held_same (call.Rename a b) bytes x e = refl
-held_same (call.Link a b) bytes x e = refl
-held_same (call.Unlink m) bytes x e = refl
-
 -- a change of names leaves contents as they are
 names_alone_held : (p : Pending) (f : ℕ) (x : List ℕ) → is_of_contents p.call ≡ false → held_with p f x ≡ x
-names_alone_held p f x e = ap (λ (l : List ℕ). cond (is_file f p.file) l x) (held_same p.call p.bytes x e) ∙ same_both (is_file f p.file) x
+names_alone_held p f x e = held_untouched p f x (ap (λ b. b && is_file f p.file) e)
 
 -- and so does a write to another file
 other_held : (p : Pending) (f : ℕ) (x : List ℕ) → is_file f p.file ≡ false → held_with p f x ≡ x
@@ -214,7 +138,7 @@ holds_written : (writes : List Pending) (c : Call) (bytes : List ℕ) (o : Optio
     → holds_with writes f x ≡ live
     → holds_with (further writes (written c bytes o)) f x ≡ cond (is_file f o) (held_by c bytes live) live
 holds_written writes c bytes None f x live none h = h
-holds_written writes c [] (Some g) f x live none h = h ∙ sym (ap (λ (l : List ℕ). cond (is_file f (Some g)) l live) none ∙ same_both (is_file f (Some g)) live)
+holds_written writes c [] (Some g) f x live none h = h ∙ sym (ap (λ (l : List ℕ). cond (is_file f (Some g)) l live) none ∙ held_case (is_file f (Some g)) live)
 holds_written writes c (byte ∷ bytes) (Some g) f x live none h =
     holds_more writes (record { call = c; file = Some g; bytes = byte ∷ bytes }) f x
     ∙ ap (held_with (record { call = c; file = Some g; bytes = byte ∷ bytes }) f) h
@@ -233,7 +157,7 @@ appended_here true place bytes old h = ap (λ p. overwritten p bytes old) (h ref
 appended_here false place bytes old h = refl
 
 -- the file of a name is this one
-long_here : (es : List Effect) (o : Option ℕ) (f : ℕ) → is_file f o ≡ true → long es o ≡ length (contents es Live f)
+long_here : (es : List Effect) (o : Option ℕ) (f : ℕ) → is_file f o ≡ true → long (contents es Live) o ≡ length (contents es Live f)
 long_here es None f e = absurd cc
 long_here es (Some g) f e = ap (λ h. length (contents es Live h)) (eqb-true g f e)
 
@@ -250,32 +174,13 @@ holds_cut true writes m count g f x live h k =
 holds_cut false writes m count g f x live h k = h ∙ cut_here (is_file f (Some g)) count live (k refl)
 
 holds_shortened : (es : List Effect) (writes : List Pending) (m count : ℕ) (o : Option ℕ) (f : ℕ) (x : List ℕ) → holds_with writes f x ≡ contents es Live f
-    → holds_with (further writes (shortened m count (long es o) o)) f x ≡ cond (is_file f o) (take count (contents es Live f)) (contents es Live f)
+    → holds_with (further writes (shortened m count (long (contents es Live) o) o)) f x ≡ cond (is_file f o) (take count (contents es Live f)) (contents es Live f)
 holds_shortened es writes m count None f x h = h
 holds_shortened es writes m count (Some g) f x h =
     holds_cut (nat_lt count (length (contents es Live g))) writes m count g f x (contents es Live f) h
     (λ less is. subst (λ k. k ≤ count) (long_here es (Some g) f is) (ltb-false count (length (contents es Live g)) less))
 
--- after a sync of the file, no write to it is left
-holds_left : (b : Bool) (p : Pending) (rest : List Pending) (f : ℕ) (y : List ℕ) → (b ≡ true → held_with p f y ≡ y) → holds_with rest f y ≡ y
-    → holds_with (cond b (p ∷ rest) rest) f y ≡ y
-holds_left true p rest f y h k = ap (holds_with rest f) (h refl) ∙ k
-holds_left false p rest f y h k = k
-
-not_here : (a b : Bool) → not (a && b) ≡ true → (a ≡ false) ⊎ (b ≡ false)
-not_here true true e = absurd cc
-not_here true false e = inr refl
-not_here false b e = inl refl
-
-not_to : (p : Pending) (f : ℕ) (y : List ℕ) → not (is_to (Some f) p) ≡ true → held_with p f y ≡ y
-not_to p f y e = elim (not_here (is_of_contents p.call) (is_file f p.file) e) [ inl names ↦ names_alone_held p f y names | inr other ↦ other_held p f y other ]
-
-holds_synced : (f : ℕ) (writes : List Pending) (y : List ℕ) → holds_with (filter (λ p. not (is_to (Some f) p)) writes) f y ≡ y
-holds_synced f [] y = refl
-holds_synced f (p ∷ writes) y =
-    holds_left (not (is_to (Some f) p)) p (filter (λ p. not (is_to (Some f) p)) writes) f y (not_to p f y) (holds_synced f writes y)
-
--- and the writes to other files stay
+-- after a sync the writes to other files stay
 holds_kept : (b : Bool) (p : Pending) (rest writes : List Pending) (f : ℕ) (x : List ℕ) → (b ≡ false → held_with p f x ≡ x)
     → ((y : List ℕ) → holds_with rest f y ≡ holds_with writes f y) → holds_with (cond b (p ∷ rest) rest) f x ≡ holds_with (p ∷ writes) f x
 holds_kept true p rest writes f x h k = k (held_with p f x)
@@ -304,7 +209,7 @@ holds_sync : (o : Option ℕ) (f : ℕ) (b : Bool) → b ≡ is_file f o → (wr
     → holds_with (filter (λ p. not (is_to o p)) writes) f (cond b live lasting) ≡ live
 holds_sync None f true is writes live lasting h = absurd cc
 holds_sync (Some g) f true is writes live lasting h =
-    subst (λ k. holds_with (filter (λ p. not (is_to (Some k) p)) writes) f live ≡ live) (sym (eqb-true g f (sym is))) (holds_synced f writes live)
+    subst (λ k. holds_with (filter (λ p. not (is_to (Some k) p)) writes) f live ≡ live) (sym (eqb-true g f (sym is))) (holds_same (filter (λ p. not (is_to (Some f) p)) writes) f live (synced_untouched writes f))
 holds_sync o f false is writes live lasting h = holds_unsynced o f (sym is) writes lasting ∙ h
 
 -- a sync of names leaves them
@@ -337,8 +242,8 @@ all_contents (Create m ∷ es) f made =
     (λ other. all_contents es f (omega (arith, made, eqb-false f (created es) other)))
 all_contents (Append m bytes ∷ es) f made =
     let o : Option ℕ = leads es Live m in
-    holds_written (pending es) (call.Append m (long es o)) bytes o f (contents es Lasting f) (contents es Live f) refl (all_contents es f made)
-    ∙ appended_here (is_file f o) (long es o) bytes (contents es Live f) (long_here es o f)
+    holds_written (pending es) (call.Append m (long (contents es Live) o)) bytes o f (contents es Lasting f) (contents es Live f) refl (all_contents es f made)
+    ∙ appended_here (is_file f o) (long (contents es Live) o) bytes (contents es Live f) (long_here es o f)
 all_contents (Write m place bytes ∷ es) f made =
     holds_written (pending es) (call.WriteAt m place) bytes (leads es Live m) f (contents es Lasting f) (contents es Live f) refl (all_contents es f made)
 all_contents (Truncate m count ∷ es) f made = holds_shortened es (pending es) m count (leads es Live m) f (contents es Lasting f) (all_contents es f made)
@@ -350,9 +255,20 @@ all_contents (Link a b ∷ es) f made =
     holds_named (pending es) (call.Link a b) (leads es Live a) f (contents es Lasting f) (contents es Live f) refl (all_contents es f made)
 all_contents (Unlink m ∷ es) f made = holds_named (pending es) (call.Unlink m) None f (contents es Lasting f) (contents es Live f) refl (all_contents es f made)
 all_contents (SyncDir ∷ es) f made = holds_contents f (pending es) (contents es Lasting f) ∙ all_contents es f made
-all_contents (PowerCut ∷ es) f made = refl
+all_contents (PowerCut keep ∷ es) f made = refl
 
--- ---- nothing is kept
+-- ---- laws of power cuts
 
-pub none_left : (d : Disk) (es : List Effect) → IsLeft d es [] → StandsFor d (PowerCut ∷ es)
-none_left d es k = record { live = k.live; lasting = k.lasting; made = k.made; now = k.now; disk = k.disk }
+pub all_kept_names : (es : List Effect) (keep : List Bool) (side : Side) (n : ℕ) → kept keep (pending es) ≡ pending es → leads (PowerCut keep ∷ es) side n ≡ leads es Live n
+all_kept_names es keep side n all = ap (λ (writes : List Pending). leads_with writes n (leads es Lasting n)) all ∙ all_names es n
+
+pub all_kept_contents : (es : List Effect) (keep : List Bool) (side : Side) (f : ℕ) → kept keep (pending es) ≡ pending es → f < created es
+    → contents (PowerCut keep ∷ es) side f ≡ contents es Live f
+all_kept_contents es keep side f all made = ap (λ (writes : List Pending). holds_with writes f (contents es Lasting f)) all ∙ all_contents es f made
+
+pub none_kept_names : (es : List Effect) (keep : List Bool) (side : Side) (n : ℕ) → kept keep (pending es) ≡ [] → leads (PowerCut keep ∷ es) side n ≡ leads es Lasting n
+none_kept_names es keep side n none = ap (λ (writes : List Pending). leads_with writes n (leads es Lasting n)) none
+
+pub none_kept_contents : (es : List Effect) (keep : List Bool) (side : Side) (f : ℕ) → kept keep (pending es) ≡ []
+    → contents (PowerCut keep ∷ es) side f ≡ contents es Lasting f
+none_kept_contents es keep side f none = ap (λ (writes : List Pending). holds_with writes f (contents es Lasting f)) none

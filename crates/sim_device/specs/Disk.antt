@@ -1,7 +1,8 @@
 -- A file device as contracts see it: for each name and each file, what is live and what lasts.
 use Rattle.std.specs.Prelude.{◌≡◌, ℕ, ◌<◌, ◌≤◌, ◌^◌, ◌==◌, is_some, if◌then◌else◌, true, false, List, [], ◌∷◌, Option, Some, None, length, slice_index_or, option_map}
 use Rattle.sim_device.specs.declared.names.Entry.{Entry}
-use Rattle.sim_device.specs.FileEffects.{Effect, Rename, Live, Lasting, leads, contents, created}
+use Rattle.sim_device.specs.FileEffects.{Effect, Rename, Live, Lasting, leads, contents, created, pending}
+use Rattle.sim_device.specs.Pending.{Pending}
 
 -- what a file holds
 pub record Held : Type 0 where
@@ -39,6 +40,23 @@ AddsEffect old new effect = (es : List Effect) → StandsFor old es → StandsFo
 -- the same for a rename, which is no effect where the names are equal
 abbrev pub AddsRename : Disk → Disk → ℕ → ℕ → Type 0
 AddsRename old new from to = (es : List Effect) → StandsFor old es → StandsFor new (if from == to then es else Rename from to ∷ es)
+
+-- a device that tells what is pending
+pub record Noted : Type 0 where
+  pub disk : Disk
+  pub pending : List Pending
+
+-- it is what this list of effects gives, and tells what is pending after it
+pub record Tells (d : Noted) (effects : List Effect) : Type 0 where
+  pub disk : StandsFor d.disk effects
+  pub pending : d.pending ≡ pending effects
+
+-- the effect was accepted
+abbrev pub AddsNoted : Noted → Noted → Effect → Type 0
+AddsNoted old new effect = (es : List Effect) → Tells old es → Tells new (effect ∷ es)
+
+abbrev pub AddsNotedRename : Noted → Noted → ℕ → ℕ → Type 0
+AddsNotedRename old new from to = (es : List Effect) → Tells old es → Tells new (if from == to then es else Rename from to ∷ es)
 
 -- none of the names from the first to before the end is there now
 abbrev pub IsNoneThere : List Entry → ℕ → ℕ → Type 0

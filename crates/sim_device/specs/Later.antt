@@ -1,6 +1,12 @@
 -- What the laws of file effects speak of, the newest effect first.
-use Rattle.std.specs.Prelude.{◌≡◌, ℕ, ◌==◌, false, List, [], ◌∷◌, ◌++◌}
-use Rattle.sim_device.specs.FileEffects.{Effect, Create, Append, Write, Truncate, Sync, Rename, Link, Unlink, SyncDir, PowerCut, Live, leads, is_file}
+use Rattle.std.specs.Prelude.{◌≡◌, ℕ, ◌==◌, Bool, false, List, [], ◌∷◌, ◌++◌}
+use Rattle.sim_device.specs.FileEffects.{Effect, Create, Append, Write, Truncate, Sync, Rename, Link, Unlink, SyncDir, PowerCut, Live, leads}
+use Rattle.sim_device.specs.Pending.{is_file}
+
+-- none of these answers keeps a write
+abbrev pub KeepsNone : List Bool → Type 0
+KeepsNone [] = Unit {0}
+KeepsNone (keeps ∷ rest) = (keeps ≡ false) × KeepsNone rest
 
 -- among the later effects none wrote to or cut a name that then led to this file
 abbrev pub IsUntouched : ℕ → List Effect → List Effect → Type 0
@@ -14,9 +20,9 @@ IsUntouched f (Rename a b ∷ later) before = IsUntouched f later before
 IsUntouched f (Link a b ∷ later) before = IsUntouched f later before
 IsUntouched f (Unlink m ∷ later) before = IsUntouched f later before
 IsUntouched f (SyncDir ∷ later) before = IsUntouched f later before
-IsUntouched f (PowerCut ∷ later) before = IsUntouched f later before
+IsUntouched f (PowerCut keep ∷ later) before = IsUntouched f later before
 
--- no `SyncDir` is among these
+-- no `SyncDir` is among these, and no power cut that keeps a write
 abbrev pub HasNoSyncDir : List Effect → Type 0
 HasNoSyncDir [] = Unit {0}
 HasNoSyncDir (SyncDir ∷ later) = ⊥
@@ -28,7 +34,7 @@ HasNoSyncDir (Sync m ∷ later) = HasNoSyncDir later
 HasNoSyncDir (Rename a b ∷ later) = HasNoSyncDir later
 HasNoSyncDir (Link a b ∷ later) = HasNoSyncDir later
 HasNoSyncDir (Unlink m ∷ later) = HasNoSyncDir later
-HasNoSyncDir (PowerCut ∷ later) = HasNoSyncDir later
+HasNoSyncDir (PowerCut keep ∷ later) = KeepsNone keep × HasNoSyncDir later
 
 -- among the later effects none gives this name to a file or takes it from one, and none is a power cut
 abbrev pub IsUnnamed : ℕ → List Effect → Type 0
@@ -37,14 +43,14 @@ IsUnnamed n (Create m ∷ later) = ((n == m) ≡ false) × IsUnnamed n later
 IsUnnamed n (Rename a b ∷ later) = ((n == a) ≡ false) × (((n == b) ≡ false) × IsUnnamed n later)
 IsUnnamed n (Link a b ∷ later) = ((n == b) ≡ false) × IsUnnamed n later
 IsUnnamed n (Unlink m ∷ later) = ((n == m) ≡ false) × IsUnnamed n later
-IsUnnamed n (PowerCut ∷ later) = ⊥
+IsUnnamed n (PowerCut keep ∷ later) = ⊥
 IsUnnamed n (Append m bytes ∷ later) = IsUnnamed n later
 IsUnnamed n (Write m place bytes ∷ later) = IsUnnamed n later
 IsUnnamed n (Truncate m count ∷ later) = IsUnnamed n later
 IsUnnamed n (Sync m ∷ later) = IsUnnamed n later
 IsUnnamed n (SyncDir ∷ later) = IsUnnamed n later
 
--- among the later effects no sync went to a name that then led to this file
+-- among the later effects no sync went to a name that then led to this file, and no power cut kept a write
 abbrev pub IsUnsynced : ℕ → List Effect → List Effect → Type 0
 IsUnsynced f [] before = Unit {0}
 IsUnsynced f (Sync m ∷ later) before = (is_file f (leads (later ++ before) Live m) ≡ false) × IsUnsynced f later before
@@ -56,4 +62,4 @@ IsUnsynced f (Rename a b ∷ later) before = IsUnsynced f later before
 IsUnsynced f (Link a b ∷ later) before = IsUnsynced f later before
 IsUnsynced f (Unlink m ∷ later) before = IsUnsynced f later before
 IsUnsynced f (SyncDir ∷ later) before = IsUnsynced f later before
-IsUnsynced f (PowerCut ∷ later) before = IsUnsynced f later before
+IsUnsynced f (PowerCut keep ∷ later) before = KeepsNone keep × IsUnsynced f later before

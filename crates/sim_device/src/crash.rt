@@ -1,9 +1,8 @@
 //! A disk that knows which writes are pending.
 ghost use Rattle.std.specs.Prelude.{◌≡◌, List, [], Some, None, MatchResult, OnOk, OnErr, is_some, is_none};
 ghost use Rattle.sim_device.specs.FileEffects.{Effect, Create, Append, Write, Truncate, Sync, Link, Unlink, SyncDir, PowerCut};
-ghost use Rattle.sim_device.specs.Disk.{entry_at, reads};
+ghost use Rattle.sim_device.specs.Disk.{AddsNoted, AddsNotedRename, Tells, entry_at, reads};
 ghost use Rattle.sim_device.specs.Refusals.{Refuses, RefusesOnly, RefusesLink};
-ghost use Rattle.sim_device.specs.Pending.{AddsNoted, AddsNotedRename, CutsKeeping, Tells};
 
 use crate::device::FileDevice;
 use crate::fault::DeviceFault;
@@ -19,7 +18,8 @@ use std::marker::Model;
 /// kept write that nothing kept are zeros.
 ///
 /// A device stands for the list of the effects that it accepted since it was made or cleared, and what is pending follows from that list. A call
-/// that is refused changes nothing, and adds no effect. It takes memory for each pending write, so `unlink` may be refused some here.
+/// that is refused changes nothing, and adds no effect; but a `cut_keeping` that is refused memory leaves a new device. It takes memory for each
+/// pending write, so `unlink` may be refused some here.
 #[derive(Drop)]
 pub struct CrashDevice {
     alloc: Global,
@@ -28,7 +28,7 @@ pub struct CrashDevice {
 }
 
 impl Model for CrashDevice {
-    ghost use Rattle.sim_device.specs.Pending.{Noted};
+    ghost use Rattle.sim_device.specs.Disk.{Noted};
 
     ghost Value = { Noted };
 
@@ -238,22 +238,22 @@ impl CrashDevice {
         drop_names(&mut self.writes);
     }
 
-    /// Leaves only the names and contents that last: all that is pending is lost. It takes no memory.
+    /// Leaves only the names and contents that last: all that is pending is lost, as by `cut_keeping` with no answers. It takes no memory.
     pub fn power_cut(&mut self)
-        ensures { AddsNoted self.old self.new PowerCut }
+        ensures { AddsNoted self.old self.new (PowerCut []) }
     {
         self.device.power_cut();
         self.writes.clear();
     }
 
     /// Cuts the power, and keeps those pending writes for which the answers say so, in the order of `pending`. Writes past the answers are lost,
-    /// and answers past the writes mean nothing. What is left lasts.
+    /// and answers past the writes mean nothing. What is left lasts, and nothing is pending then.
     ///
     /// # Errors
     ///
     /// Only want of memory. The device is then a new one.
     pub fn cut_keeping(&mut self, keep: &[bool]) -> Result<(), AllocError>
-        ensures ok { OnOk result (CutsKeeping self.old self.new keep.now) }
+        ensures ok { OnOk result (AddsNoted self.old self.new (PowerCut keep.now)) }
         ensures err { OnErr result (Tells self.new []) }
     {
         match cut_and_lay(&mut self.device, self.writes.as_slice(), keep) {

@@ -1,5 +1,6 @@
 ghost use Rattle.std.specs.Prelude.{◌≡◌, ◌≤◌, ◌<◌, ◌+◌, ◌++◌, ℕ, List, [], ◌∷◌, length, take, OnOk, OnErr, MatchResult, IfSome, is_some, is_none, slice_set, Some, None};
-ghost use Rattle.sim_device.specs.FileEffects.{Effect, Create, Append, Write, Truncate, Sync, Link, Unlink, SyncDir, PowerCut, Live, held, overwritten};
+ghost use Rattle.sim_device.specs.FileEffects.{Effect, Create, Append, Write, Truncate, Sync, Link, Unlink, SyncDir, PowerCut, Live, held};
+ghost use Rattle.sim_device.specs.Pending.{overwritten};
 ghost use Rattle.sim_device.specs.Disk.{entry_at, held_at, StandsFor, AddsEffect, AddsRename, ChangesFile, ChangesName, IsNext};
 ghost use Rattle.sim_device.specs.Refusals.{Refuses, RefusesOnly, RefusesLink};
 
@@ -306,7 +307,7 @@ impl FileDevice {
 
     /// Leaves only the names and contents that last. It takes no memory.
     pub fn power_cut(&mut self)
-        ensures { AddsEffect self.old self.new PowerCut }
+        ensures { AddsEffect self.old self.new (PowerCut []) }
     {
         self.leave_lasting();
     }

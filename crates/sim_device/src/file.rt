@@ -1,5 +1,5 @@
 ghost use Rattle.std.specs.Prelude.{◌≡◌, ◌≤◌, ◌+◌, ◌-◌, ◌++◌, [], drop, length, replicate, take, OnOk, OnErr};
-ghost use Rattle.sim_device.specs.FileEffects.{overwritten};
+ghost use Rattle.sim_device.specs.Pending.{overwritten};
 
 use std::alloc::{AllocError, Global};
 use std::marker::Model;

@@ -1,8 +1,8 @@
 //! Laws of devices, over every list of effects and so over every run.
-ghost use Rattle.std.specs.Prelude.{◌≡◌, ◌<◌, ℕ, List, [], ◌∷◌, ◌++◌, Some, Contains, take};
-ghost use Rattle.sim_device.specs.FileEffects.{Effect, Create, Append, Write, Truncate, Sync, Rename, Link, PowerCut, Side, Live, Lasting, created, leads, contents, overwritten};
-ghost use Rattle.sim_device.specs.Disk.{Disk, StandsFor};
-ghost use Rattle.sim_device.specs.Pending.{IsLeft, pending, leads_with, holds_with};
+ghost use Rattle.std.specs.Prelude.{◌≡◌, ◌<◌, ℕ, Bool, List, [], ◌∷◌, ◌++◌, Some, Contains, take};
+ghost use Rattle.sim_device.specs.FileEffects.{Effect, Create, Append, Write, Truncate, Sync, Rename, Link, PowerCut, Side, Live, Lasting, created, leads, contents, pending, held};
+ghost use Rattle.sim_device.specs.Disk.{Disk, StandsFor, reads};
+ghost use Rattle.sim_device.specs.Pending.{overwritten, kept};
 ghost use Rattle.sim_device.specs.Later.{IsUntouched, HasNoSyncDir, IsUnnamed, IsUnsynced};
 ghost use Rattle.sim_device.specs.LogEffects.{LogEffect, Force, Restart, records, HasNoForce};
 
@@ -12,14 +12,14 @@ pub fn names_lead_to_files()
         leads effects side n ≡ Some f → f < created effects }
 {}
 
-/// Contents that were synced, and neither written to nor cut since, are what a power cut leaves.
+/// Contents that were synced, and neither written to nor cut since, are what a power cut leaves, whatever it keeps.
 pub fn synced_contents_stay()
-    ensures { (later before : List Effect) (n f : ℕ) →
+    ensures { (later before : List Effect) (n f : ℕ) (keep : List Bool) →
         leads before Live n ≡ Some f → IsUntouched f later (Sync n ∷ before) →
-        contents (PowerCut ∷ (later ++ Sync n ∷ before)) Live f ≡ contents before Live f }
+        contents (PowerCut keep ∷ (later ++ Sync n ∷ before)) Live f ≡ contents before Live f }
 {}
 
-/// Names change on the disk at `sync_dir` only.
+/// Names change on the disk at `sync_dir` only, and at a power cut that keeps a write.
 pub fn names_last()
     ensures { (later before : List Effect) (n : ℕ) →
         HasNoSyncDir later → leads (later ++ before) Lasting n ≡ leads before Lasting n }
@@ -31,7 +31,7 @@ pub fn unnamed_names_stay()
         IsUnnamed n later → leads (later ++ before) Live n ≡ leads before Live n }
 {}
 
-/// Contents change on the disk at a `sync` of their file only.
+/// Contents change on the disk at a `sync` of their file only, and at a power cut that keeps a write.
 pub fn contents_last()
     ensures { (later before : List Effect) (f : ℕ) →
         f < created before → IsUnsynced f later before → contents (later ++ before) Lasting f ≡ contents before Lasting f }
@@ -101,15 +101,31 @@ pub fn unforced_records_are_lost<R: Copy>()
         HasNoForce later → records (Restart ∷ (later ++ before)) Live ≡ records before Lasting }
 {}
 
-/// A power cut that keeps no pending write is one that loses all.
-pub fn nothing_kept_is_a_power_cut()
-    ensures { (disk : Disk) (effects : List Effect) → IsLeft disk effects [] → StandsFor disk (PowerCut ∷ effects) }
+/// A power cut that keeps no pending write leaves what lasts, and nothing more.
+pub fn nothing_kept_leaves_what_lasts()
+    ensures names { (effects : List Effect) (keep : List Bool) (side : Side) (n : ℕ) → kept keep (pending effects) ≡ [] →
+        leads (PowerCut keep ∷ effects) side n ≡ leads effects Lasting n }
+    ensures contents { (effects : List Effect) (keep : List Bool) (side : Side) (f : ℕ) → kept keep (pending effects) ≡ [] →
+        contents (PowerCut keep ∷ effects) side f ≡ contents effects Lasting f }
 {}
 
 /// A power cut that keeps each pending write loses nothing.
 pub fn all_kept_loses_nothing()
-    ensures names { (effects : List Effect) (n : ℕ) →
-        leads_with (pending effects) n (leads effects Lasting n) ≡ leads effects Live n }
-    ensures contents { (effects : List Effect) (f : ℕ) → f < created effects →
-        holds_with (pending effects) f (contents effects Lasting f) ≡ contents effects Live f }
+    ensures names { (effects : List Effect) (keep : List Bool) (side : Side) (n : ℕ) → kept keep (pending effects) ≡ pending effects →
+        leads (PowerCut keep ∷ effects) side n ≡ leads effects Live n }
+    ensures contents { (effects : List Effect) (keep : List Bool) (side : Side) (f : ℕ) → kept keep (pending effects) ≡ pending effects →
+        f < created effects → contents (PowerCut keep ∷ effects) side f ≡ contents effects Live f }
+{}
+
+/// What is appended after a power cut that kept an earlier append lies behind it, and both are there after another cut, once they are synced.
+pub fn kept_bytes_are_appended_to()
+    ensures { (before : List Effect) (name f : ℕ) (first second : List ℕ) (keep again : List Bool) →
+        leads before Live name ≡ Some f → kept keep (pending (Append name first ∷ before)) ≡ pending (Append name first ∷ before) →
+        contents (PowerCut again ∷ Sync name ∷ Append name second ∷ PowerCut keep ∷ Append name first ∷ before) Live f
+        ≡ contents before Live f ++ first ++ second }
+{}
+
+/// What a name reads on a device is what its file holds by the effects.
+pub fn names_read_what_they_hold()
+    ensures { (disk : Disk) (effects : List Effect) (n : ℕ) → StandsFor disk effects → reads disk n ≡ held effects Live n }
 {}

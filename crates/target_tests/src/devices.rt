@@ -1,6 +1,6 @@
-//! The file device and the record log.
+//! The file devices and the record log.
 
-use sim_device::{DeviceFault, FileDevice, RecordLog};
+use sim_device::{CrashDevice, DeviceFault, FileDevice, RecordLog};
 use std::alloc::AllocError;
 use std::process::Abort;
 
@@ -172,6 +172,34 @@ fn link_shares_the_file(rt: HostRuntime) -> Result<(), DeviceFault> {
     let shared = [Unlink(B), Link(A, B), Append(A, b"y"), Unlink(A)];
     perform_all(&mut device, &shared)?;
     holds(&rt, &device, B, Some(b"xy"), "the other name");
+    Ok(())
+}
+
+// Which of two appended bytes a power cut keeps, and what is there in the end where the power is cut again, a third byte is appended and synced, and the
+// power is cut once more. Where the second byte is kept without the first, there is a zero in its place.
+const RECOVERED: [(&[bool], &[u8]); 4] = [
+    (&[], b"z"),
+    (&[true], b"xz"),
+    (&[false, true], b"\0yz"),
+    (&[true, true], b"xyz"),
+];
+
+#[test]
+fn what_a_cut_kept_lasts_and_is_appended_to(rt: HostRuntime) -> Result<(), DeviceFault> {
+    for (keep, contents) in RECOVERED {
+        let mut device = CrashDevice::new(rt.alloc());
+        device.create(A)?;
+        device.sync_dir();
+        device.append(A, b"x")?;
+        device.append(A, b"y")?;
+        device.cut_keeping(keep)?;
+        assert!(rt; device.pending().is_empty());
+        device.power_cut();
+        device.append(A, b"z")?;
+        device.sync(A)?;
+        device.power_cut();
+        assert_eq!(rt; device.read(A), Ok(contents));
+    }
     Ok(())
 }
 

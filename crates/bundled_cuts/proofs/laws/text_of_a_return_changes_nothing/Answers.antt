@@ -1,7 +1,7 @@
 use Rattle.std.specs.Prelude.{◌≡◌, ℕ, List, length}
 use Rattle.std.proofs.Common.{refl}
 use Rattle.action_eval.specs.Answers.{Reply, Go, Return, Halt}
-use Rattle.sim_device.specs.Pending.{pending as calls}
+use Rattle.sim_device.specs.FileEffects.{pending as calls}
 use Rattle.commit_target.specs.Writes.{pending as records}
 use Rattle.file_replace.specs.declared.variant.Variant.{Variant as Replacement}
 use Rattle.file_replace.specs.Work.{Work as Replacements}

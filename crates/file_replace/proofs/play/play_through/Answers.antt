@@ -1,4 +1,4 @@
-use Rattle.std.proofs.Common.{◌∷◌, sym, subst}
+use Rattle.std.proofs.Common.{[], ◌∷◌, sym, subst}
 use Rattle.sim_device.specs.FileEffects.{PowerCut}
 use Rattle.sim_device.specs.Disk.{StandsFor}
 use Rattle.file_replace.specs.Steps.{State}
@@ -11,4 +11,4 @@ returns-clause-play c = played_over _ _ _ _ _ c.in_ok-progress.ensures.played c.
 pub returns-clause-left : goal.returns-clause-left
 returns-clause-left c =
     let k = c.in_ok-progress.ensures.played in
-    subst (λ (s : State). StandsFor c.judge.new.device (PowerCut ∷ s.effects)) (sym k.reached.here) (c.judge.ensures.cut k.effects k.device)
+    subst (λ (s : State). StandsFor c.judge.new.device (PowerCut [] ∷ s.effects)) (sym k.reached.here) (c.judge.ensures.cut k.effects k.device)
