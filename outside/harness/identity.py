@@ -74,10 +74,21 @@ def differences(known: Identity, other: Identity) -> list[str]:
     return found
 
 
+def noted(answers: Path) -> dict:
+    """What the note beside answers says; nothing where there is none."""
+    note = answers.with_name(NOTE)
+    try:
+        said = json.loads(note.read_text("utf-8")) if note.exists() else {}
+    except (OSError, ValueError):
+        said = None
+    if not isinstance(said, dict):
+        raise Stopped(f"{note} isn't as a campaign leaves it: take it and {answers.name} away, and begin anew")
+    return said
+
+
 def refuse_others(answers: Path, own: Identity) -> None:
     """Answers that the note beside them says to be those of another harness."""
-    note = answers.with_name(NOTE)
-    known = json.loads(note.read_text()).get("harness") if note.exists() else None
+    known = noted(answers).get("harness")
     if known == own:
         return
     names = differences(known, own) if isinstance(known, dict) else []

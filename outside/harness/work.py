@@ -11,7 +11,7 @@ from pathlib import Path
 from . import tree
 from .answers import Answers
 from .disk import disk_of
-from .identity import NOTE, Identity, refuse_others
+from .identity import NOTE, Identity, noted, refuse_others
 
 PREFIX = "paklour-"
 TRIES = 20  # to take it away
@@ -35,7 +35,7 @@ class Note:
         self.own = own
         if answers.count:
             refuse_others(place, own)
-        left = Path(json.loads(self.path.read_text()).get("work", "") if self.path.exists() else "")
+        left = Path(noted(place).get("work", ""))
         if left.name.startswith(PREFIX) and left.is_dir():
             tree.remove(str(left))
         self.write()

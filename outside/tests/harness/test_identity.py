@@ -106,6 +106,15 @@ class Resumed(Campaigns):
         self.assertEqual((done.status, done.told),
             (2, f"loop: {self.folder}/answers are those of another harness, with another saving.sh: take them away, and begin anew\n"))
 
+    def test_a_note_that_no_campaign_left(self):
+        self.assertEqual(self.loop("-j", 2, self.folder).status, 0)
+        note = self.folder / "campaign.json"
+        for said in ("", "[1]", "{"):
+            note.write_text(said)
+            done = self.loop("-j", 2, self.folder)
+            self.assertEqual((done.status, done.told),
+                (2, f"loop: {note} isn't as a campaign leaves it: take it and answers away, and begin anew\n"), said)
+
     def test_campaigns_in_its_own_folder(self):
         for _ in range(2):
             done = self.loop("-j", 2, "--into", self.folder / "result", self.folder)
