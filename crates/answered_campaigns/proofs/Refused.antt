@@ -10,6 +10,7 @@ use Rattle.grown_plans.proofs.Members.{all_weaker, contains_cases, contains_head
 use Rattle.known_runs.specs.Known.{KnownRuns}
 use Rattle.known_runs.specs.KnownPart.{are_told}
 use Rattle.action_eval.specs.declared.rig.Kind.{Kind}
+use Rattle.grown_plans.specs.GrownPlans.{levels_to}
 use Rattle.known_runs.specs.ToldPart.{level_known, levels_known}
 use Rattle.known_runs.proofs.Kept.{part_short}
 use Rattle.plan_gen.specs.PlanList.{Asked}
@@ -229,7 +230,7 @@ left_some [] ys some = absurd (omega (arith, some))
 left_some (x ∷ xs) ys some = omega arith
 
 levels_some : (kinds : ℕ → List Kind) (runs : KnownRuns) (d : ℕ) → 0 < length (levels_known kinds runs d)
-unfolding levels_known level_known
+unfolding levels_to level_known
 levels_some kinds runs zero = omega arith
 levels_some kinds runs (suc d) = left_some (levels_known kinds runs d) _ (levels_some kinds runs d)
 

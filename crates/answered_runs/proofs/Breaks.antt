@@ -10,7 +10,7 @@ use Rattle.action_eval.specs.declared.rig.Site.{Site}
 use Rattle.action_eval.specs.declared.rig.Kind.TheVariants.{OnwardReturn}
 use Rattle.action_eval.specs.RiggedScenario.{text_of, rig}
 use Rattle.plan_gen.specs.RiggedAnswers.{is_onward}
-use Rattle.grown_plans.specs.GrownPlans.{Subject, run_of_plan, hits_past, grown_at, children, level, levels, onward, onward_of, grown, is_once_return, is_hit_again}
+use Rattle.grown_plans.specs.GrownPlans.{Subject, run_of_plan, hits_past, grown_at, children, level, levels, levels_to, onward, onward_of, grown, is_once_return, is_hit_again}
 use Rattle.grown_plans.specs.Promises.{IsLawful}
 use Rattle.grown_plans.proofs.Apart.{level_in_levels}
 use Rattle.grown_plans.proofs.Members.{all_append, all_both, all_of, all_map, all_flat, all_by_contains, all_contains, all_right, all_weaker}
@@ -88,7 +88,7 @@ level_whole t l d (suc n) runs agrees le =
         plan_whole t runs (r ∷ parent) (subst (TrueAt t runs) (sym is) (true_at t d n runs parent agrees (omega (arith, le)) c)) h k
 
 levels_whole : (t : Subject) → IsLawful t → (d n : ℕ) (runs : KnownRuns) → Agrees t d runs → n ≤ d → AllByRecursion (IsUnbroken runs) (levels t n)
-unfolding levels
+unfolding levels_to
 levels_whole t l d zero runs agrees le = level_whole t l d zero runs agrees le
 levels_whole t l d (suc n) runs agrees le =
     all_append (IsUnbroken runs) (levels t n) (level t (suc n)) (levels_whole t l d n runs agrees (omega (arith, le))) (level_whole t l d (suc n) runs agrees le)

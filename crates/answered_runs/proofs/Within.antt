@@ -16,7 +16,7 @@ use Rattle.answer_text.specs.declared.hits.Stretch.{Stretch}
 use Rattle.answer_text.specs.declared.runs.ToldRun.{ToldRun}
 use Rattle.campaign_plans.specs.GrownScenarios.{grown_scenario}
 use Rattle.grown_plans.specs.AskedPoints.{from_then_on, goes_onward, sites_after, sites_from, sites_past}
-use Rattle.grown_plans.specs.GrownPlans.{rigs_of}
+use Rattle.grown_plans.specs.GrownPlans.{levels_to, rigs_of}
 use Rattle.grown_plans.proofs.Members.{all_append, all_both, all_flat, all_map, all_weaker}
 use Rattle.grown_plans.proofs.Rigged.{rigs_can}
 use Rattle.known_runs.specs.Known.{KnownRuns, hits_of, hits_told}
@@ -80,7 +80,7 @@ level_within kinds texts known most few (suc n) =
     (level_within kinds texts known most few n))
 
 levels_within : (kinds : ℕ → List Kind) → HaveTexts kinds → (known : KnownRuns) (most : ℕ) → HaveFew most known → (n : ℕ) → AreWithin most (levels_known kinds known n)
-unfolding levels_known
+unfolding levels_to
 levels_within kinds texts known most few zero = level_within kinds texts known most few zero
 levels_within kinds texts known most few (suc n) =
     all_append (λ (plan : List Rig). Within most plan) (levels_known kinds known n) (level_known kinds known (suc n)) (levels_within kinds texts known most few n) (level_within kinds texts known most few (suc n))

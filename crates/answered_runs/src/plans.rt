@@ -9,8 +9,7 @@ ghost use Rattle.answered_runs.specs.Answered.{known_plans, runs_in};
 ghost use Rattle.answered_runs.specs.Components.{AgreesWithRuns, IsComponent};
 
 use crate::table::AnsweredRuns;
-use grown_plans::Kinds;
-use known_runs::KnownPlans;
+use grown_plans::{GrownList, Kinds};
 use plan_gen::PlanFault;
 use std::alloc::Global;
 
@@ -24,7 +23,7 @@ impl<'a> AnsweredRuns<'a> {
         alloc: Global,
         depth: u32,
         most: usize,
-    ) -> Result<KnownPlans, PlanFault>
+    ) -> Result<GrownList, PlanFault>
         requires depth { depth ≤ 64 }
         requires most { most ≤ 65536 }
         ensures grown { IfOk result (λ known. known.plans ≡ known_plans self.now depth) }

@@ -10,8 +10,8 @@ ghost use Rattle.answered_runs.specs.Components.{AgreesWithRuns, IsComponent};
 ghost use Rattle.answered_runs.specs.WholeList.{AreTold, unseen_count};
 
 use crate::table::AnsweredRuns;
-use grown_plans::GrownPlans;
-use known_runs::{KnownPlans, Look, RunTable};
+use grown_plans::{GrownList, GrownPlans};
+use known_runs::{Look, RunTable};
 use plan_gen::PlanFault;
 use std::alloc::{AllocError, Global};
 
@@ -43,7 +43,7 @@ fn look_through(
 #[derive(Debug, Drop)]
 pub struct Listed {
     /// The plans that are known by now.
-    pub known: KnownPlans,
+    pub known: GrownList,
     /// The number of the first of them of whose run nothing is told.
     pub gap: Option<usize>,
     /// Where there is none, how many of them are told without their hits. Nothing grows from these.

@@ -15,7 +15,7 @@ use Rattle.target_trait.specs.Outcomes.{outcome}
 use Rattle.plan_gen.specs.Census.{census_of, counts_of, sites_of}
 use Rattle.plan_gen.specs.inside.Counts.{total_of}
 use Rattle.plan_gen.proofs.Counting.{sites_length}
-use Rattle.grown_plans.specs.GrownPlans.{Subject, cut_point, is_cut, usual_at, usual_kinds, usual_subject, children, level, levels, onward, grown}
+use Rattle.grown_plans.specs.GrownPlans.{Subject, cut_point, is_cut, usual_at, usual_kinds, usual_subject, children, level, levels, levels_to, onward, grown}
 use Rattle.grown_plans.specs.AskedPoints.{GrowsByAsked, sites_from}
 use Rattle.grown_plans.specs.Promises.{IsLawful}
 use Rattle.grown_plans.proofs.AskedSites.{grows_by_asked}
@@ -115,7 +115,7 @@ first_level asks names limit seed grows =
 -- ---- the first level is one of those that grow
 
 first_of_levels : (t : Subject) (d : ℕ) → 1 ≤ d → length (level t 1) < length (levels t d)
-unfolding levels level
+unfolding levels_to level
 first_of_levels t zero some = absurd (omega arith)
 first_of_levels t (suc zero) some = let e = length-append (levels t 0) (level t 1) in omega (arith, e)
 first_of_levels t (suc (suc d)) some =

@@ -14,7 +14,7 @@ use Rattle.plan_gen.specs.Census.{sites_of}
 use Rattle.action_eval.specs.RiggedScenario.{CanBeRigged}
 use Rattle.plan_gen.specs.PlanList.{Asked, storm_part, further_list}
 use Rattle.plan_gen.proofs.Counting.{further_judged}
-use Rattle.grown_plans.specs.GrownPlans.{Subject, rigs_of, scenario_of, level, levels, onward, grown, grown_list, reached}
+use Rattle.grown_plans.specs.GrownPlans.{Subject, rigs_of, scenario_of, level, levels, levels_to, onward, grown, grown_list, reached}
 use Rattle.grown_plans.proofs.Members.{all_append}
 use Rattle.grown_runs.specs.GrownRuns.{over, verdict_at, cause_at, cause_by, is_least}
 use Rattle.campaign_plans.specs.GrownScenarios.{grown_among, grown_scenario, grown_scenarios}
@@ -114,7 +114,7 @@ causes_listed t seed d m causes are few =
 
 -- the plans in their places
 pub plans_are : (k : Campaign) (depth : Option ℕ) (g : Option Grown) (listed : List Entries) → IsGrownTo k depth g → listed ≡ listed_to k depth
-    → grown_scenarios k.points (grown_among (option_map (λ (r : Grown). r.plans) g)) ++ listed ≡ plans_to k depth
+    → grown_scenarios k.points (grown_among (option_map (λ (r : Grown). r.list.plans) g)) ++ listed ≡ plans_to k depth
 plans_are k None None listed is e = e
 plans_are k None (Some g) listed is e = absurd is
 plans_are k (Some d) None listed is e = absurd is
@@ -124,7 +124,7 @@ plans_are k (Some d) (Some g) listed is e =
 
 -- each of those that grew can be rigged
 pub plans_rigged : (k : Campaign) (depth : Option ℕ) (g : Option Grown) → IsGrownTo k depth g
-    → AllByRecursion (λ plan. CanBeRigged (rigs_of plan)) (grown_among (option_map (λ (r : Grown). r.plans) g))
+    → AllByRecursion (λ plan. CanBeRigged (rigs_of plan)) (grown_among (option_map (λ (r : Grown). r.list.plans) g))
 plans_rigged k None None is = tt
 plans_rigged k None (Some g) is = absurd is
 plans_rigged k (Some d) None is = absurd is
@@ -133,9 +133,9 @@ plans_rigged k (Some d) (Some g) is =
 
 -- as many as stand in the list
 pub plans_few : (k : Campaign) (depth : Option ℕ) (g : Option Grown) (listed : List Entries) (m : ℕ) → IsGrownTo k depth g → listed ≡ listed_to k depth
-    → length (plans_to k depth) ≤ m → length (grown_among (option_map (λ (r : Grown). r.plans) g)) + length listed ≤ m
+    → length (plans_to k depth) ≤ m → length (grown_among (option_map (λ (r : Grown). r.list.plans) g)) + length listed ≤ m
 plans_few k depth g listed m is e few =
-    let grew = grown_among (option_map (λ (r : Grown). r.plans) g) in
+    let grew = grown_among (option_map (λ (r : Grown). r.list.plans) g) in
     let all = ap length (plans_are k depth g listed is e) in
     let parts = length-append (grown_scenarios k.points grew) listed in
     let made = length-map grew (grown_scenario k.points) in
@@ -172,7 +172,7 @@ listed_is k depth d names counts asked is of counted wanted =
 
 -- there is one plan at least
 levels_some : (t : Subject) (d : ℕ) → 0 < length (levels t d)
-unfolding levels level
+unfolding levels_to level
 levels_some t zero = omega arith
 levels_some t (suc d) =
     let rest = levels_some t d in

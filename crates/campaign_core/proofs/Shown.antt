@@ -19,7 +19,7 @@ use Rattle.campaign_core.specs.Headline.{Campaign, census, grower, grown_to, pla
 use Rattle.campaign_core.specs.Planned.{IsGrownTo}
 
 pub grown_shown : (c : Campaign) (depth : Option ℕ) (g : Option Grown) → IsGrownTo c depth g
-    → grown_among (option_map (λ (x : Grown). x.plans) g) ≡ grown_to c depth
+    → grown_among (option_map (λ (x : Grown). x.list.plans) g) ≡ grown_to c depth
 grown_shown c None None h = refl
 grown_shown c None (Some g) h = absurd h
 grown_shown c (Some depth) None h = absurd h

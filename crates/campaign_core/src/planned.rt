@@ -94,7 +94,7 @@ where
     T::Workload: Sync,
     requires { depth ≤ 64 }
     ensures grown { IfOk result (IsGrown (campaign_in T.Target subject.now) depth) }
-    ensures few { IfOk result (λ g. with_rest (campaign_in T.Target subject.now) (length g.plans) ≤ most_plans) }
+    ensures few { IfOk result (λ g. with_rest (campaign_in T.Target subject.now) (length g.list.plans) ≤ most_plans) }
     ensures many { IsErrOf result PlanFault.TooManyPlans
         → most_plans < with_rest (campaign_in T.Target subject.now) (length (grown (grower (campaign_in T.Target subject.now)) depth)) }
 {
@@ -202,7 +202,7 @@ where
         });
     };
     let grown = grown_to(host, subject, depth)?;
-    let (census, listed) = end_list(host.alloc, subject, Some(&grown.plans))?;
+    let (census, listed) = end_list(host.alloc, subject, Some(&grown.list.plans))?;
     Ok(Planned {
         census,
         grown: Some(grown),
@@ -212,10 +212,10 @@ where
 
 /// The plans that grew, where any did.
 fn grown_plans(grown: &Option<Grown>) -> Option<&GrownPlans>
-    ensures { option_copied result ≡ option_map (λ g. g.plans) grown.now }
+    ensures { option_copied result ≡ option_map (λ g. g.list.plans) grown.now }
 {
     match grown {
-        Some(grown) => Some(&grown.plans),
+        Some(grown) => Some(&grown.list.plans),
         None => None,
     }
 }

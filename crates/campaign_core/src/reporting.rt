@@ -119,9 +119,9 @@ fn growth_of<'r, T: Target>(
     let causes = causes_of(alloc, all, outcomes.causes.as_slice())?;
     Ok(Some(Growth {
         depth,
-        levels: grown.levels.as_slice(),
-        onward: grown.onward,
-        beyond: grown.beyond,
+        levels: grown.list.levels.as_slice(),
+        onward: grown.list.onward,
+        beyond: grown.list.beyond,
         unseen: 0,
         reached: outcomes.hits.as_slice(),
         causes,

@@ -121,10 +121,10 @@ impl<'a, T: Target> Teller for Subject<'a, T> {
 
 /// The plans that grew, where any did.
 fn grown_part<'p>(planned: &'p Planned<'_>) -> Option<&'p GrownPlans>
-    ensures { option_copied result ≡ option_map (λ g. g.plans) planned.now.grown }
+    ensures { option_copied result ≡ option_map (λ g. g.list.plans) planned.now.grown }
 {
     match &planned.grown {
-        Some(grown) => Some(&grown.plans),
+        Some(grown) => Some(&grown.list.plans),
         None => None,
     }
 }

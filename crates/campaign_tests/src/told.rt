@@ -232,9 +232,9 @@ fn told_in(lines: Lines) -> (Told, Vec<Verdict>) {
 /// What is told of plans that grew without a report.
 fn told_by(alloc: Global, grown: &Grown, depth: u32) -> Result<(Told, Vec<Verdict>), AllocError> {
     let mut told = nothing(alloc, depth);
-    told.levels.extend_from_slice(grown.levels.as_slice())?;
-    told.onward = grown.onward;
-    told.beyond = grown.beyond;
+    told.levels.extend_from_slice(grown.list.levels.as_slice())?;
+    told.onward = grown.list.onward;
+    told.beyond = grown.list.beyond;
     let outcomes = &grown.outcomes;
     told.reached.extend_from_slice(outcomes.hits.as_slice())?;
     told.causes.extend_from_slice(outcomes.causes.as_slice())?;
@@ -260,7 +260,7 @@ fn told_of_target<T: Target<Workload = ()> + Send, R: Threads + Wait + Sync>(
         alloc,
         &mut told,
         target,
-        &grown.plans,
+        &grown.list.plans,
         limit,
         verdicts.as_slice(),
     )?;

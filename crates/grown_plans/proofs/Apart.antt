@@ -12,7 +12,7 @@ use Rattle.action_eval.specs.Answers.{Reply}
 use Rattle.action_eval.specs.RiggedScenario.{rig}
 use Rattle.target_trait.specs.Play.{Move}
 use Rattle.grown_plans.specs.Runs.{Met}
-use Rattle.grown_plans.specs.GrownPlans.{Subject, run_of_plan, hits_past, grown_at, children, level, levels}
+use Rattle.grown_plans.specs.GrownPlans.{Subject, run_of_plan, hits_past, grown_at, children, level, levels, levels_to}
 use Rattle.grown_plans.specs.Promises.{EachTwo, IsLawful}
 use Rattle.grown_plans.proofs.Members.{all_weaker, all_append, all_map, all_flat, all_of, two_append, two_map, two_flat, two_right, two_weaker, two_with}
 use Rattle.grown_plans.proofs.Paths.{IsPath, Numbered, numbered_more, next_is}
@@ -85,7 +85,7 @@ abbrev pub IsGrownTo : Subject → ℕ → List Rig → Type 0
 IsGrownTo t d plan = (n : ℕ) × (n ≤ d) × IsGrown t n plan
 
 pub levels_grown : (t : Subject) → IsLawful t → (d : ℕ) → AllByRecursion (IsGrownTo t d) (levels t d)
-unfolding levels
+unfolding levels_to
 levels_grown t l zero = all_weaker (IsGrown t 0) (IsGrownTo t 0) (λ plan g. (0, omega arith, g)) (level t 0) (level_grown t l 0)
 levels_grown t l (suc d) =
     all_append (IsGrownTo t (suc d)) (levels t d) (level t (suc d))
@@ -96,7 +96,7 @@ zero_below : (n : ℕ) → n ≤ 0 → n ≡ 0
 zero_below n h = omega (arith, h)
 
 pub level_in_levels : (t : Subject) (d n : ℕ) (plan : List Rig) → n ≤ d → Contains (level t n) plan → Contains (levels t d) plan
-unfolding levels
+unfolding levels_to
 level_in_levels t zero n plan h c = subst (λ k. Contains (level t k) plan) (zero_below n h) c
 level_in_levels t (suc d) n plan h c = elim (cases_lt n (suc d)) [
   | inl less ↦ Contains-append_left (levels t d) (level t (suc d)) plan (level_in_levels t d n plan (omega (arith, less)) c)
@@ -107,7 +107,7 @@ longer : (a b : List Rig) (m n d : ℕ) → length a ≡ m → length b ≡ n �
 longer a b m n d e f h k same = let l : length a ≡ length b = ap (λ (x : List Rig). length x) same in omega (arith, e, f, h, k, l)
 
 pub levels_apart : (t : Subject) → IsLawful t → (d : ℕ) → EachTwo Differ (levels t d)
-unfolding levels
+unfolding levels_to
 levels_apart t l zero = level_apart t l 0
 levels_apart t l (suc d) =
     two_append Differ (levels t d) (level t (suc d)) (levels_apart t l d) (level_apart t l (suc d))

@@ -19,3 +19,4 @@ pub mod FirstHits
 pub mod Rigged
 pub mod Merges
 pub mod ListedKinds
+pub mod Grows

@@ -137,9 +137,12 @@ level t zero = [] ∷ []
 level t (suc n) = flat_map (children t) (level t n)
 
 -- levels 0 to d
-unfoldable pub levels : Subject → ℕ → List (List Rig)
-levels t zero = level t zero
-levels t (suc d) = levels t d ++ level t (suc d)
+unfoldable pub levels_to : (ℕ → List (List Rig)) → ℕ → List (List Rig)
+levels_to level zero = level zero
+levels_to level (suc d) = levels_to level d ++ level (suc d)
+
+abbrev pub levels : Subject → ℕ → List (List Rig)
+levels t d = levels_to (level t) d
 
 -- whether the point of a fault is hit once more after it
 abbrev pub is_hit_again : Site → List Met → Bool

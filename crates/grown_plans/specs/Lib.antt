@@ -4,4 +4,5 @@ pub mod Promises
 pub mod AskedPoints
 pub mod Kept
 pub mod Begun
+pub mod Lists
 pub mod inside

@@ -5,6 +5,7 @@ mod begun;
 mod child;
 mod counts;
 mod growing;
+mod grown_list;
 mod kinds;
 mod laws;
 mod list;
@@ -13,6 +14,7 @@ mod rigs;
 pub use begun::{Begun, Growing, count_children};
 pub use child::Child;
 pub use growing::add_children;
+pub use grown_list::{GrownLevels, GrownList};
 pub use kinds::Kinds;
 pub use laws::{
     an_empty_level_makes_it_whole, each_failure_has_a_cause, each_plan_can_be_rigged,

@@ -1,14 +1,16 @@
 -- The plans with which a list begins.
-use Rattle.std.proofs.Common.{◌≡◌, ℕ, zero, suc, ◌+◌, ◌-◌, ◌<◌, ◌≤◌, inl, inr, Bool, true, false, nat_le, cond, List, [], ◌++◌, length, refl, ap, sym, ◌∙◌, arith, append_assoc}
+use Rattle.std.proofs.Common.{◌≡◌, ℕ, zero, suc, ◌+◌, ◌-◌, ◌<◌, ◌≤◌, inl, inr, Bool, true, false, nat_le, cond, List, [], ◌++◌, length, refl, ap, sym, ◌∙◌, subst, arith, append_assoc}
 use Rattle.std.proofs.lemmas.List.{append-nil, length-append}
 use Rattle.std.proofs.lemmas.Bool.{leb-true, leb-false}
 use Rattle.action_eval.specs.declared.rig.Rig.{Rig}
-use Rattle.grown_plans.specs.GrownPlans.{Subject, level, levels, onward, grown}
+use Rattle.grown_plans.specs.GrownPlans.{Subject, level, levels, levels_to, onward, grown}
 use Rattle.grown_runs.specs.declared.input.Purpose.{Purpose}
-use Rattle.grown_runs.specs.declared.levels.Grown.{Grown}
+use Rattle.grown_plans.specs.Lists.{AreLevels}
+use Rattle.grown_plans.specs.declared.grown_list.GrownLevels.{GrownLevels}
+use Rattle.grown_plans.proofs.Grows.{levels_more}
+use Rattle.grown_runs.specs.declared.levels.Outcomes.{Outcomes}
 use Rattle.grown_runs.specs.Grown.{begun, begun_from}
-use Rattle.grown_runs.specs.inside.Levels.{AreLevels}
-use Rattle.grown_runs.proofs.LevelRuns.{levels_more}
+use Rattle.grown_runs.specs.inside.Levels.{HaveBegun}
 
 -- ---- level by level
 
@@ -51,7 +53,7 @@ grown_more t n = let parts = length-append (levels t n) (onward t n) in omega (a
 
 next_more : (t : Subject) (n : ℕ) → length (levels t n) ≤ length (levels t (suc n))
 next_more t n =
-    let more = levels_more t n 1 in
+    let more = levels_more (level t) n 1 in
     let same : length (levels t (n + 1)) ≡ length (levels t (suc n)) = ap (λ m. length (levels t m)) (let e : n + 1 ≡ suc n = omega arith in e) in
     omega (arith, more, same)
 
@@ -68,6 +70,10 @@ unfolding begun_from
 begun_least t count n zero = least_last t n (nat_le count (length (levels t n)))
 begun_least t count n (suc k) = least_next t n (nat_le count (length (levels t n))) (begun_from t count (suc n) k) (begun_least t count (suc n) k)
 
+pub begun_some : (t : Subject) (d count : ℕ) → 1 ≤ length (begun t d count)
+unfolding levels_to level
+begun_some t d count = let least = begun_least t count 0 d in omega (arith, least)
+
 -- ---- they stand first
 
 -- a list begins with another
@@ -75,7 +81,7 @@ abbrev pub Begins : List (List Rig) → List (List Rig) → Type 0
 Begins front all = (rest : List (List Rig)) × (all ≡ front ++ rest)
 
 levels_front : (t : Subject) (n k : ℕ) → Begins (levels t n) (levels t (n + k))
-unfolding levels
+unfolding levels_to
 levels_front t n zero = ([], ap (levels t) (let e : n + 0 ≡ n = omega arith in e) ∙ sym (append-nil (levels t n)))
 levels_front t n (suc k) =
     let front = levels_front t n k in (
@@ -136,20 +142,20 @@ begun_all t d count lt = all_from t count 0 d lt ∙ ap (grown t) (let e : 0 + d
 
 -- ---- levels that have grown
 
-pub whole_levels : (t : Subject) (seed : ℕ) (purpose : Purpose) (depth count last : ℕ) (g : Grown) (l : AreLevels t seed purpose depth count last g)
-    → length g.plans < count → l.top ≡ depth
-whole_levels t seed purpose depth count last g l lt = elim l.enough [ inl is ↦ is | inr many ↦ absurd (omega (arith, lt, many)) ]
+pub whole_levels : (t : Subject) (seed : ℕ) (purpose : Purpose) (depth count : ℕ) (l : GrownLevels) (o : Outcomes) (b : HaveBegun t seed purpose depth count l o) → length l.plans < count → b.top ≡ depth
+whole_levels t seed purpose depth count l o b lt = elim b.enough [ inl is ↦ is | inr many ↦ absurd (omega (arith, lt, many)) ]
+
+pub whole_are : (t : Subject) (seed : ℕ) (purpose : Purpose) (depth count : ℕ) (l : GrownLevels) (o : Outcomes) → HaveBegun t seed purpose depth count l o → length l.plans < count → AreLevels (level t) depth l
+whole_are t seed purpose depth count l o b lt = subst (λ (n : ℕ). AreLevels (level t) n l) (whole_levels t seed purpose depth count l o b lt) b.are
 
 -- those that are enough
-pub levels_begin : (t : Subject) (seed : ℕ) (purpose : Purpose) (depth count last : ℕ) (g : Grown) → AreLevels t seed purpose depth count last g
-    → count ≤ length g.plans → g.plans ≡ begun t depth count
-levels_begin t seed purpose depth count last g l many =
-    let here = ap length l.level.are in
-    l.level.are ∙ sym (begun_here t count l.top (depth - l.top) (omega (arith, many, here))) ∙ sym l.so_far
+pub levels_begin : (t : Subject) (seed : ℕ) (purpose : Purpose) (depth count : ℕ) (l : GrownLevels) (o : Outcomes) → HaveBegun t seed purpose depth count l o → count ≤ length l.plans → l.plans ≡ begun t depth count
+levels_begin t seed purpose depth count l o b many =
+    let here = ap length b.are.are in
+    b.are.are ∙ sym (begun_here t count b.top (depth - b.top) (omega (arith, many, here))) ∙ sym b.so_far
 
 -- and those that aren't
-pub levels_whole : (t : Subject) (seed : ℕ) (purpose : Purpose) (depth count last : ℕ) (g : Grown) → AreLevels t seed purpose depth count last g
-    → length g.plans < count → grown t depth ≡ begun t depth count
-levels_whole t seed purpose depth count last g l few =
-    let here = ap length l.level.are in
-    sym (begun_whole t count l.top depth (omega (arith, few, here)) (whole_levels t seed purpose depth count last g l few)) ∙ sym l.so_far
+pub levels_whole : (t : Subject) (seed : ℕ) (purpose : Purpose) (depth count : ℕ) (l : GrownLevels) (o : Outcomes) → HaveBegun t seed purpose depth count l o → length l.plans < count → grown t depth ≡ begun t depth count
+levels_whole t seed purpose depth count l o b few =
+    let here = ap length b.are.are in
+    sym (begun_whole t count b.top depth (omega (arith, few, here)) (whole_levels t seed purpose depth count l o b few)) ∙ sym b.so_far

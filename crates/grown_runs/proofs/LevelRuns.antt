@@ -8,20 +8,22 @@ use Rattle.action_eval.specs.declared.rig.Rig.{Rig}
 use Rattle.action_eval.specs.RiggedScenario.{CanBeRigged}
 use Rattle.target_trait.specs.Play.{Move}
 use Rattle.grown_plans.specs.Runs.{Met}
-use Rattle.grown_plans.specs.GrownPlans.{Subject, usual_subject, rigs_of, children, onward_of, run_of_plan, level, levels, onward, grown, most, reached}
+use Rattle.grown_plans.specs.GrownPlans.{Subject, usual_subject, rigs_of, children, onward_of, run_of_plan, level, levels, levels_to, onward, grown, most, reached}
 use Rattle.grown_plans.specs.AskedPoints.{sites_from, sites_past, children_by, GrowsByAsked, GoesOnwardByAsked, ReachesByAsked}
 use Rattle.grown_plans.specs.Promises.{IsLawful}
 use Rattle.grown_plans.specs.Kept.{Grew, GrewFrom, plan_of}
 use Rattle.grown_plans.proofs.KeptChildren.{kept_low, kept_plans}
-use Rattle.grown_plans.proofs.Members.{all_append, all_left, all_right, all_weaker}
+use Rattle.grown_plans.proofs.Members.{all_append, all_left, all_weaker}
 use Rattle.grown_plans.proofs.AskedSites.{grows_by_asked, goes_onward_by_asked, reaches_by_asked}
 use Rattle.grown_plans.proofs.Rigged.{grown_can_be_rigged}
 use Rattle.grown_runs.specs.GrownRuns.{over, told, children_at, onward_at, hits_at, verdict_at, cause_at, AreMost}
-use Rattle.grown_runs.specs.Grown.{level_sizes, reached_each}
+use Rattle.grown_runs.specs.Grown.{reached_each}
 use Rattle.grown_plans.specs.AskedPoints.{AsksLikeParent}
 use Rattle.grown_plans.proofs.AskedSites.{asks_like_parents}
 use Rattle.grown_runs.specs.inside.Beginnings.{AskLikeParents}
-use Rattle.grown_runs.specs.inside.Levels.{AreTold, LastLevel}
+use Rattle.grown_plans.specs.Lists.{AreLevels, AreNext}
+use Rattle.grown_plans.specs.declared.grown_list.GrownLevels.{GrownLevels}
+use Rattle.grown_runs.specs.inside.Levels.{AreTold}
 use Rattle.grown_runs.specs.inside.Growths.{if_report}
 use Rattle.grown_runs.specs.declared.input.Purpose.{Purpose}
 use Rattle.grown_runs.specs.declared.levels.Outcomes.{Outcomes}
@@ -69,95 +71,54 @@ over_is f h plans before (plan ∷ rest) is all =
 
 -- levels end with the last one
 levels_end : (t : Subject) (n : ℕ) → (before : List (List Rig)) × (levels t n ≡ before ++ level t n)
-unfolding levels
+unfolding levels_to
 levels_end t zero = ([], refl)
 levels_end t (suc n) = (levels t n, refl)
 
--- level 0 is the plan without faults
-pub levels_start : (t : Subject) → (([] ∷ []) ≡ levels t 0) × (length (level t 0) ≡ 1)
-unfolding levels level
-levels_start t = (refl, refl)
+record Split (t : Subject) (n : ℕ) (l : GrownLevels) : Type 0 where
+  before : List (List Rig)
+  is : l.plans ≡ before ++ level t n
+  first : l.last ≡ length before
+  many : length l.plans - l.last ≡ length (level t n)
 
-pub record Split (t : Subject) (n last : ℕ) (plans : List (List Rig)) : Type 0 where
-  pub before : List (List Rig)
-  pub is : plans ≡ before ++ level t n
-  pub first : last ≡ length before
-  pub many : length plans - last ≡ length (level t n)
-
-pub split : (t : Subject) (n last : ℕ) (plans : List (List Rig)) → LastLevel t n last plans → Split t n last plans
-split t n last plans l =
+split : (t : Subject) (n : ℕ) (l : GrownLevels) → AreLevels (level t) n l → Split t n l
+split t n l are =
     let end = levels_end t n in
-    let is : plans ≡ end.0 ++ level t n = l.are ∙ end.1 in
+    let is : l.plans ≡ end.0 ++ level t n = are.are ∙ end.1 in
     let long = ap length is ∙ length-append end.0 (level t n) in
-    let count = l.count in
-    record { before = end.0; is = is; first = omega (arith, long, count); many = omega (arith, count) }
+    let begins = are.begins in
+    record { before = end.0; is = is; first = omega (arith, long, begins); many = omega (arith, begins) }
 
-pub next_level : (asks : List Reply → Move) (names : List (List ℕ)) (limit seed n last : ℕ) (plans : List (List Rig)) → IsLawful (usual_subject asks names limit)
-    → LastLevel (usual_subject asks names limit) n last plans
-    → map (plan_of plans) (over (children_at (usual_subject asks names limit) seed) plans last (length plans - last)) ≡ level (usual_subject asks names limit) (suc n)
+pub level_zero : (t : Subject) → level t 0 ≡ [] ∷ []
 unfolding level
-next_level asks names limit seed n last plans lawful l =
+level_zero t = refl
+
+pub next_level : (asks : List Reply → Move) (names : List (List ℕ)) (limit seed n : ℕ) (l : GrownLevels) → IsLawful (usual_subject asks names limit) → AreLevels (level (usual_subject asks names limit)) n l
+    → AreNext (level (usual_subject asks names limit)) n l (over (children_at (usual_subject asks names limit) seed) l.plans l.last (length l.plans - l.last))
+unfolding level
+next_level asks names limit seed n l lawful are =
     let t : Subject = usual_subject asks names limit in
-    let s = split t n last plans l in
-    ap (λ k. map (plan_of plans) (over (children_at t seed) plans k (length plans - last))) s.first
-    ∙ ap (λ k. map (plan_of plans) (over (children_at t seed) plans (length s.before) k)) s.many
-    ∙ level_children asks names limit seed plans s.before (level t n) s.is (grows_by_asked t lawful n)
+    let s = split t n l are in
+    ap (λ k. map (plan_of l.plans) (over (children_at t seed) l.plans k (length l.plans - l.last))) s.first
+    ∙ ap (λ k. map (plan_of l.plans) (over (children_at t seed) l.plans (length s.before) k)) s.many
+    ∙ level_children asks names limit seed l.plans s.before (level t n) s.is (grows_by_asked t lawful n)
 
 -- how many there are
-pub next_many : (asks : List Reply → Move) (names : List (List ℕ)) (limit seed n last : ℕ) (plans : List (List Rig)) → IsLawful (usual_subject asks names limit)
-    → LastLevel (usual_subject asks names limit) n last plans
-    → length (over (children_at (usual_subject asks names limit) seed) plans last (length plans - last)) ≡ length (level (usual_subject asks names limit) (suc n))
-next_many asks names limit seed n last plans lawful l =
+pub next_many : (asks : List Reply → Move) (names : List (List ℕ)) (limit seed n : ℕ) (l : GrownLevels) → IsLawful (usual_subject asks names limit) → AreLevels (level (usual_subject asks names limit)) n l
+    → length (over (children_at (usual_subject asks names limit) seed) l.plans l.last (length l.plans - l.last)) ≡ length (level (usual_subject asks names limit) (suc n))
+next_many asks names limit seed n l lawful are =
     let t : Subject = usual_subject asks names limit in
-    sym (length-map (over (children_at t seed) plans last (length plans - last)) (plan_of plans)) ∙ ap length (next_level asks names limit seed n last plans lawful l)
-
-pub next_last : (asks : List Reply → Move) (names : List (List ℕ)) (limit seed n last : ℕ) (plans new : List (List Rig)) → IsLawful (usual_subject asks names limit)
-    → LastLevel (usual_subject asks names limit) n last plans
-    → new ≡ plans ++ map (plan_of plans) (over (children_at (usual_subject asks names limit) seed) plans last (length plans - last))
-    → LastLevel (usual_subject asks names limit) (n + 1) (length plans) new
-unfolding levels
-next_last asks names limit seed n last plans new lawful l added =
-    let t : Subject = usual_subject asks names limit in
-    let one : suc n ≡ n + 1 = omega arith in
-    let whole : new ≡ levels t n ++ level t (suc n) = added ∙ ap (λ ps. plans ++ ps) (next_level asks names limit seed n last plans lawful l) ∙ ap (λ ps. ps ++ level t (suc n)) l.are in
-    let long = ap length whole ∙ length-append (levels t n) (level t (suc n)) in
-    let before = ap length l.are in
-    let same : length (level t (n + 1)) ≡ length (level t (suc n)) = ap (λ k. length (level t k)) (sym one) in
-    record { are = whole ∙ ap (levels t) one; count = omega (arith, long, before, same) }
-
-pub levels_more : (t : Subject) (n k : ℕ) → length (levels t n) ≤ length (levels t (n + k))
-unfolding levels
-levels_more t n zero = let e : length (levels t n) ≡ length (levels t (n + 0)) = ap (λ m. length (levels t m)) (let z : n ≡ n + 0 = omega arith in z) in omega (arith, e)
-levels_more t n (suc k) =
-    let more = levels_more t n k in
-    let here = length-append (levels t (n + k)) (level t (suc (n + k))) in
-    let same : length (levels t (suc (n + k))) ≡ length (levels t (n + suc k)) = ap (λ m. length (levels t m)) (let e : suc (n + k) ≡ n + suc k = omega arith in e) in
-    omega (arith, more, here, same)
-
--- a level that is too large makes too many
-pub too_many : (asks : List Reply → Move) (names : List (List ℕ)) (limit seed n last bound : ℕ) (plans : List (List Rig)) → IsLawful (usual_subject asks names limit)
-    → LastLevel (usual_subject asks names limit) n last plans
-    → bound < length plans + length (over (children_at (usual_subject asks names limit) seed) plans last (length plans - last))
-    → bound < length (levels (usual_subject asks names limit) (n + 1))
-unfolding levels
-too_many asks names limit seed n last bound plans lawful l many =
-    let t : Subject = usual_subject asks names limit in
-    let next = next_many asks names limit seed n last plans lawful l in
-    let here = length-append (levels t n) (level t (suc n)) in
-    let before = ap length l.are in
-    let same : length (levels t (suc n)) ≡ length (levels t (n + 1)) = ap (λ m. length (levels t m)) (let e : suc n ≡ n + 1 = omega arith in e) in
-    omega (arith, many, next, here, before, same)
+    sym (length-map (over (children_at t seed) l.plans l.last (length l.plans - l.last)) (plan_of l.plans)) ∙ ap length (next_level asks names limit seed n l lawful are)
 
 -- ---- those that go onward
 
-pub onward_is : (t : Subject) (seed n last : ℕ) (plans : List (List Rig)) → IsLawful t → LastLevel t n last plans
-    → over (onward_at t seed) plans last (length plans - last) ≡ onward t n
+pub onward_is : (t : Subject) (seed n : ℕ) (l : GrownLevels) → IsLawful t → AreLevels (level t) n l → over (onward_at t seed) l.plans l.last (length l.plans - l.last) ≡ onward t n
 unfolding onward
-onward_is t seed n last plans lawful l =
-    let s = split t n last plans l in
-    ap (λ k. over (onward_at t seed) plans k (length plans - last)) s.first
-    ∙ ap (over (onward_at t seed) plans (length s.before)) s.many
-    ∙ over_is (onward_at t seed) (onward_of t) plans s.before (level t n) s.is
+onward_is t seed n l lawful are =
+    let s = split t n l are in
+    ap (λ k. over (onward_at t seed) l.plans k (length l.plans - l.last)) s.first
+    ∙ ap (over (onward_at t seed) l.plans (length s.before)) s.many
+    ∙ over_is (onward_at t seed) (onward_of t) l.plans s.before (level t n) s.is
     (all_weaker (GoesOnwardByAsked t) (λ plan. (k : ℕ) → onward_at t seed k plan ≡ onward_of t plan) (λ plan by k. sym (by seed k)) (level t n) (goes_onward_by_asked t lawful n))
 
 -- ---- how often points are hit
@@ -200,24 +161,6 @@ told_more t seed purpose count plans more new o le is was =
       most = λ p lt. was.most p lt ∙ ap most (sym (over_same (hits_at t seed p) plans more 0 count (omega (arith, le))));
     })
 
--- ---- sizes of levels
-
-sizes : Subject → ℕ → ℕ → List ℕ
-sizes t k n = map (λ (m : ℕ). length (level t m)) (range_with_len k n)
-
-sizes_next : (t : Subject) (n k : ℕ) → sizes t k (suc n) ≡ sizes t k n ++ length (level t (k + n)) ∷ []
-unfolding sizes
-sizes_next t zero k = ap (λ (m : ℕ). length (level t m) ∷ []) (let e : k ≡ k + 0 = omega arith in e)
-sizes_next t (suc n) k =
-    ap (λ (l : List ℕ). length (level t k) ∷ l)
-    (sizes_next t n (k + 1) ∙ ap (λ (m : ℕ). sizes t (k + 1) n ++ length (level t m) ∷ []) (let e : k + 1 + n ≡ k + suc n = omega arith in e))
-
-pub sizes_more : (t : Subject) (n more : ℕ) (old new : List ℕ) → old ≡ level_sizes t (n + 1) → new ≡ old ++ more ∷ [] → more ≡ length (level t (suc n)) → new ≡ level_sizes t (n + 1 + 1)
-unfolding sizes
-sizes_more t n more old new so_far added is =
-    added ∙ ap (λ l. l ++ more ∷ []) so_far ∙ ap (λ m. level_sizes t (n + 1) ++ m ∷ []) (is ∙ ap (λ m. length (level t m)) (let e : suc n ≡ 0 + (n + 1) = omega arith in e))
-    ∙ sym (sizes_next t (n + 1) 0) ∙ ap (level_sizes t) (let e : suc (n + 1) ≡ n + 1 + 1 = omega arith in e)
-
 -- ---- each plan can be rigged
 
 all_in : {A : Type 0} (P : A → Type 0) (xs : List A) (n : ℕ) (d : A) → AllByRecursion P xs → n < length xs → P (get_or xs n d)
@@ -226,62 +169,22 @@ all_in P (x ∷ xs) zero d all lt = all.0
 all_in P (x ∷ xs) (suc n) d all lt = all_in P xs n d all.1 (omega (arith, lt))
 
 -- what is so of each grown plan
-each_in_levels : (P : List Rig → Type 0) (t : Subject) (d : ℕ) → AllByRecursion P (grown t d) → (plans : List (List Rig)) → plans ≡ levels t d → (n : ℕ) → n < length plans
-    → P (get_or plans n [])
-each_in_levels P t d all plans is n lt = all_in P plans n [] (subst (λ (ps : List (List Rig)). AllByRecursion P ps) (sym is) (all_left P (levels t d) (onward t d) all)) lt
+each_of : (P : List Rig → Type 0) (whole plans : List (List Rig)) → AllByRecursion P whole → plans ≡ whole → (n : ℕ) → n < length plans → P (get_or plans n [])
+each_of P whole plans all is n lt = all_in P plans n [] (subst (λ (ps : List (List Rig)). AllByRecursion P ps) (sym is) all) lt
 
-each_onward : (P : List Rig → Type 0) (t : Subject) (seed last d : ℕ) → AllByRecursion P (grown t d) → (plans : List (List Rig)) → IsLawful t → LastLevel t d last plans
-    → AllByRecursion P (over (onward_at t seed) plans last (length plans - last))
-each_onward P t seed last d all plans lawful l = subst (AllByRecursion P) (sym (onward_is t seed d last plans lawful l)) (all_right P (levels t d) (onward t d) all)
+pub record AreAll (P : List Rig → Type 0) (plans : List (List Rig)) : Type 0 where
+  pub each : (n : ℕ) → n < length plans → P (get_or plans n [])
 
-pub each_more : (P : List Rig → Type 0) (plans more new : List (List Rig)) → ((n : ℕ) → n < length plans → P (get_or plans n [])) → AllByRecursion P more
-    → new ≡ plans ++ more → (n : ℕ) → n < length new → P (get_or new n [])
-each_more P [] more new old further is n lt = subst (λ (ps : List (List Rig)). P (get_or ps n [])) (sym is) (all_in P more n [] further (let e = ap length is in omega (arith, lt, e)))
-each_more P (p ∷ ps) more new old further is zero lt = subst (λ (qs : List (List Rig)). P (get_or qs 0 [])) (sym is) (old 0 (omega arith))
-each_more P (p ∷ ps) more new old further is (suc n) lt =
-    subst (λ (qs : List (List Rig)). P (get_or qs (suc n) [])) (sym is)
-    (each_more P ps more (ps ++ more) (λ k low. old (suc k) (omega (arith, low))) further refl n (let e = ap length is in omega (arith, lt, e)))
+-- those of the levels, and of the whole list
+pub can_rig : (t : Subject) → IsLawful t → t.limit < 4294967296 → (d : ℕ) → d ≤ 64 → (plans : List (List Rig)) → plans ≡ levels t d → AreAll (λ plan. CanBeRigged (rigs_of plan)) plans
+can_rig t lawful small d few plans is = record { each = each_of (λ plan. CanBeRigged (rigs_of plan)) (levels t d) plans (all_left (λ (plan : List Rig). CanBeRigged (rigs_of plan)) (levels t d) (onward t d) (grown_can_be_rigged t lawful small d few)) is }
 
-pub can_rig : (t : Subject) → IsLawful t → t.limit < 4294967296 → (d : ℕ) → d ≤ 64 → (plans : List (List Rig)) → plans ≡ levels t d
-    → (n : ℕ) → n < length plans → CanBeRigged (rigs_of (get_or plans n []))
-can_rig t lawful small d few = each_in_levels (λ plan. CanBeRigged (rigs_of plan)) t d (grown_can_be_rigged t lawful small d few)
-
-pub can_rig_onward : (t : Subject) (seed last d : ℕ) (plans : List (List Rig)) → IsLawful t → t.limit < 4294967296 → d ≤ 64 → LastLevel t d last plans
-    → AllByRecursion (λ plan. CanBeRigged (rigs_of plan)) (over (onward_at t seed) plans last (length plans - last))
-can_rig_onward t seed last d plans lawful small few l =
-    each_onward (λ plan. CanBeRigged (rigs_of plan)) t seed last d (grown_can_be_rigged t lawful small d few) plans lawful l
-
-pub can_rig_more : (plans more new : List (List Rig)) → ((n : ℕ) → n < length plans → CanBeRigged (rigs_of (get_or plans n [])))
-    → AllByRecursion (λ plan. CanBeRigged (rigs_of plan)) more → new ≡ plans ++ more → (n : ℕ) → n < length new → CanBeRigged (rigs_of (get_or new n []))
-can_rig_more = each_more (λ plan. CanBeRigged (rigs_of plan))
+pub can_rig_all : (t : Subject) → IsLawful t → t.limit < 4294967296 → (d : ℕ) → d ≤ 64 → (plans : List (List Rig)) → plans ≡ grown t d → AreAll (λ plan. CanBeRigged (rigs_of plan)) plans
+can_rig_all t lawful small d few plans is = record { each = each_of (λ plan. CanBeRigged (rigs_of plan)) (grown t d) plans (grown_can_be_rigged t lawful small d few) is }
 
 -- their runs ask like those of their parents
 pub ask_alike : (t : Subject) → IsLawful t → (d : ℕ) (plans : List (List Rig)) → plans ≡ levels t d → AskLikeParents t plans
-ask_alike t lawful d = each_in_levels (AsksLikeParent t) t d (asks_like_parents t lawful d)
+ask_alike t lawful d plans is = each_of (AsksLikeParent t) (levels t d) plans (all_left (AsksLikeParent t) (levels t d) (onward t d) (asks_like_parents t lawful d)) is
 
-pub ask_alike_onward : (t : Subject) (seed last d : ℕ) (plans : List (List Rig)) → IsLawful t → LastLevel t d last plans
-    → AllByRecursion (AsksLikeParent t) (over (onward_at t seed) plans last (length plans - last))
-ask_alike_onward t seed last d plans lawful l = each_onward (AsksLikeParent t) t seed last d (asks_like_parents t lawful d) plans lawful l
-
--- ---- the whole list
-
-pub grown_some : (t : Subject) (d : ℕ) → 0 < length (grown t d)
-grown_some t d =
-    let start = ap length (levels_start t).0 in
-    let more = levels_more t 0 d in
-    let same : length (levels t (0 + d)) ≡ length (levels t d) = ap (λ k. length (levels t k)) (let e : 0 + d ≡ d = omega arith in e) in
-    let whole = length-append (levels t d) (onward t d) in
-    omega (arith, start, more, same, whole)
-
-pub grown_is : (t : Subject) (seed d last : ℕ) (plans new : List (List Rig)) → IsLawful t → LastLevel t d last plans
-    → new ≡ plans ++ over (onward_at t seed) plans last (length plans - last) → new ≡ grown t d
-grown_is t seed d last plans new lawful l added =
-    added ∙ ap (λ ps. plans ++ ps) (onward_is t seed d last plans lawful l) ∙ ap (λ ps. ps ++ onward t d) l.are
-
-pub grown_many : (t : Subject) (seed d last bound : ℕ) (plans : List (List Rig)) → IsLawful t → LastLevel t d last plans
-    → bound < length plans + length (over (onward_at t seed) plans last (length plans - last)) → bound < length (grown t d)
-grown_many t seed d last bound plans lawful l many =
-    let went = ap length (onward_is t seed d last plans lawful l) in
-    let before = ap length l.are in
-    let whole = length-append (levels t d) (onward t d) in
-    omega (arith, many, went, before, whole)
+pub ask_alike_all : (t : Subject) → IsLawful t → (d : ℕ) (plans : List (List Rig)) → plans ≡ grown t d → AskLikeParents t plans
+ask_alike_all t lawful d plans is = each_of (AsksLikeParent t) (grown t d) plans (asks_like_parents t lawful d) is

@@ -1,22 +1,21 @@
 //! Levels of plans, each grown from the runs of the one before.
-ghost use Rattle.std.specs.Prelude.{◌≡◌, ℕ, ◌+◌, ◌-◌, ◌≤◌, ◌<◌, ◌^◌, ◌++◌, ◌∷◌, List, length, replicate, slice_index_or, [], OnOk, IfOk, IsErrOf};
-ghost use Rattle.std.specs.List.{AllByRecursion};
-ghost use Rattle.action_eval.specs.RiggedScenario.{CanBeRigged};
+ghost use Rattle.std.specs.Prelude.{◌≡◌, ℕ, ◌+◌, ◌-◌, ◌≤◌, ◌<◌, ◌^◌, List, length, map, replicate, [], OnOk, IfOk, IsErrOf};
 ghost use Rattle.action_eval.specs.declared.rig.Rig.{Rig};
-ghost use Rattle.grown_plans.specs.GrownPlans.{Subject, rigs_of, grown};
+ghost use Rattle.grown_plans.specs.GrownPlans.{Subject, beyond, grown, level, onward};
+ghost use Rattle.grown_plans.specs.Kept.{GrewFrom, plan_of};
+ghost use Rattle.grown_plans.specs.Lists.{AreLevels, AreNext};
 ghost use Rattle.grown_runs.specs.declared.input.Part.{Part};
-ghost use Rattle.grown_runs.specs.declared.input.Place.TheVariants.{Last};
-ghost use Rattle.grown_plans.specs.AskedPoints.{AsksLikeParent};
-ghost use Rattle.grown_runs.specs.inside.Beginnings.{AskLikeParents};
+ghost use Rattle.grown_runs.specs.declared.input.Place.TheVariants.{Inner, Last, Onward};
+ghost use Rattle.grown_runs.specs.declared.input.Purpose.TheVariants.{Report};
 ghost use Rattle.grown_runs.specs.inside.Growths.{IsGrowth};
 ghost use Rattle.grown_runs.specs.Grown.{subject_in, begun, HasGrown};
-ghost use Rattle.grown_runs.specs.inside.Levels.{AreTold, AreLevels, IsNextLevel, HasOnward, new_children, going_onward};
+ghost use Rattle.grown_runs.specs.inside.Levels.{AreTold, HaveBegun};
 
 use crate::growth::raise;
-use crate::input::{Limits, Part, Place, Purpose};
+use crate::input::{Part, Place, Purpose};
 use crate::kept::Growth;
 use crate::parts::{Conditions, run_part};
-use grown_plans::{GrownPlans, each_target_is_a_lawful_subject};
+use grown_plans::{GrownLevels, GrownList, GrownPlans, each_target_is_a_lawful_subject};
 use plan_gen::PlanFault;
 use std::alloc::{AllocError, Global};
 use std::sync::Wait;
@@ -38,18 +37,26 @@ pub struct Outcomes {
 /// Plans that grew, and what their runs came to.
 #[derive(Drop)]
 pub struct Grown {
-    /// The plans of levels 0 to the depth, and then those with their last fault from then on.
-    pub plans: GrownPlans,
-    /// How many plans each level has.
-    pub levels: Vec<u32>,
-    /// How many plans have their last fault from then on.
-    pub onward: u32,
-    /// How many plans the next level has.
-    pub beyond: u64,
+    pub list: GrownList,
     pub outcomes: Outcomes,
 }
 
 impl Outcomes {
+    /// Those of no runs, over so many points. An error means that memory was refused.
+    fn none(alloc: Global, points: usize) -> Result<Self, AllocError>
+        ensures verdicts { IfOk result (λ outcomes. outcomes.verdicts.items ≡ []) }
+        ensures causes { IfOk result (λ outcomes. outcomes.causes.items ≡ []) }
+        ensures hits { IfOk result (λ outcomes. outcomes.hits.items ≡ replicate points 0) }
+    {
+        let mut hits = Vec::new(alloc);
+        hits.resize(points, 0)?;
+        Ok(Outcomes {
+            verdicts: Vec::new(alloc),
+            causes: Vec::new(alloc),
+            hits,
+        })
+    }
+
     /// Adds what the plans after these came to. An error means that memory was refused.
     fn note(&mut self, growth: &Growth) -> Result<(), AllocError>
         requires { length self.old.hits.items ≤ length growth.now.hits.items }
@@ -65,94 +72,85 @@ impl Outcomes {
     }
 }
 
-/// Whether so many plans more may be added.
-fn check_room(limits: Limits, plans: usize, more: usize) -> Result<(), PlanFault>
-    ensures ok { OnOk result (plans + more ≤ limits.most_plans) }
-    ensures many { IsErrOf result PlanFault.TooManyPlans → limits.most_plans < plans + more }
-    ensures no_other { IsErrOf result PlanFault.Memory → ⊥ }
-{
-    match (limits.most_plans as usize).checked_sub(plans) {
-        Some(room) if more <= room => Ok(()),
-        _ => Err(PlanFault::TooManyPlans),
-    }
-}
-
-/// Adds how many plans a level has.
-fn add_size(levels: &mut Vec<u32>, size: u32) -> Result<(), AllocError>
-    ensures { OnOk result (levels.new.items ≡ levels.old.items ++ size ∷ []) }
-{
-    levels.push(size)?;
-    Ok(())
-}
-
-/// Runs the plans of the last level, from `last` on, and adds their children as the next one. Answers where that begins.
-fn add_level<T: Target + Send, G: Gate, R: Threads + Wait + Sync>(
+/// Runs the plans of a level before the last one, from which the next grows.
+fn run_level<T: Target + Send, G: Gate, R: Threads + Wait + Sync>(
     on: &Conditions<'_, T, G, R>,
-    grown: &mut Grown,
+    levels: &GrownLevels,
+    number: u32,
     purpose: Purpose,
-    last: usize,
-) -> Result<usize, PlanFault>
+) -> Result<Growth, AllocError>
 where
     T::Workload: Sync,
-    requires last { last ≤ length grown.old.plans }
-    requires few { length grown.old.plans ≤ 65536 }
-    requires hits { length grown.old.outcomes.hits.items ≡ length T.names }
-    requires rigs { (n : ℕ) → n < length grown.old.plans → CanBeRigged (rigs_of (slice_index_or grown.old.plans n [])) }
-    requires alike { AskLikeParents (subject_in T.Target on.now) grown.old.plans }
-    ensures next { IfOk result (λ next. next ≡ length grown.old.plans) }
-    ensures added { OnOk result (IsNextLevel (subject_in T.Target on.now) on.now.limits.seed purpose last grown.old grown.new) }
-    ensures few { OnOk result (length grown.new.plans ≤ on.now.limits.most_plans) }
-    ensures many { IsErrOf result PlanFault.TooManyPlans → on.now.limits.most_plans < length grown.old.plans
-        + length (new_children (subject_in T.Target on.now) on.now.limits.seed grown.old.plans last) }
+    requires levels { AreLevels (level (subject_in T.Target on.now)) number levels.now }
+    requires before { number < on.now.limits.depth }
+    requires few { length levels.now.plans ≤ 65536 }
+    requires hits { on.now.limits.max_hits < 2 ^ 32 }
+    ensures ran { IfOk result (IsGrowth (subject_in T.Target on.now) on.now.limits.seed (record { place = Inner; purpose = purpose })
+        levels.now.plans levels.now.last (length levels.now.plans - levels.now.last)) }
+    ensures next { IfOk result (λ growth. AreNext (level (subject_in T.Target on.now)) number levels.now growth.children.items) }
+    ensures parents { IfOk result (λ growth. GrewFrom (length levels.now.plans) growth.children.items) }
 {
-    let end = grown.plans.len();
+    each_target_is_a_lawful_subject::<T>();
     let place = Place::Inner;
-    let levels = u32::try_from(grown.levels.len()).unwrap_or(u32::MAX);
-    let stage = Stage::Level(levels.saturating_sub(1));
-    let growth = run_part(on, &grown.plans, Part { place, purpose }, stage, last)?;
-    let children = growth.children.as_slice();
-    check_room(on.limits, end, children.len())?;
-    grown.plans.add(children)?;
-    add_size(&mut grown.levels, children.len() as u32)?;
-    grown.outcomes.note(&growth)?;
-    Ok(end)
+    let part = Part { place, purpose };
+    run_part(on, &levels.plans, part, Stage::Level(number), levels.last)
 }
 
-/// Level 0, none of whose plans has run, over so many points. An error means that memory was refused.
-fn first_level(alloc: Global, points: usize) -> Result<Grown, AllocError>
-    ensures plans { IfOk result (λ grown. grown.plans ≡ [] ∷ []) }
-    ensures levels { IfOk result (λ grown. grown.levels.items ≡ 1 ∷ []) }
-    ensures hits { IfOk result (λ grown. grown.outcomes.hits.items ≡ replicate points 0) }
-    ensures verdicts { IfOk result (λ grown. grown.outcomes.verdicts.items ≡ []) }
-    ensures causes { IfOk result (λ grown. grown.outcomes.causes.items ≡ []) }
+/// Runs the plans of the last level, and counts what grows from them.
+fn run_last<T: Target + Send, G: Gate, R: Threads + Wait + Sync>(
+    on: &Conditions<'_, T, G, R>,
+    levels: &GrownLevels,
+    purpose: Purpose,
+) -> Result<Growth, AllocError>
+where
+    T::Workload: Sync,
+    requires levels { AreLevels (level (subject_in T.Target on.now)) on.now.limits.depth levels.now }
+    requires few { length levels.now.plans ≤ 65536 }
+    requires hits { on.now.limits.max_hits < 2 ^ 32 }
+    ensures ran { IfOk result (IsGrowth (subject_in T.Target on.now) on.now.limits.seed (record { place = Last; purpose = purpose })
+        levels.now.plans levels.now.last (length levels.now.plans - levels.now.last)) }
+    ensures behind { IfOk result (λ growth. map (plan_of levels.now.plans) growth.onward.items ≡ onward (subject_in T.Target on.now) on.now.limits.depth) }
+    ensures next { IfOk result (λ growth. growth.child_count ≡ beyond (subject_in T.Target on.now) on.now.limits.depth) }
 {
-    let mut levels = Vec::new(alloc);
-    levels.push(1)?;
-    let mut hits = Vec::new(alloc);
-    hits.resize(points, 0)?;
-    Ok(Grown {
-        plans: GrownPlans::new(alloc),
-        levels,
-        onward: 0,
-        beyond: 0,
-        outcomes: Outcomes {
-            verdicts: Vec::new(alloc),
-            causes: Vec::new(alloc),
-            hits,
-        },
-    })
+    each_target_is_a_lawful_subject::<T>();
+    let place = Place::Last;
+    let part = Part { place, purpose };
+    let stage = Stage::Level(on.limits.depth);
+    run_part(on, &levels.plans, part, stage, levels.last)
 }
 
-/// Grows plans level by level, to the depth, or until there are so many. Answers them, and the number of the last level's first plan: this
-/// level hasn't run.
+/// Runs the plans behind the last level, from `first` on, for a report.
+fn run_behind<T: Target + Send, G: Gate, R: Threads + Wait + Sync>(
+    on: &Conditions<'_, T, G, R>,
+    plans: &GrownPlans,
+    first: usize,
+) -> Result<Growth, AllocError>
+where
+    T::Workload: Sync,
+    requires plans { plans.now ≡ grown (subject_in T.Target on.now) on.now.limits.depth }
+    requires first { first ≤ length plans.now }
+    requires few { length plans.now ≤ 65536 }
+    requires hits { on.now.limits.max_hits < 2 ^ 32 }
+    ensures { IfOk result (IsGrowth (subject_in T.Target on.now) on.now.limits.seed (record { place = Onward; purpose = Report })
+        plans.now first (length plans.now - first)) }
+{
+    each_target_is_a_lawful_subject::<T>();
+    let place = Place::Onward;
+    let purpose = Purpose::Report;
+    let part = Part { place, purpose };
+    run_part(on, plans, part, Stage::Onward, first)
+}
+
+/// Grows plans level by level, to the depth, or until there are so many, and runs all but those of the last level. Answers the levels, and what the
+/// runs came to.
 fn grow_levels<T: Target + Send, G: Gate, R: Threads + Wait + Sync>(
     on: &Conditions<'_, T, G, R>,
     purpose: Purpose,
     count: usize,
-) -> Result<(Grown, usize), PlanFault>
+) -> Result<(GrownLevels, Outcomes), PlanFault>
 where
     T::Workload: Sync,
-    ensures levels { IfOk result (λ r. AreLevels (subject_in T.Target on.now) on.now.limits.seed purpose on.now.limits.depth count r.1 r.0) }
+    ensures levels { IfOk result (λ r. HaveBegun (subject_in T.Target on.now) on.now.limits.seed purpose on.now.limits.depth count r.0 r.1) }
     ensures hits { on.now.limits.max_hits < 2 ^ 32 }
     ensures few { IfOk result (λ r. length r.0.plans ≤ on.now.limits.most_plans) }
     ensures many { IsErrOf result PlanFault.TooManyPlans
@@ -160,82 +158,18 @@ where
 {
     each_target_is_a_lawful_subject::<T>();
     let limits = on.limits;
-    if limits.most_plans == 0 {
-        return Err(PlanFault::TooManyPlans);
-    }
-    let mut grown = first_level(on.alloc, T::catalogue().len())?;
-    let mut last = 0;
-    for _ in 0..limits.depth {
-        if count <= grown.plans.len() {
-            return Ok((grown, last));
+    let most = limits.most_plans as usize;
+    let mut levels = GrownLevels::first(on.alloc, most)?;
+    let mut outcomes = Outcomes::none(on.alloc, T::catalogue().len())?;
+    for number in 0..limits.depth {
+        if count <= levels.plans.len() {
+            return Ok((levels, outcomes));
         }
-        last = add_level(on, &mut grown, purpose, last)?;
+        let growth = run_level(on, &levels, number, purpose)?;
+        levels.add(growth.children.as_slice(), most)?;
+        outcomes.note(&growth)?;
     }
-    Ok((grown, last))
-}
-
-/// Runs the plans of the last level, from `last` on, and adds those that go onward, which haven't run then. Answers what the runs came to.
-fn add_onward<T: Target + Send, G: Gate, R: Threads + Wait + Sync>(
-    on: &Conditions<'_, T, G, R>,
-    plans: &mut GrownPlans,
-    purpose: Purpose,
-    last: usize,
-) -> Result<Growth, PlanFault>
-where
-    T::Workload: Sync,
-    requires last { last ≤ length plans.old }
-    requires few { length plans.old ≤ 65536 }
-    requires rigs { (n : ℕ) → n < length plans.old → CanBeRigged (rigs_of (slice_index_or plans.old n [])) }
-    requires alike { AskLikeParents (subject_in T.Target on.now) plans.old }
-    ensures ran { IfOk result (λ growth. IsGrowth (subject_in T.Target on.now) on.now.limits.seed (record { place = Last; purpose = purpose })
-        plans.old last (length plans.old - last) growth) }
-    ensures added { OnOk result (plans.new ≡ plans.old ++ going_onward (subject_in T.Target on.now) on.now.limits.seed plans.old last) }
-    ensures few { OnOk result (length plans.new ≤ on.now.limits.most_plans) }
-    ensures many { IsErrOf result PlanFault.TooManyPlans → on.now.limits.most_plans < length plans.old
-        + length (going_onward (subject_in T.Target on.now) on.now.limits.seed plans.old last) }
-{
-    let place = Place::Last;
-    let stage = Stage::Level(on.limits.depth);
-    let growth = run_part(on, plans, Part { place, purpose }, stage, last)?;
-    let onward = growth.onward.as_slice();
-    check_room(on.limits, plans.len(), onward.len())?;
-    plans.add(onward)?;
-    Ok(growth)
-}
-
-/// Runs the plans of the last level, from `last` on, counts their children, adds those that go onward, and runs these.
-fn run_onward<T: Target + Send, G: Gate, R: Threads + Wait + Sync>(
-    on: &Conditions<'_, T, G, R>,
-    grown: &mut Grown,
-    last: usize,
-) -> Result<(), PlanFault>
-where
-    T::Workload: Sync,
-    requires last { last ≤ length grown.old.plans }
-    requires few { length grown.old.plans ≤ 65536 }
-    requires hits { length grown.old.outcomes.hits.items ≡ length T.names }
-    requires rigs { (n : ℕ) → n < length grown.old.plans → CanBeRigged (rigs_of (slice_index_or grown.old.plans n [])) }
-    requires alike { AskLikeParents (subject_in T.Target on.now) grown.old.plans }
-    requires onward_alike { AllByRecursion (AsksLikeParent (subject_in T.Target on.now))
-        (going_onward (subject_in T.Target on.now) on.now.limits.seed grown.old.plans last) }
-    requires onward_rigs { AllByRecursion (λ plan. CanBeRigged (rigs_of plan))
-        (going_onward (subject_in T.Target on.now) on.now.limits.seed grown.old.plans last) }
-    ensures added { OnOk result (HasOnward (subject_in T.Target on.now) on.now.limits.seed last grown.old grown.new) }
-    ensures few { OnOk result (length grown.new.plans ≤ on.now.limits.most_plans) }
-    ensures many { IsErrOf result PlanFault.TooManyPlans → on.now.limits.most_plans < length grown.old.plans
-        + length (going_onward (subject_in T.Target on.now) on.now.limits.seed grown.old.plans last) }
-{
-    let end = grown.plans.len();
-    let purpose = Purpose::Report;
-    let growth = add_onward(on, &mut grown.plans, purpose, last)?;
-    grown.onward = (grown.plans.len() - end) as u32;
-    grown.beyond = growth.child_count;
-    grown.outcomes.note(&growth)?;
-    let place = Place::Onward;
-    let stage = Stage::Onward;
-    let growth = run_part(on, &grown.plans, Part { place, purpose }, stage, end)?;
-    grown.outcomes.note(&growth)?;
-    Ok(())
+    Ok((levels, outcomes))
 }
 
 /// Grows plans from each other's runs, level by level, and runs them all: level 0 is the plan without faults, and the next level the children
@@ -257,9 +191,16 @@ where
         → on.now.limits.most_plans < length (grown (subject_in T.Target on.now) on.now.limits.depth) }
 {
     each_target_is_a_lawful_subject::<T>();
-    let (mut grown, last) = grow_levels(on, Purpose::Report, usize::MAX)?;
-    run_onward(on, &mut grown, last)?;
-    Ok(grown)
+    let purpose = Purpose::Report;
+    let (levels, mut outcomes) = grow_levels(on, purpose, usize::MAX)?;
+    let end = levels.plans.len();
+    let growth = run_last(on, &levels, purpose)?;
+    let onward = growth.onward.as_slice();
+    let list = levels.end(onward, growth.child_count, on.limits.most_plans as usize)?;
+    outcomes.note(&growth)?;
+    let growth = run_behind(on, &list.plans, end)?;
+    outcomes.note(&growth)?;
+    Ok(Grown { list, outcomes })
 }
 
 /// The plans with which the list of a depth begins: the first levels that have so many plans, or, where all levels have fewer, all plans. Only
@@ -278,11 +219,13 @@ where
         → on.now.limits.most_plans < length (begun (subject_in T.Target on.now) on.now.limits.depth count) }
 {
     each_target_is_a_lawful_subject::<T>();
-    let (grown, last) = grow_levels(on, Purpose::Plans, count)?;
-    let mut plans = grown.plans;
-    if count <= plans.len() {
-        return Ok(plans);
+    let purpose = Purpose::Plans;
+    let (levels, _) = grow_levels(on, purpose, count)?;
+    if count <= levels.plans.len() {
+        return Ok(levels.plans);
     }
-    add_onward(on, &mut plans, Purpose::Plans, last)?;
-    Ok(plans)
+    let growth = run_last(on, &levels, purpose)?;
+    let onward = growth.onward.as_slice();
+    let list = levels.end(onward, growth.child_count, on.limits.most_plans as usize)?;
+    Ok(list.plans)
 }

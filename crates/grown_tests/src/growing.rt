@@ -58,15 +58,15 @@ pub struct Wanted<'a> {
 
 /// They grew as is wanted; there are as many plans, and verdicts, as that makes.
 pub fn have_grown(rt: &impl Abort, grown: &Grown, wanted: &Wanted<'_>) {
-    assert_eq!(rt; grown.levels.as_slice(), wanted.levels);
-    assert_eq!(rt; grown.onward, wanted.onward);
-    assert_eq!(rt; grown.beyond, wanted.beyond);
+    assert_eq!(rt; grown.list.levels.as_slice(), wanted.levels);
+    assert_eq!(rt; grown.list.onward, wanted.onward);
+    assert_eq!(rt; grown.list.beyond, wanted.beyond);
     assert_eq!(rt; grown.outcomes.causes.as_slice(), wanted.causes);
     let mut plans = wanted.onward as usize;
     for level in wanted.levels {
         plans = plans.saturating_add(*level as usize);
     }
-    assert_eq!(rt; grown.plans.len(), plans);
+    assert_eq!(rt; grown.list.plans.len(), plans);
     assert_eq!(rt; grown.outcomes.verdicts.len(), plans);
 }
 

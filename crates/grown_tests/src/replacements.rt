@@ -102,12 +102,12 @@ fn a_late_sync_fails_by_a_return_and_by_a_panic(rt: HostRuntime) -> Result<(), F
 fn an_ignored_sync_grows_wider(rt: HostRuntime) -> Result<(), Fail> {
     let alloc = rt.alloc();
     let once = grown(&rt, alloc, Variant::IgnoreSync, to_depth(1, 2))?;
-    assert_eq!(&rt; once.levels.as_slice(), [1, 12].as_slice());
-    assert_eq!(&rt; once.beyond, 10);
+    assert_eq!(&rt; once.list.levels.as_slice(), [1, 12].as_slice());
+    assert_eq!(&rt; once.list.beyond, 10);
     assert_eq!(&rt; first_with(&once, TORN), Some(7));
     let twice = grown(&rt, alloc, Variant::IgnoreSync, to_depth(2, 2))?;
-    assert_eq!(&rt; twice.levels.as_slice(), [1, 12, 10].as_slice());
-    assert_eq!(&rt; twice.beyond, 2);
+    assert_eq!(&rt; twice.list.levels.as_slice(), [1, 12, 10].as_slice());
+    assert_eq!(&rt; twice.list.beyond, 2);
     assert_eq!(&rt; first_with(&twice, TORN), Some(7));
     Ok(())
 }

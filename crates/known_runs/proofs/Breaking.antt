@@ -11,7 +11,7 @@ use Rattle.plan_gen.specs.LoopRuns.{times}
 use Rattle.plan_gen.proofs.Lists.{fold_append}
 use Rattle.plan_gen.specs.RiggedAnswers.{is_onward, reply_by}
 use Rattle.grown_plans.specs.Runs.{Met, met}
-use Rattle.grown_plans.specs.GrownPlans.{Subject, run_of_plan, level, levels, onward}
+use Rattle.grown_plans.specs.GrownPlans.{Subject, run_of_plan, level, levels, levels_to, onward}
 use Rattle.grown_plans.specs.AskedPoints.{sites_from}
 use Rattle.grown_plans.specs.Promises.{IsLawful, KeepsPrefix}
 use Rattle.grown_plans.proofs.Members.{all_append, all_weaker}
@@ -268,7 +268,7 @@ level_continues t l n =
     all_weaker (IsGrown t n) (Continues t) (λ plan g. continues t plan g.once g.prefix) (level t n) (level_grown t l n)
 
 levels_continue : (t : Subject) → IsLawful t → (d : ℕ) → AllByRecursion (Continues t) (levels t d)
-unfolding levels
+unfolding levels_to
 levels_continue t l zero = level_continues t l zero
 levels_continue t l (suc d) = all_append (Continues t) (levels t d) (level t (suc d)) (levels_continue t l d) (level_continues t l (suc d))
 

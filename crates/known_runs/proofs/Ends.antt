@@ -6,7 +6,7 @@ use Rattle.action_eval.specs.declared.rig.Rig.{Rig}
 use Rattle.action_eval.specs.declared.rig.Kind.{Kind}
 use Rattle.action_eval.specs.declared.rig.Kind.TheVariants.{OnceReturn, OnwardReturn, OncePanic}
 use Rattle.action_eval.specs.RiggedScenario.{rig, text_of}
-use Rattle.grown_plans.specs.GrownPlans.{Subject, run_of_plan, hits_past, children, is_once_return, is_hit_again, onward_of, level, levels, onward, grown}
+use Rattle.grown_plans.specs.GrownPlans.{Subject, run_of_plan, hits_past, children, is_once_return, is_hit_again, onward_of, level, levels, levels_to, onward, grown}
 use Rattle.grown_plans.specs.Promises.{EachTwo, IsLawful}
 use Rattle.grown_plans.proofs.Members.{all_weaker, all_append, all_both, all_left, all_right, all_flat, all_by_contains, all_contains, two_weaker}
 use Rattle.grown_plans.proofs.Apart.{level_in_levels}
@@ -74,7 +74,7 @@ level_reached t d known h (suc n) le =
     (λ child e. e ∙ both (are_told (hits_of known plan)) (is_reached known plan) told reached) (children t plan) (children_reached t known plan (hits_past plan (run_of_plan t plan)))))
 
 levels_reached : (t : Subject) (d : ℕ) (known : KnownRuns) → HasHits t d known → (n : ℕ) → n ≤ d → AllByRecursion (λ plan. is_reached known plan ≡ true) (levels t n)
-unfolding levels
+unfolding levels_to
 levels_reached t d known h zero le = level_reached t d known h zero (omega (arith, le))
 levels_reached t d known h (suc n) le =
     all_append (λ (plan : List Rig). is_reached known plan ≡ true) (levels t n) (level t (suc n)) (levels_reached t d known h n (omega (arith, le))) (level_reached t d known h (suc n) (omega (arith, le)))

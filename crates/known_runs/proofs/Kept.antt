@@ -2,26 +2,25 @@
 use Rattle.std.proofs.Common.{◌≡◌, ℕ, zero, suc, ◌+◌, ◌-◌, ◌<◌, ◌≤◌, Bool, true, false, cond, List, [], ◌∷◌, ◌++◌, map, length, get_or, refl, ap, sym, ◌∙◌, subst, arith, append_assoc}
 use Rattle.std.specs.Prelude.{Option, Some, None, flat_map}
 use Rattle.std.proofs.lemmas.List.{append-nil, map-append, length-append, length_push, length-map}
-use Rattle.std.specs.List.{AllByRecursion, filter, range_with_len}
-use Rattle.std.proofs.lemmas.List.FromFn.{map-range_with_len_more}
+use Rattle.std.specs.List.{AllByRecursion, range_with_len}
 use Rattle.std.proofs.Math.Seq.{get_or-append_seam}
 use Rattle.action_eval.specs.declared.rig.Site.{Site}
 use Rattle.action_eval.specs.declared.rig.Rig.{Rig}
 use Rattle.action_eval.specs.declared.rig.Kind.{Kind}
 use Rattle.action_eval.specs.RiggedScenario.{rig}
-use Rattle.grown_plans.specs.GrownPlans.{Subject, onward}
+use Rattle.grown_plans.specs.GrownPlans.{Subject, levels_to, onward}
 use Rattle.grown_plans.specs.AskedPoints.{sites_from, sites_past, from_then_on, goes_onward}
 use Rattle.grown_plans.specs.Kept.{Grew, GrewFrom, plan_of}
 use Rattle.grown_plans.specs.Promises.{IsLawful}
 use Rattle.grown_plans.proofs.KeptChildren.{kept_low, kept_plans}
 use Rattle.grown_plans.proofs.Members.{all_append, all_flat, all_map, all_of, all_weaker}
+use Rattle.grown_plans.specs.Lists.{AreLevels, AreNext, IsGrownList}
+use Rattle.grown_plans.specs.declared.grown_list.GrownLevels.{GrownLevels}
+use Rattle.grown_plans.specs.declared.grown_list.GrownList.{GrownList}
+use Rattle.grown_plans.proofs.Grows.{levels_more}
 use Rattle.known_runs.specs.Known.{Agrees, KnownRuns, hits_of}
-use Rattle.known_runs.specs.KnownPart.{is_reached_onward, known_part}
 use Rattle.known_runs.specs.KnownPlans.{AreKnown, level_size}
-use Rattle.known_runs.specs.declared.growing.KnownPlans.{KnownPlans}
-use Rattle.known_runs.specs.declared.growing.Levels.{Levels}
-use Rattle.known_runs.specs.inside.GrownLevels.{AreLevels, HasOnward, size_known}
-use Rattle.known_runs.specs.ToldPart.{children_known, children_told, level_known, levels_known, onward_told, part_known}
+use Rattle.known_runs.specs.ToldPart.{behind_known, children_known, children_told, level_known, levels_known, onward_told, part_known}
 use Rattle.known_runs.specs.inside.Grown.{kept_known, kept_over, kept_told, onward_known, onward_over}
 use Rattle.known_runs.proofs.Listed.{level_is, onward_is, part_is}
 
@@ -106,119 +105,49 @@ of_leaves known plans before (plan ∷ rest) is =
 
 -- ---- the last level of a list
 
-pub record LastLevel (kinds : ℕ → List Kind) (known : KnownRuns) (n last : ℕ) (plans : List (List Rig)) : Type 0 where
-  pub are : plans ≡ levels_known kinds known n
-  pub count : last + length (level_known kinds known n) ≡ length plans
+abbrev KnownLevels : (ℕ → List Kind) → KnownRuns → ℕ → GrownLevels → Type 0
+KnownLevels kinds known n l = AreLevels (level_known kinds known) n l
 
-record Split (kinds : ℕ → List Kind) (known : KnownRuns) (n last : ℕ) (plans : List (List Rig)) : Type 0 where
+pub level_zero : (kinds : ℕ → List Kind) (known : KnownRuns) → level_known kinds known 0 ≡ [] ∷ []
+unfolding level_known
+level_zero kinds known = refl
+
+record Split (kinds : ℕ → List Kind) (known : KnownRuns) (n : ℕ) (l : GrownLevels) : Type 0 where
   before : List (List Rig)
-  is : plans ≡ before ++ level_known kinds known n
-  first : last ≡ length before
-  many : length plans - last ≡ length (level_known kinds known n)
+  is : l.plans ≡ before ++ level_known kinds known n
+  first : l.last ≡ length before
+  many : length l.plans - l.last ≡ length (level_known kinds known n)
 
 levels_end : (kinds : ℕ → List Kind) (known : KnownRuns) (n : ℕ) → (before : List (List Rig)) × (levels_known kinds known n ≡ before ++ level_known kinds known n)
-unfolding levels_known
+unfolding levels_to
 levels_end kinds known zero = ([], refl)
 levels_end kinds known (suc n) = (levels_known kinds known n, refl)
 
-split : (kinds : ℕ → List Kind) (known : KnownRuns) (n last : ℕ) (plans : List (List Rig)) → LastLevel kinds known n last plans → Split kinds known n last plans
-split kinds known n last plans l =
+split : (kinds : ℕ → List Kind) (known : KnownRuns) (n : ℕ) (l : GrownLevels) → KnownLevels kinds known n l → Split kinds known n l
+split kinds known n l are =
     let end = levels_end kinds known n in
-    let is : plans ≡ end.0 ++ level_known kinds known n = l.are ∙ end.1 in
+    let is : l.plans ≡ end.0 ++ level_known kinds known n = are.are ∙ end.1 in
     let long = ap length is ∙ length-append end.0 (level_known kinds known n) in
-    let count = l.count in
-    record { before = end.0; is = is; first = omega (arith, long, count); many = omega (arith, count) }
+    let begins = are.begins in
+    record { before = end.0; is = is; first = omega (arith, long, begins); many = omega (arith, begins) }
 
-pub starts : (kinds : ℕ → List Kind) (known : KnownRuns) (plans : List (List Rig)) → plans ≡ [] ∷ [] → LastLevel kinds known 0 0 plans
-unfolding levels_known level_known
-starts kinds known plans e = record { are = e; count = sym (ap length e) }
-
--- ---- how many plans each level has
-
-pub first_size : (kinds : ℕ → List Kind) (known : KnownRuns) (none one : List ℕ) → none ≡ [] → one ≡ none ++ 1 ∷ [] → one ≡ map (size_known kinds known) (range_with_len 0 (0 + 1))
+pub next_level : (kinds : ℕ → List Kind) (known : KnownRuns) (n : ℕ) (l : GrownLevels) → KnownLevels kinds known n l → AreNext (level_known kinds known) n l (kept_over kinds known l.plans l.last (length l.plans - l.last))
 unfolding level_known
-first_size kinds known none one e f = f ∙ ap (λ (l : List ℕ). l ++ 1 ∷ []) e
-
-pub sizes_more : (kinds : ℕ → List Kind) (known : KnownRuns) (n last : ℕ) (plans : List (List Rig)) (before after : List ℕ) (many : ℕ) → LastLevel kinds known (n + 1) last plans → before ≡ map (size_known kinds known) (range_with_len 0 (n + 1)) → many ≡ length plans
-    → after ≡ before ++ (many - last) ∷ [] → after ≡ map (size_known kinds known) (range_with_len 0 (n + 1 + 1))
-sizes_more kinds known n last plans before after many l so_far is pushed =
-    let count = l.count in
-    let size : many - last ≡ size_known kinds known (n + 1) = omega (arith, count, is) in
-    pushed ∙ ap (λ (x : List ℕ). x ++ (many - last) ∷ []) so_far ∙ ap (λ (k : ℕ). map (size_known kinds known) (range_with_len 0 (n + 1)) ++ k ∷ []) size
-    ∙ sym (map-range_with_len_more (size_known kinds known) 0 (n + 1) (n + 1) (omega arith))
-
-next_level : (kinds : ℕ → List Kind) (known : KnownRuns) (n last : ℕ) (plans : List (List Rig)) → LastLevel kinds known n last plans → map (plan_of plans) (kept_over kinds known plans last (length plans - last)) ≡ level_known kinds known (suc n)
-unfolding level_known
-next_level kinds known n last plans l =
-    let s = split kinds known n last plans l in
-    ap (λ (k : ℕ). map (plan_of plans) (kept_over kinds known plans k (length plans - last))) s.first
-    ∙ ap (λ (k : ℕ). map (plan_of plans) (kept_over kinds known plans (length s.before) k)) s.many
-    ∙ of_level kinds known plans s.before (level_known kinds known n) s.is
-
-pub next_last : (kinds : ℕ → List Kind) (known : KnownRuns) (n last : ℕ) (plans new : List (List Rig)) → LastLevel kinds known n last plans → new ≡ plans ++ map (plan_of plans) (kept_over kinds known plans last (length plans - last)) → LastLevel kinds known (n + 1) (length plans) new
-unfolding levels_known
-next_last kinds known n last plans new l added =
-    let one : suc n ≡ n + 1 = omega arith in
-    let whole : new ≡ levels_known kinds known n ++ level_known kinds known (suc n) = added ∙ ap (λ (ps : List (List Rig)). plans ++ ps) (next_level kinds known n last plans l) ∙ ap (λ (ps : List (List Rig)). ps ++ level_known kinds known (suc n)) l.are in
-    let long = ap length whole ∙ length-append (levels_known kinds known n) (level_known kinds known (suc n)) in
-    let before = ap length l.are in
-    let same : length (level_known kinds known (n + 1)) ≡ length (level_known kinds known (suc n)) = ap (λ k. length (level_known kinds known k)) (sym one) in
-    record { are = whole ∙ ap (levels_known kinds known) one; count = omega (arith, long, before, same) }
+next_level kinds known n l are =
+    let s = split kinds known n l are in
+    ap (λ (k : ℕ). map (plan_of l.plans) (kept_over kinds known l.plans k (length l.plans - l.last))) s.first
+    ∙ ap (λ (k : ℕ). map (plan_of l.plans) (kept_over kinds known l.plans (length s.before) k)) s.many
+    ∙ of_level kinds known l.plans s.before (level_known kinds known n) s.is
 
 -- how many children the plans of the last level have
-pub next_size : (kinds : ℕ → List Kind) (known : KnownRuns) (n last : ℕ) (plans : List (List Rig)) → LastLevel kinds known n last plans → length (kept_over kinds known plans last (length plans - last)) ≡ length (level_known kinds known (suc n))
-next_size kinds known n last plans l = sym (length-map (kept_over kinds known plans last (length plans - last)) (plan_of plans)) ∙ ap length (next_level kinds known n last plans l)
+next_size : (kinds : ℕ → List Kind) (known : KnownRuns) (n : ℕ) (l : GrownLevels) → KnownLevels kinds known n l → length (kept_over kinds known l.plans l.last (length l.plans - l.last)) ≡ length (level_known kinds known (suc n))
+next_size kinds known n l are = sym (length-map (kept_over kinds known l.plans l.last (length l.plans - l.last)) (plan_of l.plans)) ∙ ap length (next_level kinds known n l are)
 
--- ---- how many plans there are
-
--- the levels of a greater depth have no fewer
-levels_more : (kinds : ℕ → List Kind) (known : KnownRuns) (k n : ℕ) → length (levels_known kinds known n) ≤ length (levels_known kinds known (k + n))
-unfolding levels_known
-levels_more kinds known zero n =
-    let same = ap (λ (m : ℕ). length (levels_known kinds known m)) (let e : n ≡ 0 + n = omega arith in e) in
-    omega (arith, same)
-levels_more kinds known (suc k) n =
-    let before = levels_more kinds known k n in
-    let whole = length-append (levels_known kinds known (k + n)) (level_known kinds known (suc (k + n))) in
-    let same = ap (λ (m : ℕ). length (levels_known kinds known m)) (let e : suc (k + n) ≡ suc k + n = omega arith in e) in
-    omega (arith, before, whole, same)
-
-one_level : (kinds : ℕ → List Kind) (known : KnownRuns) → length (levels_known kinds known 0) ≡ 1
-unfolding levels_known level_known
-one_level kinds known = refl
-
-levels_next : (kinds : ℕ → List Kind) (known : KnownRuns) (n : ℕ) → length (levels_known kinds known (suc n)) ≡ length (levels_known kinds known n) + length (level_known kinds known (suc n))
-unfolding levels_known
-levels_next kinds known n = length-append (levels_known kinds known n) (level_known kinds known (suc n))
-
--- where a level has no room, the levels of the whole depth have none
-pub too_many : (kinds : ℕ → List Kind) (known : KnownRuns) (n d last most : ℕ) (plans : List (List Rig)) → LastLevel kinds known n last plans → n < d
-    → most < length plans + length (kept_over kinds known plans last (length plans - last)) → most < length (levels_known kinds known d)
-too_many kinds known n d last most plans l lt more =
-    let here = ap length l.are in
-    let size = next_size kinds known n last plans l in
-    let next = levels_next kinds known n in
-    let whole : (d - suc n) + suc n ≡ d = omega (arith, lt) in
-    let later = levels_more kinds known (d - suc n) (suc n) in
-    let all = ap (λ (k : ℕ). length (levels_known kinds known k)) whole in
-    omega (arith, more, here, size, next, later, all)
-
-part_of_levels : (kinds : ℕ → List Kind) (known : KnownRuns) (d : ℕ) → length (levels_known kinds known d) ≤ length (part_known kinds known d)
-part_of_levels kinds known d =
-    let whole = length-append (levels_known kinds known d) (flat_map (λ plan. onward_told plan (hits_of known plan)) (level_known kinds known d)) in
-    omega (arith, whole)
-
--- there is the plan without faults
-pub part_some : (kinds : ℕ → List Kind) (known : KnownRuns) (d : ℕ) → 0 < length (part_known kinds known d)
-part_some kinds known d =
-    let one = one_level kinds known in
-    let more = levels_more kinds known d 0 in
-    let same = ap (λ (k : ℕ). length (levels_known kinds known k)) (let e : d + 0 ≡ d = omega arith in e) in
-    let all = part_of_levels kinds known d in
-    omega (arith, one, more, same, all)
-
-pub levels_many : (kinds : ℕ → List Kind) (known : KnownRuns) (d most : ℕ) → most < length (levels_known kinds known d) → most < length (part_known kinds known d)
-levels_many kinds known d most more = let all = part_of_levels kinds known d in omega (arith, more, all)
+-- and those of its plans that go onward
+leaves_are : (kinds : ℕ → List Kind) (known : KnownRuns) (d : ℕ) (l : GrownLevels) → KnownLevels kinds known d l → onward_over known l.plans l.last (length l.plans - l.last) ≡ behind_known kinds known d
+leaves_are kinds known d l are =
+    let s = split kinds known d l are in
+    ap (λ (k : ℕ). onward_over known l.plans k (length l.plans - l.last)) s.first ∙ ap (onward_over known l.plans (length s.before)) s.many ∙ of_leaves known l.plans s.before (level_known kinds known d) s.is
 
 -- ---- no plan has more faults than its level's number
 
@@ -241,7 +170,7 @@ level_short kinds known (suc n) =
     (level_short kinds known n))
 
 levels_short : (kinds : ℕ → List Kind) (known : KnownRuns) (n : ℕ) → Short n (levels_known kinds known n)
-unfolding levels_known
+unfolding levels_to
 levels_short kinds known zero = level_short kinds known zero
 levels_short kinds known (suc n) =
     all_append (λ (plan : List Rig). length plan ≤ suc n) (levels_known kinds known n) (level_known kinds known (suc n))
@@ -263,62 +192,67 @@ part_short kinds known d =
     (all_weaker (λ (plan : List Rig). length plan ≤ d) (λ (plan : List Rig). Short d (onward_told plan (hits_of known plan))) (λ plan le. leaf_short d plan (hits_of known plan) le) (level_known kinds known d)
     (level_short kinds known d)))
 
--- ---- the whole
-
-leaves_are : (kinds : ℕ → List Kind) (known : KnownRuns) (d last : ℕ) (plans : List (List Rig)) → LastLevel kinds known d last plans
-    → onward_over known plans last (length plans - last) ≡ flat_map (λ plan. onward_told plan (hits_of known plan)) (level_known kinds known d)
-leaves_are kinds known d last plans l =
-    let s = split kinds known d last plans l in
-    ap (λ (k : ℕ). onward_over known plans k (length plans - last)) s.first ∙ ap (onward_over known plans (length s.before)) s.many ∙ of_leaves known plans s.before (level_known kinds known d) s.is
-
-pub part_is_known : (kinds : ℕ → List Kind) (known : KnownRuns) (d last : ℕ) (plans new : List (List Rig)) → LastLevel kinds known d last plans → new ≡ plans ++ onward_over known plans last (length plans - last) → new ≡ part_known kinds known d
-part_is_known kinds known d last plans new l added =
-    added ∙ ap (λ (ps : List (List Rig)). ps ++ onward_over known plans last (length plans - last)) l.are ∙ ap (λ (ps : List (List Rig)). levels_known kinds known d ++ ps) (leaves_are kinds known d last plans l)
-
--- the whole list, of each subject that agrees
-pub part_of : (kinds : ℕ → List Kind) (known : KnownRuns) (d last : ℕ) (plans new : List (List Rig)) → LastLevel kinds known d last plans → new ≡ plans ++ onward_over known plans last (length plans - last)
-    → (t : Subject) → IsLawful t → t.kinds ≡ kinds → Agrees t d known → new ≡ known_part t d known
-part_of kinds known d last plans new l added t lawful usual agrees =
-    part_is_known kinds known d last plans new l added ∙ ap (λ (ks : ℕ → List Kind). part_known ks known d) (sym usual) ∙ sym (part_is t lawful d known agrees)
+-- ---- the whole list, of each subject that agrees
 
 -- how many plans each level has, and how many go onward
-size_of : (kinds : ℕ → List Kind) (known : KnownRuns) (d n : ℕ) (t : Subject) → IsLawful t → t.kinds ≡ kinds → Agrees t d known → n ≤ d + 1 → size_known kinds known n ≡ level_size t known n
+size_of : (kinds : ℕ → List Kind) (known : KnownRuns) (d n : ℕ) (t : Subject) → IsLawful t → t.kinds ≡ kinds → Agrees t d known → n ≤ d + 1 → length (level_known kinds known n) ≡ level_size t known n
 size_of kinds known d n t lawful usual agrees le = ap length (ap (λ (ks : ℕ → List Kind). level_known ks known n) (sym usual) ∙ sym (level_is t lawful d n known agrees le))
 
-sizes_of : (kinds : ℕ → List Kind) (known : KnownRuns) (d k n : ℕ) (t : Subject) → IsLawful t → t.kinds ≡ kinds → Agrees t d known → k + n ≤ d + 1 → map (size_known kinds known) (range_with_len k n) ≡ map (level_size t known) (range_with_len k n)
-sizes_of kinds known d k zero t lawful usual agrees le = refl
-sizes_of kinds known d k (suc n) t lawful usual agrees le =
-    ap (λ (m : ℕ). m ∷ map (size_known kinds known) (range_with_len (k + 1) n)) (size_of kinds known d k t lawful usual agrees (omega (arith, le)))
-    ∙ ap (λ (l : List ℕ). level_size t known k ∷ l) (sizes_of kinds known d (k + 1) n t lawful usual agrees (omega (arith, le)))
+each_size : (kinds : ℕ → List Kind) (known : KnownRuns) (d k n : ℕ) (t : Subject) → IsLawful t → t.kinds ≡ kinds → Agrees t d known → k + n ≤ d + 1
+    → map (λ m. length (level_known kinds known m)) (range_with_len k n) ≡ map (level_size t known) (range_with_len k n)
+each_size kinds known d k zero t lawful usual agrees le = refl
+each_size kinds known d k (suc n) t lawful usual agrees le =
+    ap (λ (m : ℕ). m ∷ map (λ m. length (level_known kinds known m)) (range_with_len (k + 1) n)) (size_of kinds known d k t lawful usual agrees (omega (arith, le)))
+    ∙ ap (λ (l : List ℕ). level_size t known k ∷ l) (each_size kinds known d (k + 1) n t lawful usual agrees (omega (arith, le)))
 
-onward_size : (kinds : ℕ → List Kind) (known : KnownRuns) (d last : ℕ) (plans : List (List Rig)) → LastLevel kinds known d last plans → (t : Subject) → IsLawful t → t.kinds ≡ kinds → Agrees t d known
-    → length (onward_over known plans last (length plans - last)) ≡ length (filter (is_reached_onward known) (onward t d))
-onward_size kinds known d last plans l t lawful usual agrees =
-    ap length (leaves_are kinds known d last plans l ∙ ap (λ (ks : ℕ → List Kind). flat_map (λ plan. onward_told plan (hits_of known plan)) (level_known ks known d)) (sym usual) ∙ sym (onward_is t lawful d known agrees))
+-- what has grown from a table
+abbrev pub GrewBy : (ℕ → List Kind) → KnownRuns → ℕ → GrownList → Type 0
+GrewBy kinds known d k = IsGrownList (level_known kinds known) (behind_known kinds known d) d (length (level_known kinds known (suc d))) k
 
-pub known_is : (kinds : ℕ → List Kind) (known : KnownRuns) (d : ℕ) (l : Levels) (k : KnownPlans) (beyond : ℕ) → AreLevels kinds known d l → HasOnward known l beyond k → beyond ≡ length (kept_over kinds known l.plans l.last (length l.plans - l.last))
-    → (t : Subject) → IsLawful t → t.kinds ≡ kinds → Agrees t d known → AreKnown t d known k
-known_is kinds known d l k beyond levels more grows t lawful usual agrees =
-    let last : LastLevel kinds known d l.last l.plans = record { are = levels.are; count = levels.count } in
-    let one : suc d ≡ d + 1 = omega arith in
+pub grew_by : (kinds : ℕ → List Kind) (known : KnownRuns) (d beyond : ℕ) (l : GrownLevels) (gs : List Grew) (k : GrownList) → KnownLevels kinds known d l → map (plan_of l.plans) gs ≡ onward_over known l.plans l.last (length l.plans - l.last)
+    → beyond ≡ length (kept_over kinds known l.plans l.last (length l.plans - l.last)) → IsGrownList (level_known kinds known) (map (plan_of l.plans) gs) d beyond k → GrewBy kinds known d k
+grew_by kinds known d beyond l gs k are goes more is =
+    let behind : map (plan_of l.plans) gs ≡ behind_known kinds known d = goes ∙ leaves_are kinds known d l are in
     record {
-      plans = part_of kinds known d l.last l.plans k.plans last more.plans t lawful usual agrees;
-      levels = more.levels ∙ levels.sizes ∙ sizes_of kinds known d 0 (d + 1) t lawful usual agrees (omega arith);
-      onward = more.onward ∙ onward_size kinds known d l.last l.plans last t lawful usual agrees;
-      beyond = more.beyond_is ∙ grows ∙ next_size kinds known d l.last l.plans last ∙ ap (size_known kinds known) one ∙ size_of kinds known d (d + 1) t lawful usual agrees (omega arith);
+      plans = is.plans ∙ ap (λ (ps : List (List Rig)). levels_known kinds known d ++ ps) behind;
+      levels = is.levels;
+      onward = is.onward ∙ ap length behind;
+      beyond_is = is.beyond_is ∙ more ∙ next_size kinds known d l are;
     }
 
-pub known_grown : (kinds : ℕ → List Kind) (known : KnownRuns) (d : ℕ) (l : Levels) (k : KnownPlans) (beyond : ℕ) → AreLevels kinds known d l → HasOnward known l beyond k → k.plans ≡ part_known kinds known d
-known_grown kinds known d l k beyond levels more = part_is_known kinds known d l.last l.plans k.plans (record { are = levels.are; count = levels.count }) more.plans
+pub known_is : (kinds : ℕ → List Kind) (known : KnownRuns) (d : ℕ) (k : GrownList) → GrewBy kinds known d k → (t : Subject) → IsLawful t → t.kinds ≡ kinds → Agrees t d known → AreKnown t d known k
+known_is kinds known d k h t lawful usual agrees = record {
+  plans = h.plans ∙ ap (λ (ks : ℕ → List Kind). part_known ks known d) (sym usual) ∙ sym (part_is t lawful d known agrees);
+  levels = h.levels ∙ each_size kinds known d 0 (d + 1) t lawful usual agrees (omega arith);
+  onward = h.onward ∙ ap length (ap (λ (ks : ℕ → List Kind). behind_known ks known d) (sym usual) ∙ sym (onward_is t lawful d known agrees));
+  beyond = h.beyond_is ∙ ap (λ (n : ℕ). length (level_known kinds known n)) (let e : suc d ≡ d + 1 = omega arith in e) ∙ size_of kinds known d (d + 1) t lawful usual agrees (omega arith);
+}
 
-pub known_short : (kinds : ℕ → List Kind) (known : KnownRuns) (d : ℕ) (l : Levels) (k : KnownPlans) (beyond : ℕ) → AreLevels kinds known d l → HasOnward known l beyond k → AllByRecursion (λ plan. length plan ≤ d) k.plans
-known_short kinds known d l k beyond levels more =
-    subst (λ (ps : List (List Rig)). AllByRecursion (λ plan. length plan ≤ d) ps) (sym (known_grown kinds known d l k beyond levels more)) (part_short kinds known d)
+pub known_short : (kinds : ℕ → List Kind) (known : KnownRuns) (d : ℕ) (k : GrownList) → GrewBy kinds known d k → AllByRecursion (λ plan. length plan ≤ d) k.plans
+known_short kinds known d k h = subst (λ (ps : List (List Rig)). AllByRecursion (λ plan. length plan ≤ d) ps) (sym h.plans) (part_short kinds known d)
 
--- they are as many where those from then on have no room
-pub known_many : (kinds : ℕ → List Kind) (known : KnownRuns) (d most : ℕ) (l : Levels) → AreLevels kinds known d l → most < length l.plans + length (onward_over known l.plans l.last (length l.plans - l.last)) → most < length (part_known kinds known d)
-known_many kinds known d most l levels more =
-    let leaves = onward_over known l.plans l.last (length l.plans - l.last) in
-    let whole = ap length (part_is_known kinds known d l.last l.plans (l.plans ++ leaves) (record { are = levels.are; count = levels.count }) refl) in
-    let both = length-append l.plans leaves in
-    omega (arith, more, whole, both)
+-- ---- how many there are
+
+-- where a level has no room, the levels of the whole depth have none
+pub no_room : (kinds : ℕ → List Kind) (known : KnownRuns) (n d most : ℕ) → n < d → most < length (levels_known kinds known (suc n)) → most < length (levels_known kinds known d)
+no_room kinds known n d most lt many =
+    let more = levels_more (level_known kinds known) (suc n) (d - suc n) in
+    let all = ap (λ (k : ℕ). length (levels_known kinds known k)) (let e : suc n + (d - suc n) ≡ d = omega (arith, lt) in e) in
+    omega (arith, many, more, all)
+
+-- the levels alone have fewer plans than there are
+pub levels_many : (kinds : ℕ → List Kind) (known : KnownRuns) (d most : ℕ) → most < length (levels_known kinds known d) → most < length (part_known kinds known d)
+levels_many kinds known d most more = let whole = length-append (levels_known kinds known d) (behind_known kinds known d) in omega (arith, more, whole)
+
+pub whole_many : (kinds : ℕ → List Kind) (known : KnownRuns) (d most : ℕ) (l : GrownLevels) (gs : List Grew) → KnownLevels kinds known d l → map (plan_of l.plans) gs ≡ onward_over known l.plans l.last (length l.plans - l.last)
+    → most < length (l.plans ++ map (plan_of l.plans) gs) → most < length (part_known kinds known d)
+whole_many kinds known d most l gs are goes many =
+    let whole = ap length (ap (λ (ps : List (List Rig)). ps ++ map (plan_of l.plans) gs) are.are ∙ ap (λ (ps : List (List Rig)). levels_known kinds known d ++ ps) (goes ∙ leaves_are kinds known d l are)) in
+    omega (arith, many, whole)
+
+pub first_some : (kinds : ℕ → List Kind) (known : KnownRuns) (d : ℕ) → 0 < length (levels_known kinds known d)
+unfolding levels_to level_known
+first_some kinds known d =
+    let more = levels_more (level_known kinds known) 0 d in
+    let all = ap (λ (k : ℕ). length (levels_known kinds known k)) (let e : 0 + d ≡ d = omega arith in e) in
+    omega (arith, more, all)

@@ -8,7 +8,7 @@ use Rattle.action_eval.specs.declared.rig.Kind.{Kind}
 use Rattle.action_eval.specs.declared.rig.Kind.TheVariants.{OnceReturn, OnwardReturn, OncePanic}
 use Rattle.action_eval.specs.RiggedScenario.{rig, text_of}
 use Rattle.grown_plans.specs.Runs.{Met}
-use Rattle.grown_plans.specs.GrownPlans.{Subject, run_of_plan, hits_past, grown_at, children, is_once_return, is_hit_again, onward_of, level, levels, onward, grown}
+use Rattle.grown_plans.specs.GrownPlans.{Subject, run_of_plan, hits_past, grown_at, children, is_once_return, is_hit_again, onward_of, level, levels, levels_to, onward, grown}
 use Rattle.grown_plans.specs.AskedPoints.{GrowsByAsked, GoesOnwardByAsked, children_by, onward_by}
 use Rattle.grown_plans.specs.Promises.{IsLawful}
 use Rattle.grown_plans.proofs.Members.{all_of, all_map, all_flat, all_by_contains, all_contains}
@@ -70,7 +70,7 @@ level_is t l d (suc n) known a le =
     ∙ ap (flat_map (children_known t.kinds known)) (level_is t l d n known a (omega (arith, le)))
 
 pub levels_is : (t : Subject) → IsLawful t → (d n : ℕ) (known : KnownRuns) → Agrees t d known → n ≤ d → filter (is_reached known) (levels t n) ≡ levels_known t.kinds known n
-unfolding levels levels_known
+unfolding levels_to
 levels_is t l d zero known a le = level_is t l d zero known a (omega (arith, le))
 levels_is t l d (suc n) known a le =
     filter-append (is_reached known) (levels t n) (level t (suc n))

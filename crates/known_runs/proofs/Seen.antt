@@ -13,7 +13,7 @@ use Rattle.action_eval.specs.RiggedScenario.{rig, text_of}
 use Rattle.plan_gen.specs.RiggedAnswers.{reply_by}
 use Rattle.target_trait.specs.declared.judgement.Verdict.TheVariants.{Fail}
 use Rattle.grown_plans.specs.Runs.{Met, met, acting, is_fault}
-use Rattle.grown_plans.specs.GrownPlans.{Subject, run_of_plan, hits_after, hits_past, grown_at, children, is_once_return, is_hit_again, onward_of, level, levels, onward, grown}
+use Rattle.grown_plans.specs.GrownPlans.{Subject, run_of_plan, hits_after, hits_past, grown_at, children, is_once_return, is_hit_again, onward_of, level, levels, levels_to, onward, grown}
 use Rattle.grown_plans.specs.Promises.{EachTwo, FaultCase, IsCause, IsLawful, IsOfOne, IsTried, KeepsPrefix, ReturnsOnward, run_in, verdict_in, verdict_of_plan}
 use Rattle.grown_plans.proofs.Members.{all_append, all_flat, all_map, all_of, all_right, all_weaker, all_by_contains, all_contained, all_contains, contains_head, contains_none, contains_split, contains_tail, one_of}
 use Rattle.grown_plans.proofs.Paths.{AnsweredBy, Fresh, IsPath, hit_fresh, met_is}
@@ -100,7 +100,7 @@ pub record StandsIn (t : Subject) (d : ℕ) (plan : List Rig) : Type 0 where
   pub in_level : Contains (level t n) plan
 
 stand_in : (t : Subject) (d : ℕ) → AllByRecursion (StandsIn t d) (levels t d)
-unfolding levels
+unfolding levels_to
 stand_in t zero = all_by_contains (StandsIn t 0) (level t 0) (λ plan c. record { n = 0; le = omega arith; in_level = c })
 stand_in t (suc d) =
     all_append (StandsIn t (suc d)) (levels t d) (level t (suc d))

@@ -4,14 +4,14 @@ use Rattle.std.specs.List.{filter, range_with_len}
 use Rattle.grown_plans.specs.GrownPlans.{Subject, level, onward}
 use Rattle.known_runs.specs.Known.{KnownRuns}
 use Rattle.known_runs.specs.KnownPart.{is_reached, is_reached_onward, known_part}
-use Rattle.known_runs.specs.declared.growing.KnownPlans.{KnownPlans}
+use Rattle.grown_plans.specs.declared.grown_list.GrownList.{GrownList}
 
 -- how many plans of a level are known
 abbrev pub level_size : Subject → KnownRuns → ℕ → ℕ
 level_size t known n = length (filter (is_reached known) (level t n))
 
 -- of a subject's list to a depth
-pub record AreKnown (t : Subject) (d : ℕ) (known : KnownRuns) (k : KnownPlans) : Type 0 where
+pub record AreKnown (t : Subject) (d : ℕ) (known : KnownRuns) (k : GrownList) : Type 0 where
   pub plans : k.plans ≡ known_part t d known
   pub levels : k.levels.items ≡ map (level_size t known) (range_with_len 0 (d + 1))
   pub onward : k.onward ≡ length (filter (is_reached_onward known) (onward t d))

@@ -4,6 +4,7 @@ use Rattle.std.specs.List.{flat_map}
 use Rattle.action_eval.specs.declared.rig.Rig.{Rig}
 use Rattle.action_eval.specs.declared.rig.Kind.{Kind}
 use Rattle.grown_plans.specs.AskedPoints.{children_by, onward_by}
+use Rattle.grown_plans.specs.GrownPlans.{levels_to}
 use Rattle.known_runs.specs.Known.{KnownRuns, hits_of}
 
 -- the children of a plan whose hits are told
@@ -18,15 +19,16 @@ unfoldable pub level_known : (ℕ → List Kind) → KnownRuns → ℕ → List 
 level_known kinds known zero = [] ∷ []
 level_known kinds known (suc n) = flat_map (children_known kinds known) (level_known kinds known n)
 
-unfoldable pub levels_known : (ℕ → List Kind) → KnownRuns → ℕ → List (List Rig)
-levels_known kinds known zero = level_known kinds known zero
-levels_known kinds known (suc d) = levels_known kinds known d ++ level_known kinds known (suc d)
+abbrev pub levels_known : (ℕ → List Kind) → KnownRuns → ℕ → List (List Rig)
+levels_known kinds known d = levels_to (level_known kinds known) d
 
 -- and the plan with its last fault from then on
 abbrev pub onward_told : List Rig → Option (List ℕ) → List (List Rig)
 onward_told plan None = []
 onward_told plan (Some hits) = onward_by plan hits
 
+abbrev pub behind_known : (ℕ → List Kind) → KnownRuns → ℕ → List (List Rig)
+behind_known kinds known d = flat_map (λ plan. onward_told plan (hits_of known plan)) (level_known kinds known d)
+
 abbrev pub part_known : (ℕ → List Kind) → KnownRuns → ℕ → List (List Rig)
-part_known kinds known d =
-    levels_known kinds known d ++ flat_map (λ plan. onward_told plan (hits_of known plan)) (level_known kinds known d)
+part_known kinds known d = levels_known kinds known d ++ behind_known kinds known d

@@ -1,5 +1,4 @@
 -- What the code keeps. No clause that a caller sees names any of it.
 pub mod Grown
-pub mod GrownLevels
 pub mod BreakSteps
 pub mod WalkSteps

@@ -4,16 +4,16 @@ ghost use Rattle.std.specs.List.{AllByRecursion};
 ghost use Rattle.grown_plans.specs.GrownPlans.{Subject, kinds_at};
 ghost use Rattle.grown_plans.specs.AskedPoints.{is_last_return, onward_if};
 ghost use Rattle.grown_plans.specs.Kept.{GrewFrom, plan_of};
+ghost use Rattle.grown_plans.specs.Lists.{AreLevels};
 ghost use Rattle.grown_plans.specs.Promises.{IsLawful};
 ghost use Rattle.known_runs.specs.Known.{Agrees};
 ghost use Rattle.known_runs.specs.KnownPlans.{AreKnown};
-ghost use Rattle.known_runs.specs.ToldPart.{levels_known, part_known};
-ghost use Rattle.known_runs.specs.inside.Grown.{again_known, kept_known, kept_over, onward_known, onward_over};
-ghost use Rattle.known_runs.specs.inside.GrownLevels.{AreLevels, HasOnward};
+ghost use Rattle.known_runs.specs.ToldPart.{level_known, levels_known, part_known};
+ghost use Rattle.known_runs.specs.inside.Grown.{again_known, kept_known, kept_over, onward_over};
 
 use crate::table::{Look, RunTable};
 use action_eval::Rig;
-use grown_plans::{Child, GrownPlans, Kinds, add_children};
+use grown_plans::{Child, GrownLevels, GrownList, GrownPlans, Kinds, add_children};
 use plan_gen::PlanFault;
 use std::alloc::{AllocError, Global};
 
@@ -81,42 +81,6 @@ fn children_from<T: RunTable>(
     Ok(children)
 }
 
-/// Whether so many plans more may be added.
-fn check_room(most: usize, plans: usize, more: usize) -> Result<(), PlanFault>
-    ensures ok { OnOk result (plans + more ≤ most) }
-    ensures many { IsErrOf result PlanFault.TooManyPlans → most < plans + more }
-{
-    match most.checked_sub(plans) {
-        Some(room) if more <= room => Ok(()),
-        _ => Err(PlanFault::TooManyPlans),
-    }
-}
-
-/// Adds the children of the plans from this number on, and answers where they begin.
-fn add_level<T: RunTable>(
-    alloc: Global,
-    table: &T,
-    kinds: &Kinds<'_>,
-    plans: &mut GrownPlans,
-    last: usize,
-    most: usize,
-) -> Result<usize, PlanFault>
-    requires last { last ≤ length plans.old }
-    requires few { length plans.old ≤ 65536 }
-    ensures next { IfOk result (λ next. next ≡ length plans.old) }
-    ensures added { OnOk result (plans.new
-        ≡ plans.old ++ map (plan_of plans.old) (kept_over (kinds_at kinds.now) (T.known table.now) plans.old last (length plans.old - last))) }
-    ensures few { OnOk result (length plans.new ≤ most) }
-    ensures many { IsErrOf result PlanFault.TooManyPlans
-        → most < length plans.old + length (kept_over (kinds_at kinds.now) (T.known table.now) plans.old last (length plans.old - last)) }
-{
-    let end = plans.len();
-    let children = children_from(alloc, table, kinds, plans, last)?;
-    check_room(most, end, children.len())?;
-    plans.add(children.as_slice())?;
-    Ok(end)
-}
-
 /// Adds the plan of this number with its last fault from then on, where that is a return and its point is hit again.
 fn push_onward(
     plans: &GrownPlans,
@@ -139,140 +103,65 @@ fn push_onward(
     Ok(())
 }
 
-/// The plans from this number on that go onward, as they are kept.
-fn onward_from<T: RunTable>(
+/// What grows from the plans of the last level: those of them that go onward, as they are kept, and how many children they have.
+#[derive(Drop)]
+struct Ends {
+    onward: Vec<Child>,
+    beyond: u64,
+}
+
+/// What grows from the plans from this number on, where they are those of the last level.
+fn ends_from<T: RunTable>(
     alloc: Global,
     table: &T,
     kinds: &Kinds<'_>,
     plans: &GrownPlans,
     first: usize,
-) -> Result<Vec<Child>, AllocError>
+) -> Result<Ends, AllocError>
     requires within { first ≤ length plans.now }
     requires few { length plans.now ≤ 65536 }
-    ensures plans { IfOk result (λ onward. map (plan_of plans.now) onward.items ≡ onward_over (T.known table.now) plans.now first (length plans.now - first)) }
-    ensures parents { IfOk result (λ onward. GrewFrom (length plans.now) onward.items) }
+    ensures plans { IfOk result (λ ends. map (plan_of plans.now) ends.onward.items
+        ≡ onward_over (T.known table.now) plans.now first (length plans.now - first)) }
+    ensures parents { IfOk result (λ ends. GrewFrom (length plans.now) ends.onward.items) }
+    ensures beyond { IfOk result (λ ends. ends.beyond
+        ≡ length (kept_over (kinds_at kinds.now) (T.known table.now) plans.now first (length plans.now - first))) }
 {
     let mut onward = Vec::new(alloc);
+    let mut beyond = 0u64;
     let mut children = Vec::new(alloc);
     let mut workspace = Workspace::new(alloc);
     for number in first..plans.len() {
         children.clear();
         let is_again = add_children_of(table, kinds, plans, number, &mut workspace, &mut children)?;
         push_onward(plans, number, is_again, &mut onward)?;
-    }
-    Ok(onward)
-}
-
-/// How many children the plans from this number on have, where their hits are told.
-fn count_children<T: RunTable>(
-    alloc: Global,
-    table: &T,
-    kinds: &Kinds<'_>,
-    plans: &GrownPlans,
-    first: usize,
-) -> Result<u64, AllocError>
-    requires within { first ≤ length plans.now }
-    requires few { length plans.now ≤ 65536 }
-    ensures { IfOk result (λ count. count ≡ length (kept_over (kinds_at kinds.now) (T.known table.now) plans.now first (length plans.now - first))) }
-{
-    let mut children = Vec::new(alloc);
-    let mut workspace = Workspace::new(alloc);
-    let mut count = 0u64;
-    for number in first..plans.len() {
-        children.clear();
-        add_children_of(table, kinds, plans, number, &mut workspace, &mut children)?;
         // so many children are more than the hits of any memory
-        let Some(more) = count.checked_add(children.len() as u64) else {
+        let Some(more) = beyond.checked_add(children.len() as u64) else {
             return Err(AllocError);
         };
-        count = more;
+        beyond = more;
     }
-    Ok(count)
+    Ok(Ends { onward, beyond })
 }
 
-/// Levels that have grown, the first plan of the last one, and how many plans each has.
-#[derive(Drop)]
-struct Levels {
-    plans: GrownPlans,
-    sizes: Vec<u32>,
-    last: usize,
-}
-
-/// Adds how many plans a level has.
-fn push_size(sizes: &mut Vec<u32>, size: usize) -> Result<(), AllocError>
-    requires { size ≤ 65536 }
-    ensures { OnOk result (sizes.new.items ≡ sizes.old.items ++ size ∷ []) }
-{
-    sizes.push(size as u32)?;
-    Ok(())
-}
-
-/// Grows levels 0 to a depth, of at most so many plans.
+/// Levels 0 to a depth, of at most so many plans.
 fn grow_levels<T: RunTable>(
     alloc: Global,
     table: &T,
     kinds: &Kinds<'_>,
     depth: u32,
     most: usize,
-) -> Result<Levels, PlanFault>
-    requires some { 0 < most }
-    requires few { most ≤ 65536 }
-    ensures levels { IfOk result (AreLevels (kinds_at kinds.now) (T.known table.now) depth) }
+) -> Result<GrownLevels, PlanFault>
+    requires { most ≤ 65536 }
+    ensures levels { IfOk result (AreLevels (level_known (kinds_at kinds.now) (T.known table.now)) depth) }
     ensures few { IfOk result (λ levels. length levels.plans ≤ most) }
     ensures many { IsErrOf result PlanFault.TooManyPlans → most < length (levels_known (kinds_at kinds.now) (T.known table.now) depth) }
 {
-    let mut plans = GrownPlans::new(alloc);
-    let mut sizes = Vec::new(alloc);
-    push_size(&mut sizes, 1)?;
-    let mut last = 0;
+    let mut levels = GrownLevels::first(alloc, most)?;
     for _ in 0..depth {
-        last = add_level(alloc, table, kinds, &mut plans, last, most)?;
-        push_size(&mut sizes, plans.len() - last)?;
+        let children = children_from(alloc, table, kinds, &levels.plans, levels.last)?;
+        levels.add(children.as_slice(), most)?;
     }
-    Ok(Levels { plans, sizes, last })
-}
-
-/// Plans of a list that are known by now.
-#[derive(Debug, Drop)]
-pub struct KnownPlans {
-    /// The plans, in the order of the list.
-    pub plans: GrownPlans,
-    /// How many of them each level has, from level 0 to that of the depth.
-    pub levels: Vec<u32>,
-    /// How many of them have their last fault from then on.
-    pub onward: u32,
-    /// How many plans of the level after the last one are known.
-    pub beyond: u64,
-}
-
-/// Adds the plans of the last level with their last fault from then on.
-fn with_onward<T: RunTable>(
-    alloc: Global,
-    table: &T,
-    kinds: &Kinds<'_>,
-    levels: Levels,
-    beyond: u64,
-    most: usize,
-) -> Result<KnownPlans, PlanFault>
-    requires last { levels.last ≤ length levels.plans }
-    requires plans { length levels.plans ≤ 65536 }
-    requires most { most ≤ 65536 }
-    ensures added { IfOk result (HasOnward (T.known table.now) levels beyond) }
-    ensures few { IfOk result (λ known. length known.plans ≤ most) }
-    ensures many { IsErrOf result PlanFault.TooManyPlans
-        → most < length levels.plans + length (onward_over (T.known table.now) levels.plans levels.last (length levels.plans - levels.last)) }
-{
-    let Levels { plans, sizes, last } = levels;
-    let mut plans = plans;
-    let onward = onward_from(alloc, table, kinds, &plans, last)?;
-    check_room(most, plans.len(), onward.len())?;
-    plans.add(onward.as_slice())?;
-    Ok(KnownPlans {
-        plans,
-        levels: sizes,
-        onward: onward.len() as u32,
-        beyond,
-    })
+    Ok(levels)
 }
 
 /// The plans of a list to a depth that are known by now, in its order: of each level the children of plans whose hits are told, by these kinds
@@ -286,7 +175,7 @@ pub fn known_plans<T: RunTable>(
     kinds: &Kinds<'_>,
     depth: u32,
     most: usize,
-) -> Result<KnownPlans, PlanFault>
+) -> Result<GrownList, PlanFault>
     requires { most ≤ 65536 }
     ensures known { IfOk result (λ known. (t : Subject) → IsLawful t → t.kinds ≡ kinds_at kinds.now → Agrees t depth (T.known table.now)
         → AreKnown t depth (T.known table.now) known) }
@@ -295,10 +184,7 @@ pub fn known_plans<T: RunTable>(
     ensures few { IfOk result (λ known. length known.plans ≤ most) }
     ensures many { IsErrOf result PlanFault.TooManyPlans → most < length (part_known (kinds_at kinds.now) (T.known table.now) depth) }
 {
-    if most == 0 {
-        return Err(PlanFault::TooManyPlans);
-    }
     let levels = grow_levels(alloc, table, kinds, depth, most)?;
-    let beyond = count_children(alloc, table, kinds, &levels.plans, levels.last)?;
-    with_onward(alloc, table, kinds, levels, beyond, most)
+    let ends = ends_from(alloc, table, kinds, &levels.plans, levels.last)?;
+    levels.end(ends.onward.as_slice(), ends.beyond, most)
 }

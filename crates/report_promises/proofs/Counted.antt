@@ -6,7 +6,7 @@ use Rattle.std.proofs.lemmas.List.{length-map}
 use Rattle.action_eval.specs.declared.rig.Rig.{Rig}
 use Rattle.plan_gen.specs.RiggedAnswers.{is_onward}
 use Rattle.grown_plans.specs.Runs.{Met, acting}
-use Rattle.grown_plans.specs.GrownPlans.{Subject, rigs_of, run_of_plan, in_order, level, levels}
+use Rattle.grown_plans.specs.GrownPlans.{Subject, rigs_of, run_of_plan, in_order, level, levels, levels_to}
 use Rattle.grown_plans.specs.Promises.{EachTwo, IsLawful, IsOfKinds, run_in}
 use Rattle.grown_plans.proofs.Members.{all_weaker, all_map, two_map, two_right, contains_map}
 use Rattle.grown_plans.proofs.Paths.{some_is}
@@ -43,7 +43,7 @@ has_acting t l n plan g = (
 
 -- a level stands at the end of the levels up to it
 level_apart : (t : Subject) → IsLawful t → (n : ℕ) → EachTwo (λ a b. run_of_plan t a ≢ run_of_plan t b) (level t n)
-unfolding levels
+unfolding levels_to
 level_apart t l zero = levels_run_apart t l 0
 level_apart t l (suc n) = two_right (RunApart t) (levels t n) (level t (suc n)) (levels_run_apart t l (suc n))
 

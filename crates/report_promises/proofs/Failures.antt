@@ -8,7 +8,7 @@ use Rattle.action_eval.specs.declared.rig.Rig.{Rig}
 use Rattle.target_trait.specs.declared.judgement.Verdict.{Verdict}
 use Rattle.target_trait.specs.declared.judgement.Verdict.TheVariants.{Fail}
 use Rattle.grown_plans.specs.Runs.{Met, acting}
-use Rattle.grown_plans.specs.GrownPlans.{Subject, run_of_plan, level, levels, onward, grown}
+use Rattle.grown_plans.specs.GrownPlans.{Subject, run_of_plan, level, levels, levels_to, onward, grown}
 use Rattle.grown_plans.specs.Promises.{IsLawful, verdict_of_plan, FaultCase, run_in}
 use Rattle.grown_plans.proofs.Members.{all_contains}
 use Rattle.grown_plans.proofs.Paths.{some_is}
@@ -34,7 +34,7 @@ pub record OfLevel (t : Subject) (d number : ℕ) (hits : List Met) : Type 0 whe
 
 -- fewer levels stand in front
 levels_begin : (t : Subject) (n d : ℕ) → n ≤ d → (rest : List (List Rig)) × (levels t d ≡ levels t n ++ rest)
-unfolding levels
+unfolding levels_to
 levels_begin t n zero h = ([], ap (levels t) (let goal : 0 ≡ n = omega (arith, h) in goal) ∙ sym (append-nil (levels t n)))
 levels_begin t n (suc d) h = elim (cases_lt d n) [
   | inl more ↦ ([], ap (levels t) (let goal : suc d ≡ n = omega (arith, h, more) in goal) ∙ sym (append-nil (levels t n)))

@@ -4,7 +4,7 @@ use Rattle.std.specs.Prelude.{Contains, slice_get, sum}
 use Rattle.std.specs.List.{AllByRecursion, range_with_len}
 use Rattle.std.proofs.lemmas.List.FromFn.{map-range_with_len_more}
 use Rattle.std.proofs.lemmas.List.Sums.{sum_by-append}
-use Rattle.grown_plans.specs.GrownPlans.{Subject, level, levels}
+use Rattle.grown_plans.specs.GrownPlans.{Subject, level, levels, levels_to}
 use Rattle.grown_plans.specs.Promises.{EachTwo}
 use Rattle.grown_plans.proofs.Paths.{some_is}
 
@@ -63,7 +63,7 @@ sum_more : (xs : List ℕ) (n : ℕ) → sum (xs ++ n ∷ []) ≡ sum xs + n
 sum_more xs n = sum_by-append (λ (x : ℕ). x) xs (n ∷ []) ∙ (let goal : sum xs + (0 + n) ≡ sum xs + n = omega arith in goal)
 
 pub sizes_sum : (t : Subject) (d : ℕ) → sum (map (λ n. length (level t n)) (range_with_len 0 (d + 1))) ≡ length (levels t d)
-unfolding levels
+unfolding levels_to
 sizes_sum t zero = omega arith
 sizes_sum t (suc d) =
     ap (λ k. sum (map (λ n. length (level t n)) (range_with_len 0 k))) (let goal : suc d + 1 ≡ d + 1 + 1 = omega arith in goal)

@@ -29,7 +29,7 @@ end_list-requires-2 g c =
     let k : Campaign = campaign_in g.T.Target c.args.subject.now in
     let depth : k.given.depth ≡ Some c.in-Some.depth = sym (ap (λ (s : Given). s.depth) c.settings.view_is) ∙ c.in-Some.is in
     let is = c.in_ok-grown.ensures.grown in
-    subst (λ (o : Option ℕ). AreGrown k o (Some c.in_ok-grown.grown.plans)) (sym depth)
+    subst (λ (o : Option ℕ). AreGrown k o (Some c.in_ok-grown.grown.list.plans)) (sym depth)
     (record {
       same = is.has_grown.plans;
       rigs = subst (AllByRecursion (λ (plan : List Rig). CanBeRigged (rigs_of plan))) (sym is.has_grown.plans) is.rigs;

@@ -1,115 +1,120 @@
-use Rattle.std.proofs.Common.{rules, ◌≡◌, ◌+◌, ◌-◌, ◌∷◌, [], inl, ℕ, List, length, get_or, ap, sym, ◌∙◌, subst, arith}
+use Rattle.std.proofs.Common.{rules, ◌≡◌, ◌+◌, ◌-◌, inl, inr, ℕ, List, suc, map, length, get_or, ap, sym, ◌∙◌, subst, arith}
 use Rattle.std.proofs.lemmas.List.{length-replicate, length-map}
 use Rattle.action_eval.specs.declared.rig.Rig.{Rig}
-use Rattle.grown_plans.specs.GrownPlans.{Subject}
-use Rattle.grown_plans.specs.Promises.{IsLawful}
+use Rattle.grown_plans.specs.GrownPlans.{Subject, level, levels_to}
+use Rattle.grown_plans.specs.Kept.{plan_of}
+use Rattle.grown_plans.specs.Lists.{AreLevels, AreNext}
 use Rattle.grown_runs.specs.Grown.{subject_in, begun_from}
-use Rattle.grown_runs.specs.inside.Levels.{AreTold, LastLevel}
+use Rattle.grown_runs.specs.declared.input.Place.TheVariants.{Inner}
+use Rattle.grown_runs.specs.inside.Levels.{AreTold}
 use Rattle.grown_runs.proofs.Growing.{zeros, report_nil}
-use Rattle.grown_runs.proofs.Begun.{begun_next, begun_least}
-use Rattle.grown_runs.proofs.LevelRuns.{levels_start, next_many, next_last, too_many, told_more, sizes_more, can_rig, ask_alike}
+use Rattle.grown_runs.proofs.Begun.{begun_next, begun_least, begun_some}
+use Rattle.grown_runs.proofs.LevelRuns.{level_zero, told_more}
 use Rattle.grown_runs.proofs.levels.grow_levels.Goals as goal
 
-pub returns-then-limits-eq0-clause-many : goal.returns-then-limits-eq0-clause-many
-returns-then-limits-eq0-clause-many g c = λ is.
+pub returns-in_err-levels-clause-many : goal.returns-in_err-levels-clause-many
+returns-in_err-levels-clause-many g c = λ is.
     let limits = c.args.on.now.limits in
     let t : Subject = subject_in g.T.Target c.args.on.now in
-    let some = begun_least t c.args.count 0 limits.depth in
-    let start = ap length (levels_start t).0 in
-    omega (arith, some, start, c.if-limits-eq0.true)
+    let some = begun_some t limits.depth c.args.count in
+    let none = c.in_err-levels.ensures.many (search (is, rules)) in
+    omega (arith, some, none)
 
-pub loop-init : goal.loop-init
-loop-init g c =
+pub loop-number-init : goal.loop-number-init
+loop-number-init g c =
     let limits = c.args.on.now.limits in
     let t : Subject = subject_in g.T.Target c.args.on.now in
-    let start = levels_start t in
-    let first = c.in_ok-grown.ensures in
-    let one : length c.in_ok-grown.grown.plans ≡ 1 = ap length first.plans in
-    let size = start.1 in
+    let first = c.in_ok-levels.ensures in
+    let one = ap length first.plans in
+    let room = first.few in
+    let none = c.in_ok-outcomes.ensures in
+    let are = first.levels (level t) (level_zero t) in
+    let begins = are.begins in
+    let size = ap length (level_zero t) in
     record {
-      level = record { are = first.plans ∙ start.0; count = omega (arith, one, size) };
-      few = omega (arith, one, c.if-limits-eq0.false);
+      are = are;
+      few = omega (arith, one, room);
       so_far = ap (begun_from t c.args.count 0) (let e : limits.depth ≡ limits.depth - 0 = omega arith in e);
-      levels = first.levels ∙ ap (λ (n : ℕ). n ∷ []) (sym size);
-      told = record {
-        verdicts = first.verdicts;
-        causes = first.causes ∙ report_nil c.args.purpose;
-        hits = ap length first.hits ∙ length-replicate (length c.catalogue.result.now) 0 ∙ sym (ap length (sym c.catalogue.ensures) ∙ length-map c.catalogue.result.now (λ n. n.now));
-        most = λ p lt. ap (λ hs. get_or hs p 0) first.hits ∙ zeros (length c.catalogue.result.now) p;
-      };
+      told =
+          subst (λ (k : ℕ). AreTold t limits.seed c.args.purpose c.in_ok-levels.levels.plans k c.in_ok-outcomes.outcomes) (let e : 0 ≡ c.in_ok-levels.levels.last = omega (arith, one, size, begins) in e)
+          (record {
+            verdicts = none.verdicts;
+            causes = none.causes ∙ report_nil c.args.purpose;
+            hits = ap length none.hits ∙ length-replicate (length c.catalogue.result.now) 0 ∙ sym (ap length (sym c.catalogue.ensures) ∙ length-map c.catalogue.result.now (λ n. n.now));
+            most = λ p lt. ap (λ hs. get_or hs p 0) none.hits ∙ zeros (length c.catalogue.result.now) p;
+          });
     }
 
-pub add_level-requires-clause-last : goal.add_level-requires-clause-last
-add_level-requires-clause-last g c κs within = let e = c.loop.invariant.level.count in omega (arith, e)
-
-pub add_level-requires-clause-few : goal.add_level-requires-clause-few
-add_level-requires-clause-few g c κs within = let few = c.loop.invariant.few in let high = c.args.on.now.limits.plans_high in omega (arith, few, high)
-
-pub add_level-requires-clause-hits : goal.add_level-requires-clause-hits
-add_level-requires-clause-hits g c κs within = c.loop.invariant.told.hits
-
-pub add_level-requires-clause-rigs : goal.add_level-requires-clause-rigs
-add_level-requires-clause-rigs g c κs within =
-    let limits = c.args.on.now.limits in
-    let asks = g.T.Target.asks c.args.on.now.target.now c.args.on.now.workload.now in
-    let t : Subject = subject_in g.T.Target c.args.on.now in
-    let lawful : IsLawful t = c.each_target_is_a_lawful_subject.ensures c.args.on.now.target.now c.args.on.now.workload.now limits.max_hits in
-    let high = limits.depth_high in
-    can_rig t lawful (search rules) c.loop.counter (omega (arith, high, c.loop-test.true)) c.loop.grown.plans c.loop.invariant.level.are
-
-pub returns-in_err-last-clause-many : goal.returns-in_err-last-clause-many
-returns-in_err-last-clause-many g c = λ is.
-    let limits = c.args.on.now.limits in
-    let asks = g.T.Target.asks c.args.on.now.target.now c.args.on.now.workload.now in
-    let lawful : IsLawful (subject_in g.T.Target c.args.on.now) = c.each_target_is_a_lawful_subject.ensures c.args.on.now.target.now c.args.on.now.workload.now limits.max_hits in
-    let inv = c.loop.invariant in
-    let t : Subject = subject_in g.T.Target c.args.on.now in
-    let n = c.loop.counter in
-    let here = ap length inv.level.are in
-    let past = c.if-count-len.false in
-    let more = too_many asks g.T.Target.names limits.max_hits limits.seed n c.loop.last limits.most_plans c.loop.grown.plans lawful inv.level (c.in_err-last.ensures.many (search rules)) in
-    let least = begun_least t c.args.count (n + 1) (limits.depth - (n + 1)) in
-    let are = ap length (inv.so_far ∙ begun_next t c.args.count n limits.depth (omega (arith, here, past, c.len.ensures)) c.loop-test.true) in
-    omega (arith, more, least, are)
-
-pub loop-preserved : goal.loop-preserved
-loop-preserved g c =
-    let limits = c.args.on.now.limits in
-    let names = g.T.Target.names in
-    let asks = g.T.Target.asks c.args.on.now.target.now c.args.on.now.workload.now in
-    let t : Subject = subject_in g.T.Target c.args.on.now in
-    let lawful : IsLawful t = c.each_target_is_a_lawful_subject.ensures c.args.on.now.target.now c.args.on.now.workload.now limits.max_hits in
-    let inv = c.loop.invariant in
-    let plans : List (List Rig) = c.loop.grown.plans in
-    let new = c.add_level.new.grown in
-    let added = c.in_ok-last.ensures.added in
-    let next = c.in_ok-last.ensures.next in
+pub returns-then-count-len-clause-levels : goal.returns-then-count-len-clause-levels
+returns-then-count-len-clause-levels g c =
+    let inv = c.loop-number.invariant in
     record {
-      level =
-          subst (λ (n : ℕ). LastLevel t (c.loop.counter + 1) n new.plans) (sym next)
-          (next_last asks names limits.max_hits limits.seed c.loop.counter c.loop.last plans new.plans lawful inv.level added.plans);
-      few = c.in_ok-last.ensures.few;
-      so_far =
-          inv.so_far
-          ∙ begun_next t c.args.count c.loop.counter limits.depth (let here = ap length inv.level.are in let past = c.if-count-len.false in omega (arith, here, past, c.len.ensures)) c.loop-test.true;
-      levels =
-          sizes_more t c.loop.counter _ c.loop.grown.levels.items new.levels.items inv.levels added.levels
-          (next_many asks names limits.max_hits limits.seed c.loop.counter c.loop.last plans lawful inv.level);
+      top = c.loop-number.number;
+      within = let end = c.loop-number.auto.number-end in omega (arith, end);
+      so_far = inv.so_far;
+      enough = inr (let many = c.if-count-len.true in omega (arith, many, c.len.ensures));
+      are = inv.are;
+      told = inv.told;
+    }
+
+pub run_level-requires-clause-levels : goal.run_level-requires-clause-levels
+run_level-requires-clause-levels g c κs within = c.loop-number.invariant.are
+
+pub run_level-requires-clause-few : goal.run_level-requires-clause-few
+run_level-requires-clause-few g c κs within = let few = c.loop-number.invariant.few in let high = c.args.on.now.limits.plans_high in omega (arith, few, high)
+
+pub returns-in_err-add-clause-many : goal.returns-in_err-add-clause-many
+returns-in_err-add-clause-many g c = λ is.
+    let limits = c.args.on.now.limits in
+    let inv = c.loop-number.invariant in
+    let t : Subject = subject_in g.T.Target c.args.on.now in
+    let n = c.loop-number.number in
+    let l = c.loop-number.levels in
+    let here = ap length inv.are.are in
+    let past = c.if-count-len.false in
+    let grows : AreNext (level t) n l c.as_slice.result.now = ap (map (plan_of l.plans)) c.as_slice.ensures.value ∙ c.in_ok-growth.ensures.next in
+    let more = c.in_err-add.ensures.many (search (is, rules)) (level t) n inv.are grows in
+    let same = ap (λ k. length (levels_to (level t) k)) (let one : suc n ≡ n + 1 = omega arith in one) in
+    let least = begun_least t c.args.count (n + 1) (limits.depth - (n + 1)) in
+    let are = ap length (inv.so_far ∙ begun_next t c.args.count n limits.depth (omega (arith, here, past, c.len.ensures)) c.loop-number-test.true) in
+    omega (arith, more, same, least, are)
+
+pub note-requires : goal.note-requires
+note-requires g c = let mine = c.loop-number.invariant.told.hits in let other = c.in_ok-growth.ensures.ran.hits in omega (arith, mine, other)
+
+pub loop-number-preserved : goal.loop-number-preserved
+loop-number-preserved g c =
+    let limits = c.args.on.now.limits in
+    let t : Subject = subject_in g.T.Target c.args.on.now in
+    let inv = c.loop-number.invariant in
+    let n = c.loop-number.number in
+    let l = c.loop-number.levels in
+    let plans : List (List Rig) = l.plans in
+    let new = c.add.new.self in
+    let here = ap length inv.are.are in
+    let past = c.if-count-len.false in
+    let begins = inv.are.begins in
+    let grows : AreNext (level t) n l c.as_slice.result.now = ap (map (plan_of l.plans)) c.as_slice.ensures.value ∙ c.in_ok-growth.ensures.next in
+    record {
+      are = subst (λ (k : ℕ). AreLevels (level t) k new) (let one : suc n ≡ n + 1 = omega arith in one) (c.in_ok-add.ensures.levels (level t) n inv.are grows);
+      few = c.in_ok-add.ensures.few;
+      so_far = inv.so_far ∙ begun_next t c.args.count n limits.depth (omega (arith, here, past, c.len.ensures)) c.loop-number-test.true;
       told =
-          subst (λ (n : ℕ). AreTold t limits.seed c.args.purpose new.plans n new.outcomes) (sym next)
-          (told_more t limits.seed c.args.purpose (length plans) plans _ new.plans new.outcomes (omega arith) added.plans (added.told inv.told));
+          subst (λ (k : ℕ). AreTold t limits.seed c.args.purpose new.plans k c.note.new.self) (sym c.in_ok-add.ensures.last)
+          (told_more t limits.seed c.args.purpose (length plans) plans _ new.plans c.note.new.self (omega arith) c.in_ok-add.ensures.plans
+          (subst (λ (k : ℕ). AreTold t limits.seed c.args.purpose plans k c.note.new.self) (let e : l.last + (length plans - l.last) ≡ length plans = omega (arith, begins) in e)
+          (c.in_ok-note.ensures.told t limits.seed (record { place = Inner; purpose = c.args.purpose }) plans l.last (length plans - l.last) inv.told c.in_ok-growth.ensures.ran)));
     }
 
 pub returns-clause-levels : goal.returns-clause-levels
 returns-clause-levels g c =
-    let end = c.loop.auto.counter-end in
-    let inv = c.loop.invariant in
-    let whole : c.loop.counter ≡ c.args.on.now.limits.depth = omega (arith, end, c.loop-test.false) in
-    record { top = c.loop.counter; within = omega (arith, end); so_far = inv.so_far; enough = inl whole; level = inv.level; levels = inv.levels; told = inv.told }
+    let end = c.loop-number.auto.number-end in
+    let inv = c.loop-number.invariant in
+    let whole : c.loop-number.number ≡ c.args.on.now.limits.depth = omega (arith, end, c.loop-number-test.false) in
+    record { top = c.loop-number.number; within = omega (arith, end); so_far = inv.so_far; enough = inl whole; are = inv.are; told = inv.told }
 
-pub add_level-requires-clause-alike : goal.add_level-requires-clause-alike
-add_level-requires-clause-alike g c κs within =
-    let on = c.args.on.now in
-    let t : Subject = subject_in g.T.Target on in
-    let lawful : IsLawful t = c.each_target_is_a_lawful_subject.ensures on.target.now on.workload.now on.limits.max_hits in
-    ask_alike t lawful c.loop.counter c.loop.grown.plans c.loop.invariant.level.are
+pub returns-then-count-len-clause-few : goal.returns-then-count-len-clause-few
+returns-then-count-len-clause-few g c = c.loop-number.invariant.few
+
+pub returns-clause-few : goal.returns-clause-few
+returns-clause-few g c = c.loop-number.invariant.few

@@ -1,11 +1,12 @@
-use Rattle.std.proofs.Common.{◌&&◌, ◌++◌, ◌∙◌, List, ap, sym, get_or, [], map}
+use Rattle.std.proofs.Common.{rules, ◌&&◌, ◌++◌, ◌∙◌, List, ap, sym, get_or, [], map}
 use Rattle.action_eval.specs.declared.rig.Rig.{Rig}
 use Rattle.grown_plans.specs.AskedPoints.{is_last_return, onward_if}
+use Rattle.grown_plans.specs.GrownPlans.{kinds_at}
 use Rattle.grown_plans.specs.Kept.{plan_of}
 use Rattle.known_runs.specs.Known.{hits_of}
-use Rattle.known_runs.proofs.Kept.{onward_step}
+use Rattle.known_runs.proofs.Kept.{count_step, onward_step}
 use Rattle.known_runs.proofs.Steps.{told_onward}
-use Rattle.known_runs.proofs.growing.onward_from.Goals as goal
+use Rattle.known_runs.proofs.growing.ends_from.Goals as goal
 
 pub loop-number-preserved : goal.loop-number-preserved
 loop-number-preserved g c =
@@ -20,4 +21,7 @@ loop-number-preserved g c =
           (c.in_ok-push_onward.ensures.plans ∙ ap (λ b. of old ++ onward_if (is_last_return plan && b) plan) c.in_ok-is_again.ensures.again
           ∙ ap (λ (ps : List (List Rig)). of old ++ ps) (sym (told_onward plan (hits_of known plan))));
       parents = c.in_ok-push_onward.ensures.parents c.loop-number.invariant.parents;
+      beyond =
+          count_step (kinds_at c.args.kinds.now) known plans c.args.first c.loop-number.number c.loop-number.beyond c.in-Some.more c.clear.new.self.items c.add_children_of.new.children.items c.loop-number.auto.number
+          c.loop-number.invariant.beyond c.clear.ensures.items c.in_ok-is_again.ensures.children (search rules);
     }

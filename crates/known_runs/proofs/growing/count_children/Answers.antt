@@ -1,9 +1,0 @@
-use Rattle.std.proofs.Common.{rules}
-use Rattle.grown_plans.specs.GrownPlans.{kinds_at}
-use Rattle.known_runs.proofs.Kept.{count_step}
-use Rattle.known_runs.proofs.growing.count_children.Goals as goal
-
-pub loop-number-preserved : goal.loop-number-preserved
-loop-number-preserved g c =
-    count_step (kinds_at c.args.kinds.now) (g.T.RunTable.known c.args.table.now) c.args.plans.now c.args.first c.loop-number.number c.loop-number.count c.in-Some.more c.clear.new.self.items c.add_children_of.new.children.items c.loop-number.auto.number
-    c.loop-number.invariant c.clear.ensures.items c.in_ok-add_children_of.ensures.children (search rules)
