@@ -14,7 +14,10 @@ use Rattle.answer_text.specs.Known.{KnownVerdicts}
 use Rattle.answer_text.specs.Runs.{told_in}
 use Rattle.answered_runs.specs.Answered.{Answered, known_plans, runs_in}
 use Rattle.answered_runs.specs.Components.{AgreesWithRuns, IsComponent}
-use Rattle.answered_runs.specs.WholeList.{AreTold, unseen_count}
+use Rattle.answered_runs.specs.WholeList.{AreAllTold, AreTold, unseen_count}
+use Rattle.answered_runs.specs.KnownLists.{IsKnownList}
+use Rattle.grown_plans.specs.declared.grown_list.GrownList.{GrownList}
+use Rattle.known_runs.specs.KnownPlans.{AreKnown}
 use Rattle.campaign_given.specs.Description.{Description}
 use Rattle.campaign_given.specs.Given.{Given}
 use Rattle.result_book.specs.Verdicts.{verdicts_from}
@@ -36,20 +39,23 @@ err_with P (Ok x) why is h = tt
 err_with P (Err e) why is h = subst P (sym is) h
 
 -- the lists, by the answers and the depth as contracts see them
-pub lists_told : (old new : Answered × ℕ) (asked' asked : Asked) (lists : GrownLists) → old ≡ new → asked' ≡ asked → lists.listed.known.plans ≡ known_plans old.0 old.1
-    → lists.further ≡ further_told old.0 asked' → lists.listed.gap ≡ None → AreTold (runs_in old.0) lists.listed.known.plans lists.listed.gap
-    → (lists.listed.gap ≡ None → lists.listed.unseen ≡ unseen_count (runs_in old.0) lists.listed.known.plans)
-    → ((t : Subject) → IsComponent old.0.points old.0.listed t → AgreesWithRuns t (told_in old.0.book) → AreListsOf t old.1 asked' old.0 lists) → AreToldLists new.0 new.1 asked lists
-lists_told old new asked' asked lists same alike grown further none told unseen whole =
-    subst (λ (k : Answered × ℕ). AreToldLists k.0 k.1 asked lists) same
-    (subst (λ (x : Asked). AreToldLists old.0 old.1 x lists) alike
-    (record {
-      grown = grown;
-      further = further;
-      told = subst (λ (o : Option ℕ). AreTold (runs_in old.0) lists.listed.known.plans o) none told;
-      unseen = unseen none;
-      whole = whole;
-    }))
+pub lists_told : (old new : Answered × ℕ) (asked' asked : Asked) (lists : GrownLists) (list : GrownList) → old ≡ new → asked' ≡ asked → IsKnownList new.0 new.1 list → lists.listed.known ≡ list
+    → lists.further ≡ further_told old.0 asked' → lists.listed.gap ≡ None → AreTold (runs_in old.0) list.plans lists.listed.gap
+    → (lists.listed.gap ≡ None → lists.listed.unseen ≡ unseen_count (runs_in old.0) list.plans)
+    → ((t : Subject) (d : ℕ) → AreKnown t d (runs_in old.0) list → IsComponent old.0.points old.0.listed t → AgreesWithRuns t (told_in old.0.book) → AreListsOf t d asked' old.0 lists) → AreToldLists new.0 new.1 asked lists
+lists_told old new asked' asked lists list at alike is same further none told unseen whole =
+    let plans : lists.listed.known.plans ≡ list.plans = ap (λ (k : GrownList). k.plans) same in
+    let each = subst (λ (k : Answered × ℕ). (t : Subject) (d : ℕ) → AreKnown t d (runs_in k.0) list → IsComponent k.0.points k.0.listed t → AgreesWithRuns t (told_in k.0.book) → AreListsOf t d asked' k.0 lists) at whole in
+    record {
+      grown = plans ∙ is.plans;
+      further = further ∙ ap (λ (k : Answered × ℕ). further_told k.0 asked') at ∙ ap (further_told new.0) alike;
+      told =
+          subst (λ (ps : List (List Rig)). AreAllTold (runs_in new.0) ps) (sym plans)
+          (subst (λ (k : Answered × ℕ). AreAllTold (runs_in k.0) list.plans) at (subst (λ (o : Option ℕ). AreTold (runs_in old.0) list.plans o) none told));
+      unseen =
+          unseen none ∙ ap (λ (k : Answered × ℕ). unseen_count (runs_in k.0) list.plans) at ∙ ap (λ (ps : List (List Rig)). unseen_count (runs_in new.0) ps) (sym plans);
+      whole = λ t here agrees. subst (λ (x : Asked). AreListsOf t new.1 x new.0 lists) alike (each t new.1 (is.known t here agrees) here agrees);
+    }
 
 pub is_listed : (a : Answered) (depth : ℕ) (asked : Asked) (lists : GrownLists) (plans : List Entries) → AreToldLists a depth asked lists
     → plans ≡ grown_scenarios a.points lists.listed.known.plans ++ lists.further → plans ≡ listed a depth asked

@@ -4,18 +4,21 @@ ghost use Rattle.std.specs.Prelude.{◌≡◌, ◌≤◌, ◌<◌, ◌^◌, ◌+
 ghost use Rattle.std.specs.List.{AllByRecursion};
 ghost use Rattle.action_eval.specs.RiggedScenario.{CanBeRigged};
 ghost use Rattle.grown_plans.specs.GrownPlans.{rigs_of};
+ghost use Rattle.outside_campaign.specs.Asked.{plan_verdicts};
+ghost use Rattle.answered_campaigns.specs.Grown.{known as known_verdicts};
 ghost use Rattle.answered_campaigns.specs.inside.Outcomes.{IsOutcome};
 
 use crate::table::KnownByRuns;
 use answered_runs::AnsweredRuns;
 use campaign_plans::CampaignPlans;
 use grown_plans::GrownPlans;
-use outside_campaign::{Findings, findings_known, plan_verdicts};
+use outside_campaign::{Findings, findings_known};
 use outside_grown::{Causes, known_causes};
 use report::Finding;
 use result_book::first_failures_of;
 use scenario_values::Scenario;
 use std::alloc::{AllocError, Global};
+use target_trait::Verdict;
 
 /// What plans come to whose verdicts are known.
 #[derive(Drop)]
@@ -44,20 +47,22 @@ fn append(first: Vec<Scenario>, others: Vec<Scenario>) -> Result<Vec<Scenario>, 
     Ok(all)
 }
 
-/// What is told of plans, those that grew among them, by what is known: or what is still to be tried for it, first for the reductions of the
-/// first failures known and then for causes. An error means that memory was refused.
+/// What is told of plans, those that grew among them, by what is known, their verdicts among it: or what is still to be tried for it, first for
+/// the reductions of the first failures known and then for causes. An error means that memory was refused.
 pub fn outcome_known(
     alloc: Global,
     known: &KnownByRuns<'_>,
     plans: &CampaignPlans<'_>,
     grown: &GrownPlans,
+    verdicts: &[Option<Verdict>],
 ) -> Result<Outcome, AllocError>
+    requires verdicts { verdicts.now ≡ plan_verdicts (known_verdicts known.now.0 known.now.1) plans.now }
+    requires few { length verdicts.now ≤ 65536 }
     requires rigs { AllByRecursion (λ plan. CanBeRigged (rigs_of plan)) grown.now }
     requires many { length grown.now < 2 ^ 32 }
     ensures { IfOk result (IsOutcome known.now.0 known.now.1 plans.now grown.now) }
 {
-    let verdicts = plan_verdicts(alloc, known, plans)?;
-    let failures = first_failures_of(alloc, verdicts.as_slice())?;
+    let failures = first_failures_of(alloc, verdicts)?;
     let findings = findings_known(alloc, known, plans, failures.as_slice())?;
     let causes = known_causes(alloc, known.runs, known.depth, grown)?;
     match findings {

@@ -4,6 +4,7 @@ ghost use Rattle.std.specs.List.{AllByRecursion};
 ghost use Rattle.scenario_values.specs.Tidied.{tidied};
 ghost use Rattle.campaign_plans.specs.GrownScenarios.{grown_scenario};
 ghost use Rattle.answered_runs.specs.Answered.{runs_in};
+ghost use Rattle.answered_runs.specs.KnownLists.{IsKnownList};
 ghost use Rattle.answered_runs.specs.WholeList.{AreTold};
 ghost use Rattle.plan_gen.specs.PlanList.{Asked};
 ghost use Rattle.answered_campaigns.specs.Questions.{AreUnbroken};
@@ -12,21 +13,24 @@ ghost use Rattle.answered_campaigns.specs.inside.Outcomes.{IsGapFault, RefusesAs
 use crate::fault::QuestionFault;
 use crate::table::KnownByRuns;
 use answered_runs::{Listed, broken_run, plan_scenario};
-use grown_plans::GrownPlans;
+use grown_plans::{GrownList, GrownPlans};
 use outside_campaign::OutsideFault;
 use outside_grown::MOST_PLANS;
 use scenario_values::{Scenario, tidy};
 use std::alloc::{AllocError, Global};
 
-/// Refuses answers in which a run breaks with that of its plan's forerunner.
-pub fn refuse_broken(alloc: Global, known: &KnownByRuns<'_>) -> Result<(), QuestionFault>
+/// The plans that are known by now; answers in which a run breaks with that of its plan's forerunner are refused.
+pub fn known_list(alloc: Global, known: &KnownByRuns<'_>) -> Result<GrownList, QuestionFault>
     requires { known.now.1 ≤ 64 }
-    ensures ok { OnOk result (AreUnbroken known.now.0 known.now.1) }
+    ensures list { IfOk result (IsKnownList known.now.0 known.now.1) }
+    ensures few { IfOk result (λ list. length list.plans ≤ 65536) }
+    ensures unbroken { OnOk result (AreUnbroken known.now.0 known.now.1) }
     ensures fault { IfErr result (λ why. (asked : Asked) → RefusesAsks known.now.0 known.now.1 asked why) }
 {
-    match broken_run(alloc, known.runs, known.depth, MOST_PLANS)? {
+    let list = known.runs.known_plans(alloc, known.depth, MOST_PLANS)?;
+    match broken_run(alloc, known.runs, &list.plans)? {
         Some(broken) => Err(QuestionFault::Broken(broken)),
-        None => Ok(()),
+        None => Ok(list),
     }
 }
 

@@ -6,7 +6,7 @@ ghost use Rattle.answered_campaigns.specs.Questions.{AreUnbroken};
 ghost use Rattle.answered_campaigns.specs.inside.Outcomes.{RefusesAsks};
 
 use crate::fault::QuestionFault;
-use crate::grown::refuse_broken;
+use crate::grown::known_list;
 use crate::table::KnownByRuns;
 use campaign_plans::CampaignPlans;
 use outside_campaign::{OutsideCampaign, partial_text};
@@ -28,9 +28,9 @@ pub fn grown_partial(
         r.1 ≡ some_fails (known_verdicts k.0 k.1) (listed k.0 k.1 campaign.now.settings.now.plans)) }
     ensures fault { IfErr result (RefusesAsks known.now.0 known.now.1 campaign.now.settings.now.plans) }
 {
-    refuse_broken(alloc, known)?;
+    let list = known_list(alloc, known)?;
     let settings = campaign.settings;
-    let lists = grown_lists(alloc, known.runs, known.depth, &settings.plan_settings())?;
+    let lists = grown_lists(alloc, known.runs, &settings.plan_settings(), list)?;
     let grown = &lists.listed.known.plans;
     let plans = CampaignPlans::grown(Some(grown), known.runs.points(), &lists.further);
     Ok(partial_text(alloc, campaign, known, &plans, true)?)

@@ -6,7 +6,8 @@ ghost use Rattle.target_trait.specs.declared.judgement.Verdict.TheVariants.{Unre
 ghost use Rattle.answered_runs.specs.Answered.{known_plans, runs_in};
 ghost use Rattle.answered_runs.specs.WholeList.{AreAllTold};
 ghost use Rattle.report_json.specs.About.{shown_of};
-ghost use Rattle.outside_campaign.specs.Asked.{open_plans};
+ghost use Rattle.answer_text.specs.Known.{KnownVerdicts};
+ghost use Rattle.outside_campaign.specs.Asked.{plan_verdicts as known_plan_verdicts};
 ghost use Rattle.outside_campaign.specs.Told.{AreVerdicts};
 ghost use Rattle.outside_grown.specs.Further.{HasFewHits};
 ghost use Rattle.outside_campaign.specs.declared.verdicts.Verdicts.TheVariants.{All};
@@ -16,7 +17,7 @@ ghost use Rattle.answered_campaigns.specs.inside.Outcomes.{IsCleanCensus, IsDeci
 
 use crate::candidates::{Outcome, Told, outcome_known};
 use crate::fault::QuestionFault;
-use crate::grown::{refuse_broken, refuse_gap};
+use crate::grown::{known_list, refuse_gap};
 use crate::table::KnownByRuns;
 use campaign_core::causes_of;
 use campaign_plans::CampaignPlans;
@@ -42,18 +43,18 @@ struct AnsweredCampaign<'a> {
     plans: &'a CampaignPlans<'a>,
 }
 
-/// The verdict of each plan; or the first one that isn't known is still to be tried.
+/// The verdict of each plan; or the first one whose verdict isn't known is still to be tried.
 fn all_verdicts(
     alloc: Global,
-    known: &KnownByRuns<'_>,
     plans: &CampaignPlans<'_>,
+    verdicts: &[Option<Verdict>],
 ) -> Result<Vec<Verdict>, QuestionFault>
-    ensures all { IfOk result (λ all. AreVerdicts (known_verdicts known.now.0 known.now.1) plans.now (All all)) }
-    ensures lawful { OnOk result (AllByRecursion (λ s. IsScenario s) plans.now) }
-    ensures fault { IfErr result (IsOpenPlan (known_verdicts known.now.0 known.now.1) plans.now) }
+    requires many { length verdicts.now ≡ length plans.now }
+    requires lawful { AllByRecursion (λ s. IsScenario s) plans.now }
+    ensures all { IfOk result (λ all. (known : KnownVerdicts) → verdicts.now ≡ known_plan_verdicts known plans.now → AreVerdicts known plans.now (All all)) }
+    ensures fault { IfErr result (λ why. (known : KnownVerdicts) → verdicts.now ≡ known_plan_verdicts known plans.now → IsOpenPlan known plans.now why) }
 {
-    let verdicts = plan_verdicts(alloc, known, plans)?;
-    match verdicts_known(alloc, plans, verdicts.as_slice())? {
+    match verdicts_known(alloc, plans, verdicts)? {
         Verdicts::All(all) => Ok(all),
         Verdicts::NotAnswered(scenario) => {
             Err(QuestionFault::Outside(OutsideFault::NotAnswered(scenario)))
@@ -173,14 +174,15 @@ pub fn grown_report<'a>(
     ensures all { OnOk result (untried known.now.0 known.now.1 campaign.now.settings.now.plans ≡ []) }
     ensures fault { IfErr result (RefusesBy known.now.0 known.now.1 campaign.now.settings.now.plans) }
 {
-    refuse_broken(alloc, known)?;
+    let list = known_list(alloc, known)?;
     let settings = campaign.settings;
-    let lists = grown_lists(alloc, known.runs, known.depth, &settings.plan_settings())?;
+    let lists = grown_lists(alloc, known.runs, &settings.plan_settings(), list)?;
     refuse_gap(alloc, known, &lists.listed)?;
     let grown = &lists.listed.known.plans;
     let plans = CampaignPlans::grown(Some(grown), known.runs.points(), &lists.further);
-    let verdicts = all_verdicts(alloc, known, &plans)?;
-    match outcome_known(alloc, known, &plans, grown)? {
+    let verdicts = plan_verdicts(alloc, known, &plans)?;
+    let all = all_verdicts(alloc, &plans, verdicts.as_slice())?;
+    match outcome_known(alloc, known, &plans, grown, verdicts.as_slice())? {
         Outcome::Open(requests) => Err(first_of(requests)),
         Outcome::Told(told) => {
             let first = first_number(&told.findings);
@@ -190,7 +192,7 @@ pub fn grown_report<'a>(
                 lists: &lists,
                 plans: &plans,
             };
-            let text = reported_text(alloc, form, &answered, verdicts.as_slice(), told)?;
+            let text = reported_text(alloc, form, &answered, all.as_slice(), told)?;
             Ok((text, first))
         }
     }

@@ -22,11 +22,11 @@ use Rattle.known_runs.specs.KnownPart.{is_reached, is_reached_onward, known_part
 use Rattle.known_runs.specs.declared.breaks.Break.{Break}
 use Rattle.known_runs.proofs.Breaking.{breaks_never}
 use Rattle.known_runs.proofs.Ends.{filtered}
-use Rattle.answer_text.specs.Runs.{KnownRuns as Answers}
+use Rattle.answer_text.specs.Runs.{told_in}
 use Rattle.answered_runs.specs.Components.{AgreesWithRuns, IsComponent}
-use Rattle.answered_runs.specs.Broken.{AreBroken, IsUnbroken, break_at, break_told}
+use Rattle.answered_runs.specs.Broken.{IsUnbroken, break_at, break_told}
 use Rattle.answered_runs.specs.Answered.{Answered, runs_in}
-use Rattle.answered_runs.specs.declared.broken.BrokenRun.{BrokenRun}
+use Rattle.answered_runs.proofs.Runs.{agree}
 
 -- what is told of a plan's hits is true
 hits_true : (t : Subject) (plan : List Rig) (o : Option Told) → IfSome o (IsTrueOf t plan) → IfSome (hits_told o) (λ hits. points_met (run_of_plan t plan) ≡ hits)
@@ -150,12 +150,10 @@ none_at runs n how [] all less e = absurd (omega (arith, less))
 none_at runs zero how (plan ∷ plans) all less e = absurd (let f : None ≡ Some how = sym all.0 ∙ e in cc)
 none_at runs (suc n) how (plan ∷ plans) all less e = none_at runs n how plans all.1 (omega (arith, less)) e
 
-pub none_breaks : (t : Subject) → IsLawful t → (d : ℕ) (a : Answered) (o : Option BrokenRun) → Agrees t d (runs_in a) → AreBroken a (known_part t d (runs_in a)) o → o ≡ None
-none_breaks t l d a None agrees f = refl
-none_breaks t l d a (Some b) agrees f = absurd (none_at (runs_in a) b.number b.how (known_part t d (runs_in a)) (part_whole t l d (runs_in a) agrees) f.within f.breaks)
-
--- where each component that agrees has no break, none agrees with one
-pub some_never : {A : Type 0} (o : Option A) (points : List (List ℕ)) (listed : List (List Kind)) (told : Answers) → ((t : Subject) → IsComponent points listed t → AgreesWithRuns t told → o ≡ None)
-    → IfSome o (λ x. (t : Subject) → IsComponent points listed t → AgreesWithRuns t told → ⊥)
-some_never None points listed told h = tt
-some_never (Some x) points listed told h = λ t is agrees. let none : Some x ≡ None = h t is agrees in absurd cc
+-- so no component agrees with answers of which one breaks
+pub never_breaks : (a : Answered) (plans : List (List Rig)) (n : ℕ) (how : Break) → n < length plans → break_at (runs_in a) (get_or plans n []) ≡ Some how
+    → (t : Subject) (d : ℕ) → d ≤ 64 → plans ≡ known_part t d (runs_in a) → IsComponent a.points a.listed t → AgreesWithRuns t (told_in a.book) → ⊥
+never_breaks a plans n how less breaks t d low same is agrees =
+    none_at (runs_in a) n how plans
+    (subst (λ (ps : List (List Rig)). AllByRecursion (IsUnbroken (runs_in a)) ps) (sym same) (part_whole t is.lawful d (runs_in a) (agree t a.points a.listed (told_in a.book) d is low agrees)))
+    less breaks

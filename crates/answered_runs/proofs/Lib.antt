@@ -6,3 +6,4 @@ pub mod Found
 pub mod Breaks
 pub mod WholeLists
 pub mod Within
+pub mod KnownLists

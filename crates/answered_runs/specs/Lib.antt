@@ -5,4 +5,5 @@ pub mod EndedRuns
 pub mod Rigged
 pub mod Verdicts
 pub mod WholeList
+pub mod KnownLists
 pub mod inside

@@ -1,11 +1,12 @@
 //! Runs that break with those that they ought to begin like.
-ghost use Rattle.std.specs.Prelude.{◌≡◌, ◌≤◌, ◌<◌, Some, length, IfOk, IfSome, IsErrOf, OnOk};
+ghost use Rattle.std.specs.Prelude.{◌≡◌, ◌≤◌, ℕ, Some, length, IfOk, IfSome, OnOk};
 ghost use Rattle.std.specs.List.{AllByRecursion};
 ghost use Rattle.answer_text.specs.Runs.{told_in};
 ghost use Rattle.grown_plans.specs.GrownPlans.{Subject};
-ghost use Rattle.answered_runs.specs.Answered.{known_plans, runs_in};
+ghost use Rattle.answered_runs.specs.Answered.{runs_in};
 ghost use Rattle.answered_runs.specs.Broken.{AreBroken, break_at, broken_text, line_told};
 ghost use Rattle.known_runs.specs.Breaks.{forerunner_of};
+ghost use Rattle.known_runs.specs.KnownPart.{known_part};
 ghost use Rattle.answered_runs.specs.Components.{AgreesWithRuns, IsComponent};
 
 use crate::scenarios::plan_scenario;
@@ -13,7 +14,6 @@ use crate::table::AnsweredRuns;
 use action_eval::{Kind, Rig};
 use grown_plans::GrownPlans;
 use known_runs::{Break, Look, RunTable, break_of};
-use plan_gen::PlanFault;
 use std::alloc::{AllocError, Global};
 use std::fmt;
 
@@ -126,14 +126,20 @@ fn told_broken(
     })
 }
 
-/// The first of these plans whose run breaks with that of its forerunner.
-fn first_break(
+/// The first of these plans whose run is told and breaks with that of its forerunner, with the lines that tell the two. Up to its last fault a
+/// run goes as that of the plan that its own grew from, and with its last fault from then on as with this fault once, up to the next hit of its
+/// point: it breaks with it where another point is hit before, or that hit isn't met. Where there is such a run, what the component asks next
+/// doesn't follow from the answers so far, or the answers are those of two. An error means that memory was refused.
+pub fn broken_run(
     alloc: Global,
     runs: &AnsweredRuns<'_>,
     plans: &GrownPlans,
 ) -> Result<Option<BrokenRun>, AllocError>
     requires { AllByRecursion (λ plan. length plan ≤ 64) plans.now }
-    ensures { IfOk result (AreBroken runs.now plans.now) }
+    ensures first { IfOk result (AreBroken runs.now plans.now) }
+    // No component agrees with answers of which a run breaks, where these are the plans that are known of it.
+    ensures none { IfOk result (λ found. IfSome found (λ broken. (t : Subject) (depth : ℕ) → depth ≤ 64 → plans.now ≡ known_part t depth (runs_in runs.now)
+        → IsComponent runs.now.points runs.now.listed t → AgreesWithRuns t (told_in runs.now.book) → ⊥)) }
 {
     let mut faults = Vec::new(alloc);
     let mut forerunner = Vec::new(alloc);
@@ -149,28 +155,4 @@ fn first_break(
         }
     }
     Ok(None)
-}
-
-/// The first plan that is known by now whose run is told and breaks with that of its forerunner, with the lines that tell the two. Up to its
-/// last fault a run goes as that of the plan that its own grew from, and with its last fault from then on as with this fault once, up to the next hit
-/// of its point: it breaks with it where another point is hit before, or that hit isn't met. Where there is such a run, what the component asks
-/// next doesn't follow from the answers so far, or the answers are those of two.
-///
-/// There may be so many known plans, up to 65536. `TooManyPlans` comes only where they are more.
-pub fn broken_run(
-    alloc: Global,
-    runs: &AnsweredRuns<'_>,
-    depth: u32,
-    most: usize,
-) -> Result<Option<BrokenRun>, PlanFault>
-    requires depth { depth ≤ 64 }
-    requires most { most ≤ 65536 }
-    ensures first { IfOk result (AreBroken runs.now (known_plans runs.now depth)) }
-    // No component agrees with answers of which a run breaks.
-    ensures none { IfOk result (λ found. IfSome found (λ broken. (t : Subject) → IsComponent runs.now.points runs.now.listed t
-        → AgreesWithRuns t (told_in runs.now.book) → ⊥)) }
-    ensures many { IsErrOf result PlanFault.TooManyPlans → most < length (known_plans runs.now depth) }
-{
-    let known = runs.known_plans(alloc, depth, most)?;
-    Ok(first_break(alloc, runs, &known.plans)?)
 }

@@ -1,12 +1,7 @@
 //! The plans that are known by answers.
-ghost use Rattle.std.specs.Prelude.{◌≡◌, ◌≤◌, ◌<◌, length, IfOk, IsErrOf};
-ghost use Rattle.std.specs.List.{AllByRecursion};
-ghost use Rattle.answer_text.specs.Runs.{told_in};
-ghost use Rattle.action_eval.specs.RiggedScenario.{CanBeRigged};
-ghost use Rattle.grown_plans.specs.GrownPlans.{Subject, rigs_of};
-ghost use Rattle.known_runs.specs.KnownPlans.{AreKnown};
-ghost use Rattle.answered_runs.specs.Answered.{known_plans, runs_in};
-ghost use Rattle.answered_runs.specs.Components.{AgreesWithRuns, IsComponent};
+ghost use Rattle.std.specs.Prelude.{◌≤◌, ◌<◌, length, IfOk, IsErrOf};
+ghost use Rattle.answered_runs.specs.Answered.{known_plans};
+ghost use Rattle.answered_runs.specs.KnownLists.{IsKnownList};
 
 use crate::table::AnsweredRuns;
 use grown_plans::{GrownList, Kinds};
@@ -26,13 +21,7 @@ impl<'a> AnsweredRuns<'a> {
     ) -> Result<GrownList, PlanFault>
         requires depth { depth ≤ 64 }
         requires most { most ≤ 65536 }
-        ensures grown { IfOk result (λ known. known.plans ≡ known_plans self.now depth) }
-        // For every component that agrees with the answers.
-        ensures known { IfOk result (λ known. (t : Subject) → IsComponent self.now.points self.now.listed t → AgreesWithRuns t (told_in self.now.book)
-            → AreKnown t depth (runs_in self.now) known) }
-        ensures short { IfOk result (λ known. AllByRecursion (λ plan. length plan ≤ depth) known.plans) }
-        // Of each of them a scenario can be made.
-        ensures rigs { IfOk result (λ known. AllByRecursion (λ plan. CanBeRigged (rigs_of plan)) known.plans) }
+        ensures list { IfOk result (IsKnownList self.now depth) }
         ensures few { IfOk result (λ known. length known.plans ≤ most) }
         ensures many { IsErrOf result PlanFault.TooManyPlans → most < length (known_plans self.now depth) }
     {

@@ -19,7 +19,7 @@ use campaign_given::CampaignSettings;
 use campaign_plans::CampaignPlans;
 use grown_plans::GrownPlans;
 use known_runs::{Look, RunTable};
-use outside_grown::{census, grown_lists, reached};
+use outside_grown::{MOST_PLANS, census, grown_lists, reached};
 use plan_gen::PlanFault;
 use scenario_values::{Scenario, build};
 use std::alloc::{AllocError, Global};
@@ -206,7 +206,8 @@ pub fn run_doubts(
     ensures ok { IfOk result (λ lines. string_bytes lines ≡ run_doubts runs.now.points runs.now.listed (told_in runs.now.book) depth settings.now) }
     ensures many { IsErrOf result PlanFault.TooManyPlans → AreTooMany runs.now settings.now.plans (length (known_plans runs.now depth)) }
 {
-    let lists = grown_lists(alloc, runs, depth, &settings.plan_settings())?;
+    let known = runs.known_plans(alloc, depth, MOST_PLANS)?;
+    let lists = grown_lists(alloc, runs, &settings.plan_settings(), known)?;
     let grown = &lists.listed.known.plans;
     let plans = CampaignPlans::grown(Some(grown), runs.points(), &lists.further);
     let doubts = doubts_told(alloc, runs, settings, depth, &plans)?;

@@ -9,15 +9,16 @@ ghost use Rattle.asked_lines.specs.Lines.{lines_behind, lines_for};
 ghost use Rattle.answer_text.specs.Runs.{told_in};
 ghost use Rattle.grown_plans.specs.GrownPlans.{Subject};
 ghost use Rattle.answered_runs.specs.Answered.{known_plans};
+ghost use Rattle.answered_runs.specs.KnownLists.{IsKnownList};
 ghost use Rattle.answered_runs.specs.Components.{AgreesWithRuns, IsComponent};
 ghost use Rattle.outside_grown.specs.Asked.{AreApart, IsAskedOf, to_try, undecided, unrun};
 ghost use Rattle.outside_grown.specs.Further.{AreTooMany};
 
-use crate::further::{MOST_PLANS, further_plans};
+use crate::further::further_plans;
 use action_eval::Rig;
 use answered_runs::{AnsweredRuns, plan_scenario};
 use asked_lines::AskedLines;
-use grown_plans::GrownPlans;
+use grown_plans::{GrownList, GrownPlans};
 use known_runs::{Look, RunTable, Workspace};
 use plan_gen::{Plan, PlanFault, PlanList, PlanSettings};
 use scenario_values::{Scenario, tidy};
@@ -118,8 +119,10 @@ pub fn asks(
     runs: &AnsweredRuns<'_>,
     depth: u32,
     settings: &PlanSettings<'_>,
+    known: &GrownList,
 ) -> Result<AskedLines, PlanFault>
-    requires { depth ≤ 64 }
+    requires depth { depth ≤ 64 }
+    requires list { IsKnownList runs.now depth known.now }
     ensures lines { IfOk result (λ lines. lines ≡ lines_for (to_try runs.now depth settings.now)) }
     ensures once { IfOk result (λ lines. AreApart lines) }
     // For every component that agrees with the answers.
@@ -127,7 +130,6 @@ pub fn asks(
         → IsAskedOf t runs.now depth settings.now lines) }
     ensures many { IsErrOf result PlanFault.TooManyPlans → AreTooMany runs.now settings.now (length (known_plans runs.now depth)) }
 {
-    let known = runs.known_plans(alloc, depth, MOST_PLANS)?;
     let further = further_plans(alloc, runs, settings, known.plans.len())?;
     let mut lines = AskedLines::new(alloc);
     add_all_grown(alloc, runs, &known.plans, &mut lines)?;

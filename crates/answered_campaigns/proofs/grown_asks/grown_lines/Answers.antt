@@ -3,10 +3,10 @@ use Rattle.answered_campaigns.specs.inside.Outcomes.{RefusesAsks}
 use Rattle.answered_campaigns.proofs.Asking.{err_is, none_to_try, others_asked}
 use Rattle.answered_campaigns.proofs.grown_asks.grown_lines.Goals as goal
 
-pub returns-in_err-refuse_broken-clause-fault : goal.returns-in_err-refuse_broken-clause-fault
-returns-in_err-refuse_broken-clause-fault c =
-    err_is c.from_residual.result c.in_err-refuse_broken.field-0.0 (RefusesAsks c.args.known.now.0 c.args.known.now.1 c.args.settings.now.plans) c.from_residual.ensures.1
-    (c.in_err-refuse_broken.ensures.fault c.args.settings.now.plans)
+pub returns-in_err-list-clause-fault : goal.returns-in_err-list-clause-fault
+returns-in_err-list-clause-fault c =
+    err_is c.from_residual.result c.in_err-list.field-0.0 (RefusesAsks c.args.known.now.0 c.args.known.now.1 c.args.settings.now.plans) c.from_residual.ensures.1
+    (c.in_err-list.ensures.fault c.args.settings.now.plans)
 
 pub returns-clause-lines : goal.returns-clause-lines
 returns-clause-lines c =

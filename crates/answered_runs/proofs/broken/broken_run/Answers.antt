@@ -1,25 +1,35 @@
-use Rattle.std.proofs.Common.{◌≤◌, List, length, subst, arith}
-use Rattle.grown_plans.proofs.Members.{all_weaker}
+use Rattle.std.proofs.Common.{◌≡◌, ap, [], get_or, ◌<◌, ◌≤◌, ◌∙◌, List, length, arith, subst, sym}
 use Rattle.action_eval.specs.declared.rig.Rig.{Rig}
-use Rattle.answer_text.specs.Runs.{told_in}
-use Rattle.answered_runs.specs.Broken.{AreBroken}
-use Rattle.answered_runs.proofs.Runs.{agree}
-use Rattle.answered_runs.proofs.Breaks.{none_breaks, some_never}
+use Rattle.answered_runs.specs.Answered.{runs_in}
+use Rattle.answered_runs.specs.Broken.{break_at}
+use Rattle.answered_runs.proofs.Breaks.{never_breaks, short_at, short_forerunner, unbroken_more, unbroken_all}
 use Rattle.answered_runs.proofs.broken.broken_run.Goals as goal
 
-pub first_break-requires : goal.first_break-requires
-first_break-requires c =
-    all_weaker (λ (plan : List Rig). length plan ≤ c.args.depth) (λ (plan : List Rig). length plan ≤ 64) (λ plan le. omega (arith, le, c.requires.depth)) c.in_ok-known.known.plans c.in_ok-known.ensures.short
+pub told_broken-requires-clause-plan : goal.told_broken-requires-clause-plan
+told_broken-requires-clause-plan c =
+    let less : c.loop-number.number < length c.args.plans.now = omega (arith, c.loop-number-test.true, c.len-number-end.ensures) in
+    subst (λ (plan : List Rig). length plan ≤ 64) (sym (c.as_slice-faults.ensures.value ∙ c.in_ok-faults_of.ensures)) (short_at 64 c.args.plans.now c.loop-number.number less c.requires)
+
+pub told_broken-requires-clause-forerunner : goal.told_broken-requires-clause-forerunner
+told_broken-requires-clause-forerunner c =
+    let less : c.loop-number.number < length c.args.plans.now = omega (arith, c.loop-number-test.true, c.len-number-end.ensures) in
+    let plan : c.as_slice-faults.result.now ≡ get_or c.args.plans.now c.loop-number.number [] = c.as_slice-faults.ensures.value ∙ c.in_ok-faults_of.ensures in
+    let short : length (get_or c.args.plans.now c.loop-number.number []) ≤ 64 = short_at 64 c.args.plans.now c.loop-number.number less c.requires in
+    subst (λ (f : List Rig). length f ≤ 64) (sym (c.as_slice-forerunner.ensures.value ∙ c.in_ok-find_forerunner.ensures))
+    (short_forerunner c.as_slice-faults.result.now 64 (subst (λ (p : List Rig). length p ≤ 64) (sym plan) short))
+
+pub loop-number-preserved : goal.loop-number-preserved
+loop-number-preserved c =
+    let less : c.loop-number.number < length c.args.plans.now = omega (arith, c.loop-number-test.true, c.len-number-end.ensures) in
+    unbroken_more (runs_in c.args.runs.now) c.args.plans.now c.loop-number.number c.as_slice-faults.result.now less (c.as_slice-faults.ensures.value ∙ c.in_ok-faults_of.ensures) (sym c.in_ok-how.ensures ∙ c.in_default.is) c.loop-number.invariant
 
 pub returns-clause-first : goal.returns-clause-first
 returns-clause-first c =
-    subst (λ (ps : List (List Rig)). AreBroken c.args.runs.now ps c.in_ok-first_break.field-0) c.in_ok-known.ensures.grown c.in_ok-first_break.ensures
+    unbroken_all (runs_in c.args.runs.now) c.args.plans.now c.loop-number.number (omega (arith, c.loop-number-test.false, c.len-number-end.ensures)) c.loop-number.invariant
 
-pub returns-clause-none : goal.returns-clause-none
-returns-clause-none c =
-    some_never c.in_ok-first_break.field-0 c.args.runs.now.points c.args.runs.now.listed (told_in c.args.runs.now.book) (λ t is agrees.
-    let a = c.args.runs.now in
-    let all = agree t a.points a.listed (told_in a.book) c.args.depth is c.requires.depth agrees in
-    let known = c.in_ok-known.ensures.known t is agrees in
-    none_breaks t is.lawful c.args.depth a c.in_ok-first_break.field-0 all
-    (subst (λ (ps : List (List Rig)). AreBroken a ps c.in_ok-first_break.field-0) known.plans c.in_ok-first_break.ensures))
+pub returns-in-Some-clause-none : goal.returns-in-Some-clause-none
+returns-in-Some-clause-none c =
+    let less : c.loop-number.number < length c.args.plans.now = omega (arith, c.loop-number-test.true, c.len-number-end.ensures) in
+    let plan : c.as_slice-faults.result.now ≡ get_or c.args.plans.now c.loop-number.number [] = c.as_slice-faults.ensures.value ∙ c.in_ok-faults_of.ensures in
+    never_breaks c.args.runs.now c.args.plans.now c.loop-number.number c.in-Some.how less
+    (ap (λ (p : List Rig). break_at (runs_in c.args.runs.now) p) (sym plan) ∙ sym c.in_ok-how.ensures ∙ c.in-Some.is)
