@@ -8,9 +8,10 @@ from pathlib import Path
 
 from . import tree
 from .run import Runner, last_line
+from .settings import MOST_TEXT
+from .shown import plain
 
 PASS, UNRESOLVED = "pass", "unresolved"
-MOST_CODE = 200  # bytes, as settings have it
 
 
 @dataclass(frozen=True)
@@ -63,7 +64,6 @@ class Judge:
 
 
 def code_of(output: Path) -> str:
-    """Its first line, as a code of settings: without control characters, of so many bytes at most."""
-    first = output.read_bytes().split(b"\n", 1)[0].strip()[:MOST_CODE].decode("utf-8", "ignore")
-    printable = "".join(letter if letter.isprintable() else "?" for letter in first)
-    return " ".join(printable.split()) or "broken"
+    """Its first line, as a code of settings."""
+    first = output.read_bytes().split(b"\n", 1)[0].strip()
+    return " ".join(plain(first, MOST_TEXT).split()) or "broken"

@@ -1,13 +1,14 @@
 """The settings of a harness: its own, or those that are made where it has none."""
 
 import json
+import os
 import re
 import tomllib
 from pathlib import Path
 
 from .answers import Answers, Stopped
 from .definition import Harness
-from .shown import show
+from .shown import plain, show
 
 MADE = "# Made by paklour-loop. Without this line they are yours, and stay as they are."
 FILES = ["open", "read", "write", "fsync", "truncate", "rename", "link", "unlink", "mkdir", "rmdir", "symlink"]
@@ -16,12 +17,23 @@ NEXT = "order::next"  # where settings have it, who goes first is planned as fau
 OWN_POINTS = re.compile(r"(sys|libc|power|order)::")
 KNOWN_POINTS = re.compile(r"sys::(" + "|".join([*FILES, "connect", "accept", "send", "recv"]) + r")(@.*)?|power::keep|power::tear|" + NEXT, re.S)
 WRITES = ["return", "return(ENOSPC)", "return(HALF)", "panic"]
+MOST_TEXT, MOST_CODES = 200, 64  # bytes of a label or a code, and how many codes settings may have
+SAYS_MADE = ", settings made"
+
+
+def toml(value: str | list[str]) -> str:
+    """Of texts without control characters. Letters stand as they are: JSON may escape one by two halves, which TOML doesn't know."""
+    return json.dumps(value, ensure_ascii=False)
+
+
+def label_of(name: str) -> str:
+    return plain(os.fsencode(name), MOST_TEXT - len(SAYS_MADE)) + SAYS_MADE
 
 
 def made_text(label: str, codes: list[str], depth: int, has_kinds: bool) -> str:
-    lines = [MADE, 'target = "outside"', f"depth = {depth}", "", "[outside]", f"label = {json.dumps(label)}", f"codes = {json.dumps(codes)}",
-        f"points = {json.dumps(POINTS)}"]
-    lines += ["", "[outside.kinds]", *[f'"sys::write" = {json.dumps(WRITES)}'] * has_kinds, '"power::tear" = ["return"]']
+    lines = [MADE, 'target = "outside"', f"depth = {depth}", "", "[outside]", f"label = {toml(label)}", f"codes = {toml(codes)}",
+        f"points = {toml(POINTS)}"]
+    lines += ["", "[outside.kinds]", *[f'"sys::write" = {toml(WRITES)}'] * has_kinds, '"power::tear" = ["return"]']
     return "\n".join(lines) + "\n"
 
 
@@ -45,7 +57,7 @@ class Settings:
         if self.is_made:
             self.depth = depth or 1
             self.has_kinds = self.depth == 1 if kinds is None else kinds
-            self.label = f"{harness.name}, settings made"
+            self.label = label_of(harness.name)
             self.codes = sorted({code_of(line) for line in answers.lines() if line.startswith("fail ")})
             self.write()
             self.show()
@@ -73,6 +85,8 @@ class Settings:
             return
         if not self.is_made:
             raise Stopped(f"judge says {code}: add it to the codes of {self.path}")
+        if len(self.codes) == MOST_CODES:
+            raise Stopped(f"judge says {code}, and settings may have {MOST_CODES} codes: its first line is to say which promise is broken, and not more")
         self.codes = sorted([*self.codes, code])
         self.write()
 

@@ -48,6 +48,12 @@ def escaped(text: str) -> str:
     return CONTROL.sub(lambda found: f"\\x{ord(found[0]):02x}", text)
 
 
+def plain(text: bytes, most: int) -> str:
+    """As settings may have it: without control characters, and of so many bytes at most."""
+    letters = text[:most].decode("utf-8", "ignore")
+    return "".join(letter if letter.isprintable() else "?" for letter in letters)
+
+
 def show(text: str) -> None:
     """Where they can't be written, the status has to do."""
     with contextlib.suppress(OSError):

@@ -5,16 +5,20 @@ import signal
 import sys
 import unittest
 from pathlib import Path
+from unittest import mock
 
 from .base import OUTSIDE, Campaigns
 
 sys.path.insert(0, str(OUTSIDE))
 
 from harness import tree  # noqa: E402
+from harness.answers import Answers, Stopped  # noqa: E402
+from harness.definition import Harness  # noqa: E402
 from harness.judging import Judgement  # noqa: E402
 from harness.outcome import Outcome  # noqa: E402
 from harness.records import place_in  # noqa: E402
 from harness.scenario import Fault, Scenario, Unreadable, hits_text, keeping, scenario_of  # noqa: E402
+from harness.settings import Settings  # noqa: E402
 from harness.telling import faults_in_words, group_of, ordinal, what  # noqa: E402
 from harness.watching import hit_line  # noqa: E402
 
@@ -120,6 +124,24 @@ class TornInWords(unittest.TestCase):
         told = self.outcome(("power::keep", "panic"), ("power::keep", "return"), ("power::tear", "panic"))
         self.assertEqual(faults_in_words(told), "of what is pending 2 (write a) is kept")
         self.assertEqual(hit_line(told.trace[3]), "    4 power::tear 1 (a) - [panic]")
+
+
+class Made(Campaigns):
+    """Settings that the loop makes keep to what settings may have: 64 codes, and labels of 200 bytes."""
+
+    def settings(self, name):
+        with mock.patch("harness.settings.show"):
+            return Settings(Harness(name, self.here, {}), self.here, Answers(str(self.here / "answers")), None, None, None)
+
+    def test_a_long_name(self):
+        self.assertEqual(self.settings("x" * 250).table["outside"]["label"], "x" * 185 + ", settings made")
+
+    def test_too_many_codes(self):
+        settings = self.settings("x")
+        for number in range(64):
+            settings.take_code(f"fail lost {number}\tnone")
+        with self.assertRaisesRegex(Stopped, "^judge says lost 64, and settings may have 64 codes: "):
+            settings.take_code("fail lost 64\tnone")
 
 
 class Trees(Campaigns):

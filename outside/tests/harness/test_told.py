@@ -175,6 +175,15 @@ class Shown(Campaigns):
         self.assertNotIn("\033", done.told)
         self.assertIn('fail co?de"', done.told)
 
+    def test_letters_of_any_kind(self):
+        judge = "#!/bin/sh\n[ ! -s \"$SAID\" ] || exit 0\necho 'lost \U0001f600 \"\\'\nexit 1\n"
+        folder = self.harness(run=SAVES, judge=judge).rename(self.here / 'a \U0001f600 "\x7f')
+        done = self.loop("-j", 2, "--no-kinds", folder)
+        self.assertEqual(done.status, 1, done.told)
+        lines = (folder / "report").read_text().splitlines()
+        self.assertEqual(lines[0], 'target a \U0001f600 "?, settings made')
+        self.assertIn('first 1 lost \U0001f600 "\\', lines)
+
     def test_what_a_judge_says_with_control_bytes(self):
         done = self.loop("-j", 1, self.harness(run=SAVES, judge="#!/bin/sh\nprintf 'why\\033[2J' >&2\nexit 3\n"))
         self.assertIn("unresolved: judge ended with 3: why\\x1b[2J: none\n", done.told)
