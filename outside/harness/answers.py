@@ -1,5 +1,6 @@
 """The file of answers, a line for each run: all that is known of a campaign."""
 
+import errno
 import fcntl
 import os
 from pathlib import Path
@@ -7,6 +8,7 @@ from pathlib import Path
 MOST = 1048576  # bytes of an answer, with the end of its line
 WRITE_FAILED = 4  # the status where something can't be written
 DIFFERS = 5  # that where a second run told otherwise than the first
+NO_ROOM = {errno.ENOSPC, errno.EDQUOT, errno.EFBIG, errno.EIO}
 
 
 class Stopped(Exception):
@@ -16,6 +18,11 @@ class Stopped(Exception):
         super().__init__(line)
         self.line = line
         self.status = status
+
+
+def stopped_by(error: OSError) -> Stopped:
+    """A call on a file of the campaign that failed, where nothing more can be said of it."""
+    return Stopped(f"{error.filename or 'a file'}: {error.strerror}", WRITE_FAILED if error.errno in NO_ROOM else 2)
 
 
 def whole_lines(text: bytes) -> list[str]:

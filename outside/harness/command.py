@@ -6,7 +6,7 @@ import signal
 from pathlib import Path
 
 from . import definition, programs, script
-from .answers import DIFFERS, Answers, Stopped
+from .answers import DIFFERS, Answers, Stopped, stopped_by
 from .bounds import Bounds
 from .campaign import Campaign
 from .disk import disk_of
@@ -143,10 +143,7 @@ def main(loop: str, words: list[str]) -> int:
     return until_nobody_reads(lambda: perform(loop, words))
 
 
-def perform(loop: str, words: list[str]) -> int:
-    processes = Processes()
-    for number in (signal.SIGHUP, signal.SIGINT, signal.SIGTERM):
-        signal.signal(number, on_signal)
+def perform_words(loop: str, words: list[str], processes: Processes) -> int:
     try:
         options, rest = split(words, WITH_VALUE, FLAGS)
         if options.keys() & set(ASK_HELP):
@@ -154,6 +151,16 @@ def perform(loop: str, words: list[str]) -> int:
         if len(rest) == 1 and "--script" not in options:
             return run_harness(loop, options, rest[0], processes)
         return run_script(options, rest, processes)
+    except OSError as error:
+        raise stopped_by(error) from error
+
+
+def perform(loop: str, words: list[str]) -> int:
+    processes = Processes()
+    for number in (signal.SIGHUP, signal.SIGINT, signal.SIGTERM):
+        signal.signal(number, on_signal)
+    try:
+        return perform_words(loop, words, processes)
     except Usage:
         show(usage_of(loop))
         return 2

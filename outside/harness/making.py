@@ -8,7 +8,7 @@ import tempfile
 from pathlib import Path
 
 from . import tree
-from .answers import Stopped
+from .answers import WRITE_FAILED, Stopped, stopped_by
 from .shown import show, until_nobody_reads, write_out
 from .words import ASK_HELP, Usage, as_called, usage_of, write_help
 
@@ -163,4 +163,7 @@ def perform(new: str, words: list[str]) -> int:
     except Stopped as stopped:
         show(f"new: {stopped.line}")
         return stopped.status
+    except OSError as error:
+        show(f"new: {stopped_by(error).line}")
+        return WRITE_FAILED
     return 0

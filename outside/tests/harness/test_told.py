@@ -50,6 +50,19 @@ class Refused(Campaigns):
         settings.write_text("depth = \n")
         self.refused(f"loop: {settings}: Invalid value (at line 1, column 9)\n", "--settings", settings, folder)
 
+    def test_where_nothing_can_be_put(self):
+        """A status of 1 would say that a plan fails."""
+        folder, file = self.harness(run=SAVES, judge=JUDGES), self.here / "file"
+        file.touch()
+        self.refused(f"loop: {file}: File exists\n", "--into", file, folder)
+        self.refused(f"loop: {file}/into: Not a directory\n", "--into", file / "into", folder)
+        (self.here / "into" / "report").mkdir(parents=True)
+        self.refused(f"loop: {self.here}/into/report: Is a directory\n", "--no-kinds", "--into", self.here / "into", folder)
+
+    def test_a_scenario_that_can_not_be_read(self):
+        done = self.loop("--try", "sys::fsync=1*retrun", self.harness(run=SAVES, judge=JUDGES))
+        self.assertEqual((done.status, done.out), (2, "unresolved: faults: scenario: UnknownTask entry 1 term 1: without any fault\n"))
+
     def test_a_program_that_is_not_seen(self):
         folder = self.harness(run="#!/bin/sh\ntrue\n", judge=JUDGES)
         self.refused("the run without faults says nothing", folder)
