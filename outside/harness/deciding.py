@@ -20,7 +20,7 @@ from .records import Key, key_of, lasting_faults
 from .room import TooLarge
 from .run import Runner
 from .scenario import POWER, Scenario, Unreadable, hits_text, keeping, scenario_of
-from .trace import points_trace, trace_of
+from .trace import MARKS, points_trace, trace_of
 
 ONE_IN = 20  # of what follows is tried
 NAMES = {"create", "mkdir", "symlink", "link", "unlink", "rmdir", "rename", "exchange"}
@@ -195,7 +195,7 @@ class Decider:
         if "again" in self.harness.steps or not is_end:
             if not record.is_cut:
                 self.tools.cut(record.run, record.data)
-            run = record.folder / "rewound"
+            run = record.rewound
             shutil.rmtree(run, ignore_errors=True)
             length = self.tools.rewind(record.run, run, hit, text)
             if length is None:
@@ -208,12 +208,13 @@ class Decider:
 
     def go_on(self, record: Record, run: Path, text: str, said: bytes, looks_up: LooksUp) -> Outcome:
         """Recovery under the same scenario, from what the power cut left."""
-        more = record.folder / "said_again"
+        more = record.said_again
         more.unlink(missing_ok=True)
         state = [self.asking, text] if self.asking else ["lasting"]
         pending = self.tools.pending(run) if "power::" in text else []
         if not self.tools.cut(run, record.data, *state, goes_on=True):
             return Outcome(text, Judgement(UNRESOLVED, "the scenario pauses"), trace_of(run))
+        (run / MARKS).touch()
         _, why = self.runner.under("again", run, record.folder, text, more)
         if why:
             return Outcome(text, Judgement(UNRESOLVED, why), trace_of(run))

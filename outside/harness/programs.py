@@ -10,6 +10,7 @@ from .answers import Stopped
 from .processes import OUTSIDE
 from .room import LOOKS_EVERY, Room, TooLarge
 from .shown import show_once
+from .trace import MARKS
 
 OUT = OUTSIDE / "out"
 FAULTS, POWERCUT, REWIND = OUT / "faults", OUT / "powercut", OUT / "rewind"
@@ -59,7 +60,7 @@ class Tools:
 
     def begin(self, run: Path, data: Path) -> None:
         self.call(POWERCUT, run, "begin", run, data)
-        (run / "marks").touch()
+        (run / MARKS).touch()
 
     def cut(self, run: Path, data: Path, *state: str, goes_on: bool = False) -> bool:
         """False where the scenario has a pause there."""

@@ -3,6 +3,8 @@
 from dataclasses import dataclass
 from pathlib import Path
 
+from .trace import MARKS
+
 
 @dataclass
 class Record:
@@ -21,9 +23,19 @@ class Record:
     def run(self) -> Path:
         return self.folder / "run"
 
+    @property
+    def rewound(self) -> Path:
+        """The run's folder as it stood at a hit, which is gone on with, or cut."""
+        return self.folder / "rewound"
+
+    @property
+    def said_again(self) -> Path:
+        """What is said after the cut."""
+        return self.folder / "said_again"
+
     def place(self, hit: int) -> tuple[str, ...]:
         """How far the notes and the output were when that hit began."""
-        return tuple((self.run / "marks").read_text().splitlines()[hit - 1].split("\t")[1:])
+        return tuple((self.run / MARKS).read_text().splitlines()[hit - 1].split("\t")[1:])
 
     def said(self) -> bytes:
         return (self.folder / "said").read_bytes()

@@ -6,6 +6,7 @@ from pathlib import Path
 MOST_HITS = 65536  # that an answer may have
 SHORTEST = 40  # bytes of a line, at least
 POINTS = "points"  # of a run's folder: the trace of a client
+MARKS = "marks"  # of the folder of its notes: for each hit its number, and how long the notes and the output were; the supervisor writes to it if it is there
 
 
 def trace_of(run: Path) -> list[list[str]]:

@@ -1,29 +1,50 @@
 """One scenario, shown hit by hit: with files, and with what had been promised by then."""
 
+from collections import defaultdict
 from pathlib import Path
 
 from .deciding import Decider
 from .judging import LooksUp
 from .outcome import Outcome
+from .programs import REFUSED, Tools
+from .record import Record
 from .run import tell_errors
 from .shown import escaped, write_out
 from .telling import KEEPS, acts, faults_in_words, what
+from .trace import MARKS
+
+Marks = list[tuple[int, int]]  # of each hit its number, and how long the output was when it began
+Lines = defaultdict[int, list[str]]  # what is written before the hit of that number
 
 
-def promises_before(folder: Path) -> dict[int, list[str]]:
-    """By hits: which lines had been written when each began, and not before the one before it; 0 has those behind the last."""
-    said = (folder / "said").read_bytes()
-    marks = [line.split("\t") for line in (folder / "run" / "marks").read_text().splitlines()]
-    found, at = {}, 0
-    for number, _, length in marks:
-        found[int(number)] = lines_of(said[at:int(length)])
-        at = int(length)
-    found[0] = lines_of(said[at:])
-    return found
+def marks_of(run: Path) -> Marks:
+    marks = [line.split("\t") for line in (run / MARKS).read_text().splitlines()]
+    return [(int(number), int(length)) for number, _, length in marks]
 
 
-def lines_of(said: bytes) -> list[str]:
-    return said.decode("utf-8", "surrogateescape").splitlines()
+def add_said(lines: Lines, said: bytes, marks: Marks, behind: int) -> None:
+    """Each line before the first hit that found it written; what no hit found stands before the one with the number `behind`."""
+    at = 0
+    for number, length in [*marks, (behind, len(said))]:
+        lines[number] += [f"      said: {line}" for line in said[at:length].decode("utf-8", "surrogateescape").splitlines()]
+        at = length
+
+
+def pending_lines(tools: Tools, run: Path) -> list[str]:
+    return [f"pending: {' '.join(change)}" for change in tools.pending(run)]
+
+
+def lines_of(record: Record, outcome: Outcome, tools: Tools) -> Lines:
+    """What the run said, and what it said `again`, which begins once the power cut has left less than was pending."""
+    lines: Lines = defaultdict(list)
+    add_said(lines, record.said(), marks_of(record.run), len(record.points) + 1)
+    if not record.said_again.exists():
+        return lines
+    marks = marks_of(record.rewound)
+    begins, behind = (marks[0][0], marks[-1][0] + 1) if marks else (len(outcome.trace) + 1, len(outcome.trace) + 1)
+    lines[begins] += [*pending_lines(tools, record.run), "      again begins"]
+    add_said(lines, record.said_again.read_bytes(), marks, behind)
+    return lines
 
 
 def hit_line(hit: list[str]) -> str:
@@ -32,35 +53,29 @@ def hit_line(hit: list[str]) -> str:
     return f"{hit[0]:>5} {hit[1]} {hit[2]} ({hit[4]}) {came}"
 
 
-def write(line: str) -> None:
-    write_out((escaped(line) + "\n").encode("utf-8", "surrogateescape"))
+def write(lines: list[str]) -> None:
+    for line in lines:
+        write_out((escaped(line) + "\n").encode("utf-8", "surrogateescape"))
 
 
 def watched(decider: Decider, scenario: str) -> int:
-    """Runs it, and ends with 1 where it fails."""
+    """Runs it, and ends with 1 where it fails, and with 2 where the supervisor refused it."""
     with decider.room.seat(alone=True):
         record = decider.runner.make(scenario)
         outcome = decider.finish(record, len(record.points) + 1, scenario, LooksUp.NONE)
-    said = promises_before(record.folder)
+    lines = lines_of(record, outcome, decider.tools)
     for hit in outcome.trace:
-        for line in said.pop(int(hit[0]), []):
-            write(f"      said: {line}")
-        if int(hit[0]) == len(record.points) + 1:
-            tell_end(said)
-        write(hit_line(hit))
-    tell_end(said)
-    tell_rest(outcome, decider.tools.pending(record.run))
-    tell_errors(record.folder / "errors")
-    return 1 if outcome.verdict.startswith("fail") else 0
+        write(lines.pop(int(hit[0]), []))
+        write([hit_line(hit)])
+    for number in sorted(lines):
+        write(lines[number])
+    tell_end(record, outcome, decider.tools)
+    return 2 if record.status == REFUSED else 1 if outcome.verdict.startswith("fail") else 0
 
 
-def tell_end(said: dict[int, list[str]]) -> None:
-    for line in said.pop(0, []):
-        write(f"      said: {line}")
-
-
-def tell_rest(outcome: Outcome, pending: list[list[str]]) -> None:
-    for change in pending:
-        write(f"pending: {' '.join(change)}")
+def tell_end(record: Record, outcome: Outcome, tools: Tools) -> None:
+    """What was pending at the last cut, what came of it, and what its programs wrote to standard error."""
     why = f": {outcome.judgement.why}" if outcome.judgement.why else ""
-    write(f"{outcome.verdict}{why}: {faults_in_words(outcome)}")
+    last = record.rewound if record.said_again.exists() else record.run
+    write([*pending_lines(tools, last), f"{outcome.verdict}{why}: {faults_in_words(outcome)}"])
+    tell_errors(record.folder / "errors")

@@ -228,6 +228,16 @@ half writes; codes as they are found", "loop: 14 plans with one fault"], "six hi
             "sys::fsync 2 (.) 0", "said: saved young", "power::keep 1 (new) -", "pending: 1 write new 5 at 0", "fail lost: the 1st sys::fsync (new) fails"])
         self.assertFalse((self.here / "report").exists())
 
+    def test_what_is_said_after_the_cut(self):
+        """The power goes at the sync of the folder, so the name of the log is lost. The recovery makes it anew, and adds a record."""
+        done = self.loop("--into", self.here, LOG, "--try", "sys::fsync=1*off->1*panic")
+        lines = [line.strip() for line in done.out.splitlines()]
+        self.assertEqual([line for line in lines if not line[0].isdigit()],
+            ["pending: 1 create log -", "again begins", "said: added fourth-record", "pass: the 2nd sys::fsync (.) ends the run"])
+        begins = lines.index("again begins")
+        self.assertEqual((lines[begins - 3], lines[begins + 1]), ("7 sys::fsync 2 (.) ends the run [panic]", "9 sys::open 4 (snap) ENOENT"))
+        self.assertEqual(lines[lines.index("said: added fourth-record") - 1].split()[1:], ["sys::fsync", "5", "(log)", "0"])
+
     def test_a_torn_write_hit_by_hit(self):
         done = self.loop("--into", self.here, LOG, "--try", "power::keep=1*return;power::tear=1*return", FLAW="torn_taken")
         self.assertEqual(done.status, 1)
