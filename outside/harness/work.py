@@ -1,8 +1,10 @@
 """The folder in which runs are laid out, each in one of its own. It goes with the campaign; what a killed one left, the next one takes away."""
 
+import contextlib
 import itertools
 import json
 import os
+import secrets
 import tempfile
 import threading
 import time
@@ -12,9 +14,10 @@ from . import tree
 from .answers import Answers
 from .disk import disk_of
 from .identity import NOTE, Identity, noted, refuse_others
+from .shown import show
 
 PREFIX = "paklour-"
-TRIES = 20  # to take it away
+TRIES = 20  # to take it away, a tenth of a second apart
 MEMORY = "/dev/shm"
 ENOUGH = 1 << 30  # bytes that are free there, of which a campaign takes a fourth
 
@@ -26,6 +29,17 @@ def temporary() -> str:
     return tempfile.gettempdir()
 
 
+def is_taken_away(folder: Path) -> bool:
+    """Takes it away, though for a moment what ran there may go on in it: a thread that is about to lay out a run, or what a killed campaign began."""
+    for _ in range(TRIES):
+        with contextlib.suppress(OSError):
+            tree.remove(str(folder))
+        if not folder.exists():
+            return True
+        time.sleep(0.1)
+    return False
+
+
 class Note:
     """Whose the answers beside it are, and where their runs are laid out."""
 
@@ -35,9 +49,9 @@ class Note:
         self.own = own
         if answers.count:
             refuse_others(place, own)
-        left = Path(noted(place).get("work", ""))
-        if left.name.startswith(PREFIX) and left.is_dir():
-            tree.remove(str(left))
+        left = Path(str(noted(place).get("work", "")))
+        if left.name.startswith(PREFIX) and left.is_dir() and not is_taken_away(left):
+            show(f"loop: {left} has runs of a campaign that was killed, and can't be taken away")
         self.write()
 
     def write(self, **more: str) -> None:
@@ -45,13 +59,20 @@ class Note:
         new.write_text(json.dumps({"harness": self.own} | more) + "\n")
         new.rename(self.path)
 
+    def new_folder(self) -> Path:
+        """For runs. It is noted before it is there, so that whoever is killed leaves none of which the next one doesn't know."""
+        while True:
+            folder = Path(temporary(), PREFIX + secrets.token_hex(4))
+            self.write(work=str(folder))
+            with contextlib.suppress(FileExistsError):
+                folder.mkdir(0o700)
+                return folder
+
 
 class Work:
     def __init__(self, note: Note | None):
         self.note = note
-        self.folder = Path(tempfile.mkdtemp(prefix=PREFIX, dir=temporary()))
-        if note:
-            note.write(work=str(self.folder))
+        self.folder = note.new_folder() if note else Path(tempfile.mkdtemp(prefix=PREFIX, dir=temporary()))
         self.numbers = itertools.count(1)
         self.lock = threading.Lock()
 
@@ -63,12 +84,6 @@ class Work:
         return folder
 
     def end(self) -> None:
-        """Takes the folder away, though a thread may be about to lay out a run in it. What stays is noted, for the next campaign."""
-        for _ in range(TRIES):
-            try:
-                tree.remove(str(self.folder))
-                break
-            except OSError:
-                time.sleep(0.1)
-        if self.note and not self.folder.exists():
+        """What stays of the folder is noted, for the next campaign."""
+        if is_taken_away(self.folder) and self.note:
             self.note.write()

@@ -1,8 +1,12 @@
 """What follows from another run is what a run says."""
 
+import json
+import os
 import random
 import re
 import shutil
+import subprocess
+import sys
 import time
 import unittest
 
@@ -27,6 +31,21 @@ WHOLE = """#!/bin/sh
 case "$(tr -d '\\0' < a | sed 's/lm$//')" in '' | abcdefg | hijk | abcdefghijk) exit 0 ;; esac
 echo torn
 exit 1
+"""
+# After the power cut the note is synced once more.
+RECOVERS = """run = ["{0}/note", "unchecked_sync", "young"]
+again = "{0}/component open note fsync > $TMPDIR/did"
+
+
+def prepare():
+    with open("note", "w") as note:
+        note.write("old")
+
+
+def judge(said):
+    with open("note") as note:
+        held = note.read()
+    return None if held == "young" or held == "old" and not said else "lost"
 """
 
 
@@ -159,28 +178,54 @@ class Torn(Campaigns):
 
 
 class Killed(Campaigns):
-    def report_after_kills(self, name, moments):
+    """Campaigns that are killed at moments that nobody knows before, and gone on with. SEED in the environment says which moments these are."""
+
+    def setUp(self):
+        super().setUp()
+        recovers = self.here / "recovers.py"
+        recovers.write_text(RECOVERS.format(OUTSIDE / "out"))
+        self.kinds = {"single": (NOTE, "--no-kinds"), "kept": (NOTE, "--depth", 2), "again": (recovers, "--no-kinds")}
+        self.flaws = {"single": "unchecked_sync", "kept": "rename_first", "again": ""}
+
+    def report_after_kills(self, kind, name, moments):
         """Of a campaign that is killed so long after each of its beginnings, and then left alone."""
-        words = ("-j", 2, "--into", self.here / name, NOTE)
+        words = ("-j", 2, "--into", self.here / name, *self.kinds[kind])
         for moment in moments:
-            process = self.start(*words, FLAW="unchecked_sync")
+            process = self.start(*words, FLAW=self.flaws[kind])
             time.sleep(moment)
             process.kill()
             process.communicate()
-        self.assertEqual(self.loop(*words, FLAW="unchecked_sync").status, 1)
+        done = self.loop(*words, FLAW=self.flaws[kind])
+        self.assertEqual(done.status, 1, done.told)
         scenarios = [line.split("\t")[1] for line in self.answers(self.here / name)]
         self.assertEqual(len(scenarios), len(set(scenarios)), "an answer is there twice")
-        return (self.here / name / "report").read_bytes()
+        return set(self.answers(self.here / name)), (self.here / name / "report").read_bytes()
 
-    def test_twelve_campaigns(self):
-        begun = time.monotonic()
-        undisturbed = self.report_after_kills("undisturbed", [])
-        lasts = time.monotonic() - begun
-        moments = random.Random(7)
-        for number in range(12):
-            with self.subTest(number):
-                self.assertEqual(self.report_after_kills(f"killed{number}", [moments.uniform(0, lasts)]), undisturbed)
+    def test_thirty_campaigns(self):
+        seed = int(os.environ.get("SEED", time.time_ns() % 1000000))
+        print(f"campaigns are killed by SEED={seed}", file=sys.stderr)
+        moments = random.Random(seed)
+        for kind in self.kinds:
+            begun = time.monotonic()
+            undisturbed = self.report_after_kills(kind, kind, [])
+            lasts = time.monotonic() - begun
+            for number in range(10):
+                kills = [moments.uniform(0, lasts) for _ in range(moments.choice((1, 1, 2)))]
+                with self.subTest(kind=kind, number=number, kills=kills, seed=seed):
+                    self.assertEqual(self.report_after_kills(kind, f"{kind}{number}", kills), undisturbed)
         self.assertEqual(list(self.here.glob("paklour-*")), [], "a killed campaign's runs are left")
+
+    def test_what_goes_on_where_it_lay_out_runs(self):
+        """What a killed campaign began may need a moment to its end, and makes files meanwhile."""
+        left = self.here / "paklour-left"
+        (left / "00000001").mkdir(parents=True)
+        (self.here / "into").mkdir()
+        (self.here / "into" / "campaign.json").write_text(json.dumps({"harness": {}, "work": str(left)}))
+        makes = "for each in $(seq 50000); do : > $each || exit; done 2> ../said"
+        with subprocess.Popen(["sh", "-c", makes], cwd=left / "00000001"):
+            done = self.loop("--into", self.here / "into", NOTE, "--no-kinds")
+        self.assertEqual(done.status, 0, done.told)
+        self.assertFalse(left.exists())
 
 
 if __name__ == "__main__":
