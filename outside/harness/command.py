@@ -19,12 +19,12 @@ from .settings import NEXT, Settings
 from .shard import join, shard_of
 from .shown import show, until_nobody_reads, write_out
 from .watching import watched
-from .whole import FORMS, Asked, Whole, decider_of
+from .whole import ALWAYS, FORMS, Asked, Whole, decider_of
 from .words import ASK_HELP, Usage, as_called, bytes_of, shows_progress, split, usage_of, whole_number, write_help
 from .work import Note, Work
 
-OF_HARNESS = {"--depth", "--kinds", "--no-kinds", "--settings", "--into", "-x", "--failures", "--try", "--whole", "--junit", "--json", "--shard", "--join",
-    "--every-run", "--room", "--bytes"}
+OF_HARNESS = {"--depth", "--kinds", "--no-kinds", "--settings", "--into", "-x", "--failures", "--try", "--whole", "--page", "--junit", "--json",
+    "--shard", "--join", "--every-run", "--room", "--bytes"}
 OF_SCRIPT = {"--script", "--engine", "--brief", "--no-recheck", "--hits"}
 WITH_VALUE = {"-j", "--seconds", "--engine", "--script", "--depth", "--try", "--into", "--room", "--bytes", "--failures", "--settings", "--shard",
     "--join"}
@@ -93,7 +93,7 @@ def asked_of(loop: str, options: dict[str, str], path: str) -> Asked:
     failures = 1 if "-x" in options else whole_number(options["--failures"]) if "--failures" in options else None
     words = [as_called(loop), path, *[word for name in ("--settings", "--into") if name in options for word in (name, options[name])]]
     return Asked(shlex.join(words), whole_number(options.get("-j", os.environ.get("PROCESSES") or "4")), shows_progress(options),
-        "--whole" not in options, "--strict" in options, [form for form in FORMS if form in options], failures,
+        "--whole" not in options, "--strict" in options, [form for form in FORMS if form in {ALWAYS, *options}], failures,
         shard_of(options["--shard"]) if "--shard" in options else None)
 
 

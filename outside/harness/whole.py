@@ -23,7 +23,8 @@ from .telling import failure, group_of
 from .workers import Workers
 
 LOOK_SHARE = 200  # answers of the loop's own can be read; whether runs do the same, the next round sees too
-FORMS = {"--page": "page.html", "--junit": "junit.xml", "--json": "report.json"}
+ALWAYS = "--page"
+FORMS = {ALWAYS: "page.html", "--junit": "junit.xml", "--json": "report.json"}
 TRUSTS = {  # what FAULTS_SYNC may be, and what that means
     "journal": "a sync of anything makes earlier changes of names last, as ext4, XFS and Btrfs do by default",
     "names": "a file's own sync makes its name last too",
@@ -157,7 +158,7 @@ class Whole:
         status, report = self.paklour.report(*["--strict"] * self.asked.strict)
         brief = self.paklour.report("--brief", tells=False)[1]
         (self.folder / "report").write_bytes(report)
-        for form in ["--page", *self.asked.forms]:
+        for form in self.asked.forms:
             (self.folder / FORMS[form]).write_bytes(self.paklour.report(form, tells=False)[1])
         write_out(brief if self.asked.brief else report)
         is_same = self.confirm(findings(report, self.settings.codes))

@@ -254,7 +254,7 @@ half writes; codes as they are found", "loop: 14 plans with one fault"], "six hi
         self.assertFalse((self.here / "report").exists())
 
     def test_all_forms_in_one_command(self):
-        done = self.loop("-j", 2, "--junit", "--json", "--progress", "--into", self.here, NOTE, FLAW="unchecked_sync")
+        done = self.loop("-j", 2, "--junit", "--json", "--page", "--progress", "--into", self.here, NOTE, FLAW="unchecked_sync")
         self.assertEqual(done.status, 1)
         self.assertEqual(json.loads((self.here / "report.json").read_text())["counts"]["fail"], 1)
         suite = xml.etree.ElementTree.parse(self.here / "junit.xml").getroot()[0]
