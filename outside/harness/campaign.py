@@ -21,9 +21,6 @@ class Engine(Protocol):
     def try_all(self, scenarios: list[str]) -> Iterable[str]:
         """An answer after the other, as they come."""
 
-    def end(self) -> None:
-        """Ends all that runs."""
-
 
 class Campaign:
     def __init__(self, paklour: Paklour, answers: Answers, engine: Engine, shows_progress: bool):

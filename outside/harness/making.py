@@ -35,7 +35,8 @@ exit 1
 """
 
 SERVER_RUN = """#!/bin/sh
-# Is run under faults, in the data's folder. Each line that it writes is a promise: what it says has been done.
+# Is run under faults, in the data's folder. Each line that it writes is a promise: what it says has been done. Runs go side by side: let the server
+# have a socket under "$TMPDIR", which is each run's own, or with a fixed port have one run at a time, by -j 1.
 : > "$TMPDIR/output" # what an earlier start said is not this one's
 setsid {command} >> "$TMPDIR/output" 2>&1 &
 server=$!

@@ -36,7 +36,9 @@ class Paklour:
         done = self.call("asks")
         self.tell_notes(done)
         if done.returncode:
-            self.name_unknown_points(done.stderr.decode("utf-8", "surrogateescape"))
+            told = done.stderr.decode("utf-8", "surrogateescape")
+            self.name_unknown_points(told)
+            self.name_differing_run(told)
             raise Stopped("", done.returncode)
         ended = time.monotonic()
         self.ask_again = ended + (self.look_share - 1) * (ended - begun)
@@ -47,12 +49,22 @@ class Paklour:
         if time.monotonic() >= self.ask_again:
             self.asks()
 
+    def fields(self, line: str) -> list[str]:
+        """Of the answer with that number."""
+        return self.answers.lines()[int(line) - 1].split("\t")
+
+    def name_differing_run(self, told: str) -> None:
+        """Names the scenario whose run didn't go as the one that it begins like."""
+        found = re.search(r"^answers: line (\d+): (fault not met|hits differ from line \d+ at hit \d+|contradicts line \d+)$", told, re.M)
+        if found and len(fields := self.fields(found[1])) > 1:
+            show(f"loop: line {found[1]} is of {fields[1]}: runs don't go alike each time, as by a clock, threads, or a port that runs side by side share (-j 1)")
+
     def name_unknown_points(self, told: str) -> None:
         """Names the points that a refused answer has hit and the settings don't have."""
         found = re.search(r"^answers: line (\d+): unknown point$", told, re.M)
         if not found:
             return
-        fields = self.answers.lines()[int(found[1]) - 1].split("\t")
+        fields = self.fields(found[1])
         settings = text_of(Path(self.settings))
         hits = fields[2].split(";") if len(fields) > 2 else []
         for point in sorted({re.sub(r"^\d+\*", "", hit) for hit in hits}):

@@ -12,7 +12,7 @@ from .answers import DIFFERS, Answers, Stopped
 from .campaign import Campaign
 from .deciding import Decider, Differs
 from .definition import Harness
-from .judging import UNRESOLVED
+from .judging import PASS, UNRESOLVED
 from .outcome import Outcome
 from .paklour import Paklour
 from .run import Runner
@@ -75,11 +75,10 @@ class Whole:
         for outcome in self.workers.decided(asked):
             answer = outcome.answer(self.settings.depth > 0)
             self.settings.take_code(answer)
+            if outcome.scenario == "none":
+                self.require_pass(outcome)
             yield answer
             self.tell(outcome)
-
-    def end(self) -> None:
-        self.workers.end()
 
     # ---- lines for a person
 
@@ -94,24 +93,36 @@ class Whole:
 
     def tell(self, outcome: Outcome) -> None:
         if outcome.verdict == UNRESOLVED:
-            why = outcome.judgement.why
-            self.unresolved[why] += 1
-            if self.unresolved[why] == 1:
-                show(f"unresolved: {why}: {outcome.scenario}")
-            if outcome.scenario == "none":
-                raise Stopped("the run without faults says nothing")
-        if not outcome.verdict.startswith("fail"):
-            return
+            self.tell_unresolved(outcome)
+        if outcome.verdict.startswith("fail"):
+            self.tell_failure(outcome)
+            if self.asked.failures and self.failed >= self.asked.failures:
+                raise Enough
+
+    def tell_unresolved(self, outcome: Outcome) -> None:
+        """Each reason once."""
+        why = outcome.judgement.why
+        self.unresolved[why] += 1
+        if self.unresolved[why] == 1:
+            show(f"unresolved: {why}: {outcome.scenario}")
+
+    def tell_failure(self, outcome: Outcome) -> None:
         self.failed += 1
         self.last_failing = outcome.scenario
         show(failure(outcome))
-        if outcome.scenario == "none":
-            for change in outcome.pending:
-                show(f"pending: {' '.join(change)}")
-            self.tell_trust()
-            raise Enough
-        if self.asked.failures and self.failed >= self.asked.failures:
-            raise Enough
+
+    def require_pass(self, outcome: Outcome) -> None:
+        """Of the run without faults. One that doesn't pass ends the campaign, and is no answer: the next campaign begins with it again."""
+        if outcome.verdict == PASS:
+            return
+        if outcome.verdict == UNRESOLVED:
+            self.tell_unresolved(outcome)
+            raise Stopped("the run without faults says nothing")
+        self.tell_failure(outcome)
+        for change in outcome.pending:
+            show(f"pending: {' '.join(change)}")
+        self.tell_trust()
+        raise Enough
 
     def tell_trust(self) -> None:
         """Whether the run without faults passes on file systems that promise more of names."""

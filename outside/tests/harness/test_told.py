@@ -64,8 +64,11 @@ class Refused(Campaigns):
         self.assertEqual((done.status, done.out), (2, "unresolved: faults: scenario: UnknownTask entry 1 term 1: without any fault\n"))
 
     def test_a_program_that_is_not_seen(self):
+        """However often it is asked."""
         folder = self.harness(run="#!/bin/sh\ntrue\n", judge=JUDGES)
-        self.refused("the run without faults says nothing", folder)
+        for _ in range(2):
+            self.refused("the run without faults says nothing", folder)
+        self.assertEqual(self.answers(folder), [])
 
     def test_a_file_that_changes_unseen(self):
         folder = self.harness(run="#!/bin/sh\n: > here; sleep 1\n", judge=JUDGES)
@@ -179,6 +182,13 @@ sleep 0.3
         self.assertIn(done.status, (2, 5), done.told)
         self.assertRegex(done.told, "hits differ|other hits|told otherwise|not met")
 
+    def test_a_program_that_goes_another_way_the_second_time(self):
+        """Two plans are answered by what follows from its first run, and then the third by a run."""
+        run = '#!/bin/sh\nmkdir "$HARNESS/begun" 2> "$TMPDIR/said" || mkdir here\n: > file\n'
+        done = self.loop("-j", 1, self.harness(run=run, judge="#!/bin/sh\ntrue\n"))
+        self.assertEqual(done.status, 2, done.told)
+        self.assertRegex(done.told, r"answers: line 4: hits differ from line 1 at hit 1\nloop: line 4 is of sys::open=1\*return: runs don't go alike each time, ")
+
 
 class Shown(Campaigns):
     def test_names_with_control_bytes(self):
@@ -271,6 +281,17 @@ half writes; codes as they are found", "loop: 14 plans with one fault"], "six hi
         self.assertIn("loop: it fails with FAULTS_SYNC=journal and names too: ", told)
         told = self.loop("--into", self.here / "named", NOTE, FLAW="no_folder_sync", FAULTS_SYNC="names").told
         self.assertNotIn("FAULTS_SYNC", told)
+
+    def test_a_run_without_faults_that_is_mended(self):
+        """It had failed, which ended the campaign, and nothing else was answered."""
+        folder = self.harness(run="#!/bin/sh\nprintf new > note && echo saved\n", judge=JUDGES)
+        for _ in range(2):
+            done = self.loop("-j", 2, "--no-kinds", folder)
+            self.assertEqual((done.status, self.answers(folder)), (1, []), done.told)
+            self.assertIn("\npending: 1 create note -\n", done.told)
+        (folder / "run").write_text(SAVES)
+        done = self.loop("-j", 2, "--no-kinds", folder)
+        self.assertEqual(done.status, 0, done.told)
 
     def test_it_stops_at_the_first(self):
         done = self.loop("-j", 1, "-x", "--into", self.here, NOTE, FLAW="unchecked_sync")
