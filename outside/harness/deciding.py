@@ -7,7 +7,7 @@ alike."""
 import hashlib
 import shutil
 import threading
-from dataclasses import replace
+from dataclasses import dataclass, replace
 from pathlib import Path
 
 from . import tree
@@ -33,6 +33,28 @@ class Differs(Exception):
         super().__init__(followed.scenario)
         self.followed = followed
         self.tried = tried
+
+
+@dataclass(frozen=True)
+class Ended:
+    """What came of a run that was ended at a hit. There may be ten thousands of them, so it has no whole trace."""
+
+    hit: int
+    rest: str  # lines of its trace, from that hit on
+    judgement: Judgement
+    pending: list[list[str]]
+
+    def outcome_at(self, hit: int, scenario: str, trace: list[list[str]]) -> Outcome:
+        """Of another hit at the same place; the trace is that of the known run up to there."""
+        end, *asked = [line.split("\t") for line in self.rest.split("\n")]
+        trace[-1][3] = end[3]
+        later = [[str(int(number) + hit - self.hit), *fields] for number, *fields in asked]
+        return Outcome(scenario, replace(self.judgement, is_known=True), trace + later, self.pending)
+
+
+def ended(outcome: Outcome, hit: int) -> Ended:
+    rest = "\n".join("\t".join(fields) for fields in outcome.trace[hit - 1:])
+    return Ended(hit, rest, outcome.judgement, outcome.pending)
 
 
 def is_tried(scenario: str) -> bool:
@@ -61,7 +83,7 @@ class Decider:
         self.tried = 0
         self.followed = 0
         self.made_bases: set[Key] = set()
-        self.places: dict[tuple, tuple[int, Outcome]] = {}  # where a run was ended, at which hit, and what came of it
+        self.places: dict[tuple, Ended] = {}  # where a run was ended, and what came of it
         self.lock = threading.Lock()
 
     def base_of(self, text: str) -> tuple[Key, int] | None:
@@ -157,16 +179,12 @@ class Decider:
         if "again" in self.harness.steps or hit > len(record.points):
             return self.finish(record, hit, text, LooksUp.ALL)
         place = key, *record.place(hit), *(piece for piece in text.split(";") if piece.strip().startswith(POWER))
-        if place not in self.places:
-            outcome = self.finish(record, hit, text, LooksUp.ALL)
-            if outcome:
-                self.places[place] = hit, outcome
-            return outcome
-        before, known = self.places[place]
-        trace = trace_of(record.run)[:hit]
-        trace[-1][3] = known.trace[before - 1][3]
-        asked = [[str(int(number) + hit - before), *rest] for number, *rest in known.trace[before:]]
-        return Outcome(text, replace(known.judgement, is_known=True), trace + asked, known.pending)
+        if place in self.places:
+            return self.places[place].outcome_at(hit, text, trace_of(record.run)[:hit])
+        outcome = self.finish(record, hit, text, LooksUp.ALL)
+        if outcome:
+            self.places[place] = ended(outcome, hit)
+        return outcome
 
     def made_again(self, key: Key) -> Record:
         record = self.runner.make(scenario_of(key))

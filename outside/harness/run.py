@@ -3,6 +3,7 @@
 import copy
 import os
 import subprocess
+import sys
 import threading
 from dataclasses import replace
 from pathlib import Path
@@ -108,7 +109,7 @@ class Runner:
         except TooLarge as found:
             raise Stopped(f"what prepare left: {found}") from found
         status, why = self.under("run", folder / "run", folder, scenario, folder / "said")
-        points = [hit[1] for hit in trace_of(folder / "run")]
+        points = [sys.intern(hit[1]) for hit in trace_of(folder / "run")]  # which are kept of each run, and always the same few texts
         return Record(folder, scenario, status, why, points)
 
 
