@@ -366,17 +366,32 @@ class NobodyReads(Campaigns):
 
 
 class Stopped(Campaigns):
+    def stopped(self, number):
+        """A campaign that got this signal while a run was made, which had begun something in a session of its own."""
+        folder = self.harness(run=f"#!/bin/sh\n: > here; setsid sleep 77 & echo $! $$ > {self.here}/pids; sleep 30\n", judge=JUDGES)
+        with self.start(folder) as process:
+            while not (self.here / "pids").exists() or not (self.here / "pids").read_text():
+                time.sleep(0.01)
+            process.send_signal(number)
+            process.communicate()
+        return process.returncode
+
+    def is_running(self):
+        return any(os.path.exists(f"/proc/{pid}") for pid in (self.here / "pids").read_text().split())
+
     def test_by_a_signal(self):
         """All that runs is ended, and no folder of a run is left."""
-        folder = self.harness(run=f"#!/bin/sh\n: > here; echo $$ > {self.here}/pid; sleep 30\n", judge=JUDGES)
-        with self.start(folder) as process:
-            while not (self.here / "pid").exists() or not (self.here / "pid").read_text():
-                time.sleep(0.01)
-            process.send_signal(signal.SIGTERM)
-            process.communicate()
-        self.assertEqual(process.returncode, 2)
-        self.assertFalse(os.path.exists(f"/proc/{(self.here / 'pid').read_text().strip()}"))
+        self.assertEqual(self.stopped(signal.SIGTERM), 2)
+        self.assertFalse(self.is_running())
         self.assertEqual(list(self.here.glob("paklour-*")), [])
+
+    def test_by_one_that_it_can_not_see(self):
+        """What runs sees that the loop is gone."""
+        self.assertEqual(self.stopped(signal.SIGKILL), -signal.SIGKILL)
+        until = time.monotonic() + 20
+        while self.is_running() and time.monotonic() < until:
+            time.sleep(0.05)
+        self.assertFalse(self.is_running())
 
 
 if __name__ == "__main__":
