@@ -63,8 +63,7 @@ class Whole:
         self.folder = Path(answers.path).parent
         self.paklour = Paklour(str(settings.path), answers, LOOK_SHARE)
         self.workers = Workers(decider, asked.jobs)
-        self.failed = 0
-        self.last_failing = ""
+        self.found: list[str] = []  # scenarios that fail
         self.unresolved: Counter[str] = Counter()
         self.has_told_size = answers.count > 0
 
@@ -96,7 +95,7 @@ class Whole:
             self.tell_unresolved(outcome)
         if outcome.verdict.startswith("fail"):
             self.tell_failure(outcome)
-            if self.asked.failures and self.failed >= self.asked.failures:
+            if self.asked.failures and len(self.found) >= self.asked.failures:
                 raise Enough
 
     def tell_unresolved(self, outcome: Outcome) -> None:
@@ -107,8 +106,7 @@ class Whole:
             show(f"unresolved: {why}: {outcome.scenario}")
 
     def tell_failure(self, outcome: Outcome) -> None:
-        self.failed += 1
-        self.last_failing = outcome.scenario
+        self.found.append(outcome.scenario)
         show(failure(outcome))
 
     def require_pass(self, outcome: Outcome) -> None:
@@ -119,6 +117,7 @@ class Whole:
             self.tell_unresolved(outcome)
             raise Stopped("the run without faults says nothing")
         self.tell_failure(outcome)
+        self.found = ["none"]  # all else says nothing then
         for change in outcome.pending:
             show(f"pending: {' '.join(change)}")
         self.tell_trust()
@@ -147,9 +146,7 @@ class Whole:
             campaign.grow(mine=self.mine)
             return self.report() if not self.asked.shard else self.end_of_shard()
         except Enough:
-            self.tell_again(self.last_failing)
-            self.tell_counts()
-            return 1
+            return self.end_early()
         except Differs as found:
             self.tell_difference(found.followed.verdict, found.tried, found.followed.hits)
             return DIFFERS
@@ -159,6 +156,14 @@ class Whole:
             return asked
         places = places_in(self.answers)
         return [text for text in asked if self.asked.shard.has(text, places)]
+
+    def end_early(self) -> int:
+        """What was found is run once more, as what a report finds is; the run without faults was just made."""
+        self.tell_counts()
+        if self.found != ["none"]:
+            return 1 if self.confirm(self.found) else DIFFERS
+        self.tell_again("none")
+        return 1
 
     def end_of_shard(self) -> int:
         """A part has no report: whoever joins it with the others writes one, and tries again what fails."""

@@ -20,6 +20,7 @@ class Workers:
         self.decider = decider
         self.jobs = jobs
         self.todo: queue.SimpleQueue[Task] = queue.SimpleQueue()
+        self.awaited: queue.SimpleQueue | None = None  # where the outcomes go that somebody waits for
         for _ in range(jobs):
             threading.Thread(target=self.work, daemon=True).start()
 
@@ -40,6 +41,8 @@ class Workers:
         while True:
             unit, decide, done = self.todo.get()
             for text in unit:
+                if done is not self.awaited:
+                    break
                 try:
                     done.put(decide(text))
                 except Ended:
@@ -49,8 +52,9 @@ class Workers:
                     return
 
     def side_by_side(self, units: list[Unit], decide: Callable[[str], Outcome]) -> Iterator[Outcome]:
-        """The outcomes, as they come."""
+        """The outcomes, as they come. What was begun before, and isn't waited for any more, is left."""
         done: queue.SimpleQueue = queue.SimpleQueue()
+        self.awaited = done
         for unit in units:
             self.todo.put((unit, decide, done))
         for _ in range(sum(map(len, units))):

@@ -165,6 +165,13 @@ echo $what >> "$HARNESS/seen"
         self.assertIn("loop: told otherwise: pass, then fail again: ", done.told)
         self.assertFalse((folder / "report").exists())
 
+    def test_a_first_failure_that_does_not_fail_again(self):
+        """A judge that doesn't look at where nothing was said, but for the first time."""
+        judge = '#!/bin/sh\n[ -s "$SAID" ] || ! mkdir "$HARNESS/seen" 2> "$TMPDIR/said" || { echo once; exit 1; }\n'
+        done = self.loop("-j", 2, "-x", "--depth", 2, self.harness(run=SAVES, judge=judge))
+        self.assertEqual(done.status, 5, done.told)
+        self.assertRegex(done.told, r"\nfail once: .*\n(.*\n)*loop: told otherwise: fail once, then pass: ")
+
     def test_a_judge_by_the_clock(self):
         """It says otherwise from a second after its first judgement on."""
         judge = '''#!/bin/sh

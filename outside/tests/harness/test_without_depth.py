@@ -43,6 +43,16 @@ class WithoutDepth(Campaigns):
         self.assertEqual(sorted(self.answers(self.here)), ["pass\tnone", "unresolved\tsys::rmdir=1*return"])
         self.assertIn("unresolved: no fault of it was met: sys::rmdir=1*return\n", done.told)
 
+    def test_a_run_without_faults_that_fails_among_others(self):
+        """All are asked at once, and this one takes longer."""
+        run = SAVES.replace("printf", '[ "$FAILPOINTS" != none ] || sleep 1; printf')
+        folder = self.harness(run=run, judge="#!/bin/sh\necho lost\nexit 1\n")
+        done = self.loop("-j", 2, "--settings", self.settings('"sys::fsync"', [2]), folder)
+        self.assertEqual((done.status, done.out), (1, ""), done.told)
+        self.assertIn("\nfail lost: the 1st sys::fsync (new) fails\n", done.told)
+        self.assertTrue(done.told.endswith(" --try none\n"), done.told)
+        self.assertNotIn("fail lost\tnone", self.answers(folder))
+
     def test_points_of_a_client(self):
         """Of two puts, each that fails breaks the promise."""
         folder = self.harness(run=MARKS, judge="#!/bin/sh\ngrep -q 'not put' \"$SAID\" && { echo unsaved; exit 1; }; exit 0\n")
