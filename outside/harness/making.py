@@ -29,7 +29,7 @@ JUDGE = """#!/bin/sh
 # Is run over what a power cut left, in its folder; the file "$SAID" has the promises. It ends with 0 where they are kept, and with 1 where one is
 # broken: its first line is a code for that. Anything else says nothing.
 grep -qx done "$SAID" || exit 0 # nothing was promised
-diff -r "$HARNESS/expected" . >&2 && exit 0 # what a run without faults left
+diff -r "$HARNESS/expected" . >&2 && exit 0 # what a run without faults left in an empty folder: what prepare makes has to be there too
 echo lost
 exit 1
 """
