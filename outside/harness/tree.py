@@ -57,13 +57,15 @@ def digest_of_parts(file: BinaryIO, length: int) -> bytes:
 
 
 def digest(folder: str, leaves_out: tuple[str, ...] = ()) -> bytes:
-    """Of names, contents, links and modes; of files with a name of these patterns without their contents."""
+    """Of names, contents, links and modes; of files all of whose names have one of these patterns without their contents."""
     state = hashlib.sha256()
     first_name: dict[int, str] = {}
+    counted: set[int] = set()
     for name, told in entries(folder):
         same = first_name.setdefault(told.st_ino, name)
         state.update(repr((name, told.st_mode, same)).encode())
-        if same == name and not any(fnmatchcase(name, pattern) for pattern in leaves_out):
+        if told.st_ino not in counted and not any(fnmatchcase(name, pattern) for pattern in leaves_out):
+            counted.add(told.st_ino)
             state.update(contents_of(f"{folder}/{name}", told))
     return state.digest()
 
