@@ -87,6 +87,16 @@ class Machines(Campaigns):
         self.assertEqual((set(self.answers(self.here / "joined")), (self.here / "joined" / "report").read_bytes()), self.whole())
         self.assertNotIn(" 0 plans by what follows", done.told)
 
+    def test_a_run_without_faults_that_fails(self):
+        """Each machine says so, and who joins them."""
+        parts = self.here / "parts"
+        parts.mkdir()
+        for words in (("--shard", "1/2", "--into", parts / "1"), ("--shard", "2/2", "--into", parts / "2"), ("--join", parts, "--into", self.here / "joined")):
+            done = self.loop(*WORDS, *words, NOTE, FLAW="no_folder_sync")
+            self.assertEqual((done.status, done.out), (1, ""))
+            self.assertIn("\nfail lost: without any fault\n", done.told)
+        self.assertFalse((self.here / "joined" / "report").exists())
+
     def test_shares_of_another_harness(self):
         parts = self.here / "parts"
         (parts / "1").mkdir(parents=True)
