@@ -108,7 +108,7 @@ def run_harness(loop: str, options: dict[str, str], path: str, processes: Proces
     asked = asked_of(loop, options, path)
     answers = Answers(str(folder / "answers"))
     answers.cut_torn()
-    note = None if "--try" in options else Note(answers, own)
+    note = None if "--try" in options else Note(answers, own, "--every-run" in options)
     if "--join" in options:
         join(Path(options["--join"]), own, answers)
     settings = Settings(harness, folder, answers, options.get("--settings"), depth_of(options), kinds_of(options))

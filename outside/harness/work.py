@@ -11,7 +11,7 @@ import time
 from pathlib import Path
 
 from . import tree
-from .answers import Answers
+from .answers import Answers, Stopped
 from .disk import disk_of
 from .identity import NOTE, Identity, noted, refuse_others
 from .shown import show
@@ -41,22 +41,25 @@ def is_taken_away(folder: Path) -> bool:
 
 
 class Note:
-    """Whose the answers beside it are, and where their runs are laid out."""
+    """Whose the answers beside it are, whether each is of a run of its own, and where their runs are laid out."""
 
-    def __init__(self, answers: Answers, own: Identity):
+    def __init__(self, answers: Answers, own: Identity, every_run: bool):
         place = Path(answers.path)
+        known = noted(place)
         self.path = place.with_name(NOTE)
-        self.own = own
+        self.said = {"harness": own, "every_run": every_run}
         if answers.count:
             refuse_others(place, own)
-        left = Path(str(noted(place).get("work", "")))
+        if answers.count and every_run and not known.get("every_run"):
+            raise Stopped(f"{place}: some of these may follow from other runs: take them away, and begin anew with --every-run")
+        left = Path(str(known.get("work", "")))
         if left.name.startswith(PREFIX) and left.is_dir() and not is_taken_away(left):
             show(f"loop: {left} has runs of a campaign that was killed, and can't be taken away")
         self.write()
 
     def write(self, **more: str) -> None:
         new = self.path.with_suffix(".new")
-        new.write_text(json.dumps({"harness": self.own} | more) + "\n")
+        new.write_text(json.dumps(self.said | more) + "\n")
         new.rename(self.path)
 
     def new_folder(self) -> Path:

@@ -98,6 +98,20 @@ class Follows(Campaigns):
         panics = sum("panic" in line for line in known)
         self.assertLess(few, panics + 2)  # with the finding and the run without faults, which are made at the end
 
+    def test_what_follows_is_no_answer_where_every_run_is_asked_for(self):
+        """With --every-run it goes on with answers of its own alone."""
+        words = ("-j", 2, "--no-kinds", "--into", self.here, NOTE)
+        self.assertEqual(self.loop(*words).status, 0)
+        done = self.loop("--every-run", *words)
+        self.assertEqual((done.status, done.out), (2, ""))
+        told = f"loop: {self.here}/answers: some of these may follow from other runs: take them away, and begin anew with --every-run\n"
+        self.assertEqual(done.told, told)
+        (self.here / "answers").unlink()
+        for _ in range(2):
+            self.assertEqual(self.loop("--every-run", *words).status, 0)
+        self.assertEqual(self.loop(*words).status, 0)
+        self.assertEqual(self.loop("--every-run", *words).told, told)
+
     def test_a_torn_answer_is_taken_back(self):
         known = self.campaign("known", NOTE, FLAW="unchecked_sync")
         torn = self.here / "torn"
