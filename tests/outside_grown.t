@@ -477,6 +477,7 @@ And where it doesn't do the same twice.
   $ sed -i "s/^none | /'b=1*panic') hits='c;b' ;;\n&/" try.sh
   $ loop
   answers: line 5: hits differ from line 1 at hit 1
+  loop: line 5 is of b=1*panic: runs don't go alike each time, as by a clock, threads, or a port that runs side by side share (-j 1)
   [2]
 
 The longest list
