@@ -134,7 +134,7 @@ counts() {
 
 # bounded COMMAND..: with a trace; leaves $status
 bounded() {
-    POINTS_TRACE=$here/points timeout -s KILL 30 "$@" > "$here/said" 2>&1
+    POINTS_TRACE=$here/points timeout -s KILL 120 "$@" > "$here/said" 2>&1
     status=$?
 }
 
