@@ -4,7 +4,9 @@ import contextlib
 import itertools
 import json
 import os
+import re
 import secrets
+import stat
 import tempfile
 import threading
 import time
@@ -17,6 +19,7 @@ from .identity import NOTE, Identity, noted, refuse_others
 from .shown import show
 
 PREFIX = "paklour-"
+NAME = re.compile(PREFIX + "[0-9a-f]{8}")
 TRIES = 20  # to take it away, a tenth of a second apart
 MEMORY = "/dev/shm"
 ENOUGH = 1 << 30  # bytes that are free there, of which a campaign takes a fourth
@@ -27,6 +30,16 @@ def temporary() -> str:
     if "TMPDIR" not in os.environ and os.access(MEMORY, os.W_OK) and disk_of(MEMORY).free() >= ENOUGH:
         return MEMORY
     return tempfile.gettempdir()
+
+
+def is_of_loop(folder: Path) -> bool:
+    """Whether it looks like one that the loop makes: it has such a name, is this user's, and open to nobody else. A note may be a stranger's, and name any
+    folder."""
+    try:
+        told = folder.lstat()
+    except OSError:
+        return False
+    return bool(NAME.fullmatch(folder.name)) and stat.S_ISDIR(told.st_mode) and told.st_uid == os.getuid() and stat.S_IMODE(told.st_mode) == 0o700
 
 
 def is_taken_away(folder: Path) -> bool:
@@ -53,7 +66,7 @@ class Note:
         if answers.count and every_run and not known.get("every_run"):
             raise Stopped(f"{place}: some of these may follow from other runs: take them away, and begin anew with --every-run")
         left = Path(str(known.get("work", "")))
-        if left.name.startswith(PREFIX) and left.is_dir() and not is_taken_away(left):
+        if is_of_loop(left) and not is_taken_away(left):
             show(f"loop: {left} has runs of a campaign that was killed, and can't be taken away")
         self.write()
 

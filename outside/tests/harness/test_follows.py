@@ -231,15 +231,32 @@ class Killed(Campaigns):
 
     def test_what_goes_on_where_it_lay_out_runs(self):
         """What a killed campaign began may need a moment to its end, and makes files meanwhile."""
-        left = self.here / "paklour-left"
-        (left / "00000001").mkdir(parents=True)
-        (self.here / "into").mkdir()
-        (self.here / "into" / "campaign.json").write_text(json.dumps({"harness": {}, "work": str(left)}))
+        left = self.noted_folder("paklour-0123abcd", 0o700)
         makes = "each=0; while :; do each=$((each + 1)); : > $each || exit; done 2> ../said"
         with subprocess.Popen(["timeout", "1", "sh", "-c", makes], cwd=left / "00000001"):
             done = self.loop("--into", self.here / "into", NOTE, "--no-kinds")
         self.assertEqual(done.status, 0, done.told)
         self.assertFalse(left.exists())
+
+    def noted_folder(self, name, mode):
+        """One with the folder of a run in it, of which a campaign's note says that its runs lie there."""
+        folder = self.here / name
+        folder.mkdir(mode)
+        folder.chmod(mode)
+        (folder / "00000001").mkdir()
+        shutil.rmtree(self.here / "into", ignore_errors=True)
+        (self.here / "into").mkdir()
+        (self.here / "into" / "campaign.json").write_text(json.dumps({"harness": {}, "work": str(folder)}))
+        return folder
+
+    def test_a_folder_that_the_loop_does_not_make_stays(self):
+        """A note may be a stranger's."""
+        for name, mode in (("paklour-mine", 0o700), ("paklour-0123abcd", 0o755), ("other", 0o700)):
+            with self.subTest(name=name):
+                folder = self.noted_folder(name, mode)
+                done = self.loop("--into", self.here / "into", NOTE, "--no-kinds")
+                self.assertEqual(done.status, 0, done.told)
+                self.assertTrue((folder / "00000001").is_dir())
 
 
 if __name__ == "__main__":
