@@ -75,7 +75,9 @@ Where the other shells are installed, they read their own.
   
   here/usr/share/doc/paklour:
   CHANGELOG.md
+  CONTRIBUTING.md
   README.md
+  SECURITY.md
   docs
   $ here/usr/bin/paklour --version | sed 's/[0-9.]*$/N/'
   paklour N
