@@ -10,7 +10,7 @@ use crate::list::GrownPlans;
 use plan_gen::PlanFault;
 use std::alloc::{AllocError, Global};
 
-/// GrownLevels 0 to one of them. Level 0 is the plan without faults.
+/// The plans of levels 0 to a last one, level after level. Level 0 is the plan without faults alone.
 #[derive(Debug, Drop)]
 pub struct GrownLevels {
     pub plans: GrownPlans,
@@ -84,8 +84,8 @@ impl GrownLevels {
         })
     }
 
-    /// Adds what grew from the plans of the last level, as the next one. There may be so many plans then, up to 65536; where they would be more,
-    /// they are too many, and none is added.
+    /// Adds what grew from the plans of the last level, as the next one. There may be so many plans then, up to 65536. An error leaves levels that
+    /// aren't to be gone on with: the plans may be there without their number.
     pub fn add(&mut self, children: &[Child], most: usize) -> Result<(), PlanFault>
         requires parents { GrewFrom (length self.old.plans) children.now }
         requires most { most ≤ 65536 }
@@ -105,7 +105,7 @@ impl GrownLevels {
     }
 
     /// The whole list, with those plans of the last level behind it that go on with their last fault from then on, where the next level has so many.
-    /// There may be so many plans then, up to 65536.
+    /// There may be so many plans then, up to 65536. An error leaves nothing.
     pub fn end(self, onward: &[Child], beyond: u64, most: usize) -> Result<GrownList, PlanFault>
         requires parents { GrewFrom (length self.plans) onward.now }
         requires most { most ≤ 65536 }
