@@ -3,8 +3,8 @@
 # The settings of the campaign that `make run` runs.
 FILE = examples/replace_depth.toml
 
-# Where `make install` puts the program and the commands beside it, and which program that is: the one that `make build` makes, where none is
-# named.
+# The folder into which `make install` puts the program and the commands beside it, and the program. If none is named, that is the one that
+# `make build` makes.
 PREFIX = /usr/local
 BUILT = crates/paklour/out/paklour
 PROGRAM = $(BUILT)
@@ -28,12 +28,12 @@ sessions: build
 	@$(MAKE) -s -C outside
 	@tools/sessions $(BUILT)
 
-# What is seen to behave, in minutes and without a proof: the house rules, the tests of outside/ and of the crates, the sessions and the examples,
-# but for what only the program itself comes to.
+# Runs all tests that need no proof, in minutes: the house rules, the tests of outside/ and of the crates, the sessions and the examples, except those
+# that need the program itself.
 test:
 	@tools/test
 
-# The proof: every proof from nothing, the must-fail edits, and all that the proved program has to do. It and `make test` are the merge gate.
+# Runs the proof: every proof from nothing, the must-fail edits, and everything that needs the proved program. With `make test` it is the merge gate.
 prove:
 	@tools/gate_times tools/prove
 
@@ -41,7 +41,7 @@ prove:
 check:
 	@rt all check
 
-# What a change of one crate needs, as in `make quick CRATE=xml_text`: its layout, its proof and its edits, the tests that name it, run
+# Checks what a change of one crate needs, as in `make quick CRATE=xml_text`: its layout, its proof and its edits, the tests that name it, run
 # without a proof, and the house rules.
 quick:
 	@[ -f 'crates/$(CRATE)/src/lib.rt' ] || [ -f 'crates/$(CRATE)/src/main.rt' ] || { echo 'make quick CRATE=NAME, a folder of crates/' >&2; exit 2; }
@@ -97,7 +97,7 @@ edits: check
 bench:
 	@bench/run
 
-# What there is to be made, by the comment above each target.
+# Lists what can be made, by the comment above each target.
 help:
 	@awk '/^# /{ text = text (text ? " " : "") substr($$0, 3); next } \
 	    /^[a-z][a-z-]*:/ && text && !($$1 in told) { told[$$1]; sub(/[.] .*/, ".", text); printf "make %-12s%s\n", substr($$1, 1, length($$1) - 1), text } \

@@ -1,12 +1,13 @@
-/* within SECONDS BYTES COMMAND [WORD..]: runs a command in a session of its own, and ends with it all that it started, in whatever session.
+/* within SECONDS BYTES COMMAND [WORD..]: runs a command in a session of its own, and when that ends, ends all that it started, in any session.
 
-   After SECONDS the command's group gets a TERM, and where that doesn't end it in five seconds everything is killed. So it is where this program gets a
-   HUP, INT or TERM, where the process that started it has ended, or where descriptor 3 is a pipe that nobody reads any more. What the command leaves
-   running at its end has a moment to end too; then it is told on standard error and killed. Of what the command writes on standard output BYTES bytes go
-   on, and more it can't write; where BYTES is `-`, the command has this program's own standard output.
+   After SECONDS the command's group gets a TERM. If the command hasn't ended five seconds later, everything is killed. The same happens if this
+   program gets a HUP, INT or TERM, if the process that started it has ended, or if descriptor 3 is a pipe that nobody reads any more. Processes
+   that the command leaves running at its end have a moment to end too. Then they are killed, and a line on standard error names each of them. At
+   most BYTES bytes of the command's standard output are passed on, and then it can't write any more. If BYTES is `-`, the command writes to this
+   program's own standard output.
 
-   It ends with the command's status, or 128 and the number of the signal that ended it; with 124 where the command was ended, and 125 where this
-   program can't do its work. */
+   It ends with the command's status, or with 128 and the number of the signal that ended the command. It ends with 124 if it had the command ended,
+   and with 125 if it can't do its work. */
 #define _GNU_SOURCE
 #include <ctype.h>
 #include <dirent.h>
@@ -28,14 +29,14 @@ enum { ENDED_IT = 124, CANNOT = 125, NOT_FOUND = 127 };
 enum { READER = 3 };
 
 struct run {
-    const char *scenario; /* the last word, by which it is told */
+    const char *scenario; /* the last word, which names the run in messages */
     pid_t command;
-    bool ended, asked; /* whether it has, and whether it was asked to */
-    bool torn;         /* whether what it writes could not go on */
+    bool ended, asked; /* whether the command has ended, and whether it was asked to end */
+    bool torn;         /* whether its output couldn't be passed on */
     int status;
-    long long until;   /* when it is asked, and then when it is killed, in milliseconds */
-    int output;        /* the end of the pipe that it writes to; -1 once nothing more of it goes on */
-    size_t left;       /* how many bytes of it may go on; from the beginning 0 where it is none of this program's */
+    long long until;   /* when it is asked to end, and after that, when it is killed; in milliseconds */
+    int output;        /* the end of the pipe from which its output is read; -1 once nothing more is passed on */
+    size_t left;       /* how many more bytes are passed on; 0 from the beginning if the command has this program's own output */
 };
 
 static void refuse(const char *what) {
@@ -67,14 +68,14 @@ static void start(struct run *run, char **words, const sigset_t *signals_before)
     _exit(NOT_FOUND);
 }
 
-/* Writes it all; whether that could be. */
+/* Writes all bytes. Returns false if that can't be done. */
 static bool write_all(const char *bytes, ssize_t length) {
     for (ssize_t written; length > 0; bytes += written, length -= written)
         if ((written = write(STDOUT_FILENO, bytes, length)) < 0) return false;
     return true;
 }
 
-/* Passes on some of what the command has written; whether there was something. */
+/* Passes on some of the command's output. Returns whether there was some, and more may come. */
 static bool pass_on(struct run *run) {
     char bytes[65536];
     if (run->output < 0) return false;
@@ -91,7 +92,7 @@ static bool pass_on(struct run *run) {
     return false;
 }
 
-/* Takes note of the children that have ended; whether there are others. */
+/* Takes note of the children that have ended. Returns whether there are others. */
 static bool has_children(struct run *run) {
     pid_t pid;
     for (int status; (pid = waitpid(-1, &status, WNOHANG)) > 0;)
@@ -101,12 +102,12 @@ static bool has_children(struct run *run) {
 
 static void ask_to_end(struct run *run) {
     if (run->asked) return;
-    if (kill(-run->command, SIGTERM)) kill(run->command, SIGTERM); /* which may not have its session yet */
+    if (kill(-run->command, SIGTERM)) kill(run->command, SIGTERM); /* it may not have its session yet */
     run->asked = true;
     run->until = now() + 5000;
 }
 
-/* Waits until the command has ended, or is to be killed. */
+/* Waits until the command has ended, or until it is time to kill it. */
 static void watch(struct run *run, int signals) {
     struct pollfd watched[] = {{.fd = signals, .events = POLLIN}, {.events = POLLIN}, {.fd = READER}};
     while (!run->ended && !(run->asked && now() >= run->until)) {
@@ -123,7 +124,7 @@ static void watch(struct run *run, int signals) {
     }
 }
 
-/* Whether a process is a child of this one; its name. */
+/* Returns whether a process is a child of this one, and writes its name. */
 static bool is_child(const char *pid, char name[100]) {
     char path[300], line[1000];
     int parent = 0;
@@ -141,7 +142,8 @@ static void tell(const struct run *run, const char *what, const char *name) {
     fprintf(stderr, ": %s\n", run->scenario);
 }
 
-/* Kills the children, and tells those that nobody asked to end; whether there were some, so that their own may have come here. */
+/* Kills the children, and prints the names of those that nobody asked to end. Returns whether there were any: then their own children may have
+   become children of this process. */
 static bool kill_children(struct run *run) {
     bool killed = false;
     char name[100];
@@ -150,10 +152,10 @@ static bool kill_children(struct run *run) {
     for (struct dirent *entry; (entry = readdir(processes));) {
         if (!is_child(entry->d_name, name)) continue;
         pid_t pid = atoi(entry->d_name);
-        if (kill(pid, SIGKILL)) tell(run, "can't be ended", name);
+        if (kill(pid, SIGKILL)) tell(run, "can't kill a process that was left running", name);
         else if (waitpid(pid, NULL, 0) == pid) {
             killed = true;
-            if (!run->asked) tell(run, "ended what was left running", name);
+            if (!run->asked) tell(run, "killed a process that was left running", name);
         }
     }
     closedir(processes);

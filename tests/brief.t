@@ -76,3 +76,10 @@ All lines but these are those of the whole report.
   reduced a=1*return
   tests 1
   [1]
+
+The report that docs/MACHINES.md shows: of examples/replace_depth.toml, whose whole report stands beside it.
+
+  $ awk '/^```/ { if (inside) exit; inside = $0 == "```text"; next } inside' "$TESTDIR/../docs/MACHINES.md" > shown
+  $ paklour run --brief "$TESTDIR/../examples/replace_depth.toml" | diff shown -
+  $ grep -vE '^verdict |^counts ' shown > shown_alike
+  $ grep -vE '^verdict ' "$TESTDIR/../examples/replace_depth.toml.stdout" | diff shown_alike -

@@ -129,3 +129,11 @@ What takes no scenario is told as `try` tells it.
   $ paklour explain --plan 0 outside.toml
   settings: target outside: only plans, asks and report
   [2]
+
+The run at the top of docs/TARGETS.md. By the table of the replacement its rename comes before the sync: create, two writes, rename, sync. Pending are the
+create, the two appends at 0 and 2, and the rename.
+
+  $ block() { awk -v begin='```'"$1" '/^```/ { if (inside) exit; inside = $0 == begin; next } inside' "$TESTDIR/../docs/TARGETS.md"; }
+  $ block toml > shown.toml
+  $ block text > shown
+  $ paklour explain --plan 42 shown.toml | diff shown -

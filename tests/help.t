@@ -16,28 +16,28 @@ No line of it is longer than 100 letters, as has just been seen. It says what ea
   Usage: paklour run [OPTIONS] [FILE]
   
   Arguments:
-    [FILE]  TOML settings, of which `paklour help` lists the keys; left out, standard input is read
+    [FILE]  Settings as TOML; `paklour help` lists their keys. Without FILE, standard input has them
   
   Options:
         --brief     Count verdicts that pass, and write the scenario beside each other verdict
-        --json      Write a JSON document with all that the report tells
+        --json      Write the report as a JSON document, for programs that read it
         --junit     Write JUnit's XML, with a case for each plan
-        --strict    Tell on standard error what the report doesn't show, and end with 5 then
-        --recheck   Run each failing plan once more first, and refuse a target that says otherwise
+        --strict    Warn on standard error about gaps in the report, and then end with 5
+        --recheck   For your own target: run failing plans again, and refuse it if a verdict changes
         --progress  Show on standard error how far it is; --progress=plain: in lines, for logs
     -h, --help      Print help
   
   Examples:
-    paklour run my.toml             the verdict of each plan, and what the first failures come down to
+    paklour run my.toml             the verdict of each plan, and each first failure, reduced
     paklour run < my.toml           settings from standard input
     paklour run --brief my.toml     no line for a verdict that passes, and scenarios beside the others
     paklour run --json my.toml      a JSON document, for programs that read the report
     paklour run --junit my.toml     JUnit's XML, which CI servers show as tests
-    paklour run --strict my.toml    the same report; what it doesn't show is told on standard error
+    paklour run --strict my.toml    the same report, and warnings about its gaps on standard error
     paklour run --progress my.toml  the same report; meanwhile on standard error, in one line:
                                     plans 5201 of 65025, 1 failing, 5200 a second, 0:00:12 left
   
-  Of --brief, --json and --junit one at most is given.
+  Give at most one of --brief, --json and --junit.
   $ paklour help try | grep -e ^Usage: -e ' --scenario <' -e ' --plan <' -e '^A scenario has '
   Usage: paklour try <--scenario <TEXT>|--plan <N>> [FILE]
         --scenario <TEXT>  The scenario, as 'POINT=TERM->TERM;POINT=TERM'
@@ -51,7 +51,7 @@ Each option has an example.
 
   $ paklour help try | sed -n '/^  paklour try --/p'
     paklour try --scenario 'replace::sync=1*return' my.toml
-    paklour try --plan 10 my.toml     what the line `verdict 10 ..` of the report tells, run again
+    paklour try --plan 10 my.toml     run plan 10 again, which the report has as `verdict 10 ..`
   $ paklour help explain | grep 'paklour explain --'
     paklour explain --plan 10 my.toml the same run, hit by hit
   $ paklour help reduce | grep -e ' --progress'
@@ -63,10 +63,10 @@ Each option has an example.
   Example:
     paklour page my.toml > page.html
   shows what was tried and found: each first failure with its run, hit by hit, a map of all plans,
-  and the plans by verdict, point and level. A browser opens it; it asks for nothing from elsewhere.
+  and the plans by verdict, point and level. A browser opens it; it loads nothing from elsewhere.
   $ paklour help report | grep -e --brief -e --page -e --explain
         --brief           Count verdicts that pass, and write the scenario beside each other verdict
-        --page            Write a page to look at, as HTML; it shows no run hit by hit
+        --page            Write the report as a page to look at, in HTML
         --explain <TEXT>  Write instead the run that an answer tells of this scenario, hit by hit
     paklour report --brief my.toml < answers
     paklour report --page my.toml < answers > page.html
@@ -77,7 +77,7 @@ statuses.
 
   $ paklour help | sed -n '/^Settings are TOML/,/^Example:/p;/^Exit status:/,$p'
   Settings are TOML. Their keys, with ranges and defaults:
-    target     "replace", "maildir", "commit" or "outside"; has to be there
+    target     "replace", "maildir", "commit" or "outside"; required
     variant    "sound", or one with a flaw, by the target; default "sound"
                  replace: "late_sync", "ignore_sync", "retry_write", "rename_first", "in_place"
                  maildir: "link_first", "ignore_write", "append_tmp", "deliver_in_new"
@@ -92,7 +92,7 @@ statuses.
                default none: plans come from the run without faults
     crash_states  true or false: the power cut asks power::keep for each pending write; default false
     scenarios  scenarios to run as plans too, up to 1000 texts; default none
-  and the table of the target, in which a key that names no default has to be there:
+  and a table for the target. Its keys are required where no default is named:
     [replace]
       old           the contents at first, a text of up to 65536 bytes
       replacements  up to 1000 lists of up to 1000 chunks
@@ -110,25 +110,26 @@ statuses.
       kinds         with a depth alone: a table that lists for a point which faults are tried at its
                     hits, 1 to 8 of "return", "return(TEXT)" and "panic", none twice; TEXT has
                     up to 32 bytes; default return and panic, at power::keep return
-  With "outside" somebody else runs the component: only plans, asks and report take such settings, in
-  which variant, workers, max_hits and crash_states are unknown keys. With a depth plans takes none.
+  With "outside" something else runs the component, a program of your own. Only plans, asks and report
+  take such settings, and plans only if they have no depth. The keys variant, workers, max_hits and
+  crash_states are unknown there.
   A chunk is a text of up to 4096 bytes. `paklour help try` says what a scenario may hold.
   
   Example:
   Exit status:
     0  no verdict is fail
     1  a verdict is fail
-    2  the words, the settings, a scenario, the answers or the number of plans is refused, or the
-       settings or the answers can't be read
-    3  memory is refused
+    2  the command line, the settings, a scenario or the answers were refused or couldn't be read, or
+       there are too many plans; a line on standard error says which
+    3  memory ran out
     4  a write failed
-    5  with --strict: no verdict is fail, and something was told on standard error: an unresolved run,
-       no hits without faults, a point that no run reaches, a name that no point has, hits that nobody
-       knows, a fault that its run doesn't meet, storms of rate 0
+    5  with --strict: no verdict is fail, but there were warnings: an unresolved run, no hits without
+       faults, a point that no run reaches, a name that no point has, hits that nobody knows, a fault
+       that its run doesn't meet, or storms of rate 0
 
 The help of the commands on a component that somebody else runs says what an answer is.
 
   $ paklour help asks | grep -e ^Usage: -e VERDICT -e '<FILE>  '
   Usage: paklour asks [OPTIONS] <FILE>
-    <FILE>  TOML settings, of which `paklour help` lists the keys; standard input has the answers
+    <FILE>  Settings as TOML; `paklour help` lists their keys. Standard input has the answers
     VERDICT<TAB>SCENARIO<TAB>HITS

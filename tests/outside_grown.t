@@ -457,7 +457,7 @@ So it goes in the loop, where a run takes too long and nobody knows its hits; wi
   first 5 lost
   causes 1
   cause 5 lost a=1*return;c=1*return
-  loop: ended after 5 seconds: b=1*return
+  loop: the run was ended after 5 seconds (--seconds): b=1*return
   $ rm slow tried
   $ sed -i '/\t-$/d' looped
   $ loop | grep -E '^(counts|first|cause)'
@@ -477,7 +477,7 @@ And where it doesn't do the same twice.
   $ sed -i "s/^none | /'b=1*panic') hits='c;b' ;;\n&/" try.sh
   $ loop
   answers: line 5: hits differ from line 1 at hit 1
-  loop: line 5 is of b=1*panic: runs don't go alike each time, as by a clock, threads, or a port that runs side by side share (-j 1)
+  loop: line 5 is the run of b=1*panic, which doesn't repeat an earlier run: look for clocks, threads, random names, or a port that runs share (-j 1)
   [2]
 
 The longest list

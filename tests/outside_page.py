@@ -1,9 +1,10 @@
 #!/usr/bin/env python3
 """Performs parts of pages as a reader would, and compares what is written with what they show.
 
-    tests/outside_page.py PAGE HEADING [PAGE HEADING]..
+    tests/outside_page.py PAGE[#HEADING]..
 
-`paklour` has to be on the PATH, and outside/ built. In one folder for all of them a block that begins with `#!` becomes the file that its second line names, and each
+`paklour` has to be on the PATH, and outside/ built. Of a page the part below HEADING is performed, or, where none is named, all of it.
+In one folder for all of them a block that begins with `#!` becomes the file that its second line names, one of `toml` with a name in its first line that file, and each
 other block of `sh` is run; those that run an example of outside/ aren't: tools/page_rules holds them to their reports. Behind a command, a comment is
 a line that the block writes, up to `, and so on`. A block without a language shows how standard output ends that was written last, or lines of standard
 error, in any order; and a report's line that the text names, as `beyond 2`, is one that was written last. Prints each difference, and at last how
@@ -41,6 +42,8 @@ class Reader:
         """A block of code, by its language."""
         if text.startswith("#!"):
             self.file(re.match(r".*\n# (\S+)", text)[1], text)
+        elif language == "toml" and text.startswith("# "):
+            self.file(text.split()[1], text)
         elif language == "sh" and LEFT_OUT in text:
             self.wrote = None
         elif language == "sh":
@@ -67,10 +70,13 @@ class Reader:
             self.expect(f"no line {line}", line in self.wrote.splitlines())
 
 
-def parts_of(page, heading):
+def parts_of(page):
     """Words, and the language and text of the block that follows them, where one does."""
+    page, _, heading = page.partition("#")
     with open(page, encoding="utf-8") as file:
-        part = re.search(rf"^## {heading}\n(.*?)^## ", file.read(), re.M | re.S)[1]
+        part = file.read()
+    if heading:
+        part = re.search(rf"^## {heading}\n(.*?)^## ", part, re.M | re.S)[1]
     parts = re.split(r"^```(\w*)\n(.*?)^```\n", part, flags=re.M | re.S)
     return zip(parts[::3], [*parts[1::3], None], [*parts[2::3], None])
 
@@ -78,8 +84,8 @@ def parts_of(page, heading):
 def main():
     with tempfile.TemporaryDirectory() as folder:
         reader = Reader(folder)
-        for page, heading in zip(sys.argv[1::2], sys.argv[2::2]):
-            for words, language, text in parts_of(page, heading):
+        for page in sys.argv[1:]:
+            for words, language, text in parts_of(page):
                 reader.text(words)
                 if text is not None:
                     reader.block(language, text)

@@ -114,8 +114,8 @@ A failing plan's status is 1 all the same, what is refused 2, and a failed write
   $ paklour page --strict small.toml 2>&1 | head -n 1
   error: unexpected argument '--strict' found
 
-`run --recheck` runs each plan before the campaign, and each that fails once more. A bundled target says the same twice, so its report and its
-status are those of `run`.
+`run --recheck` is for a target of one's own, whose failing plans it runs again. A bundled target is proved to say the same twice: no plan of it
+is run again, and its report and its status are those of `run`.
 
   $ paklour run flawed.toml > plain
   [1]

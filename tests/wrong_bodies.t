@@ -212,6 +212,13 @@ impls of traits, and what is named between hyphens. What declares no name that c
   $ change src/lib.rt 's/≡ halved/≡ halves/' src/lib.rt 's/≡ count/≡ counts/' src/lib.rt 's/{ none }/{ any }/'
   0 passed, 0 failed
 
+A comment of the crate itself tries none of its edits either, and a word of its code tries all.
+
+  $ sed -i '1i // what this crate is for' crates/toy/src/lib.rt; stale; sed -i '1i use b' crates/toy/src/lib.rt; stale; sed -i '1,2d' crates/toy/src/lib.rt; stale
+  0 passed, 0 failed
+  2 passed, 0 failed
+  2 passed, 0 failed
+
 What is imported under another name is named by that, in the crate, and in the one below. What an edit names counts for that edit alone.
 
   $ sed -i '1i use low::{far as ahead};' crates/toy/src/lib.rt; sed -i 's/proved other/& ahead(1)/' crates/toy/src/lib.rt; stale
@@ -246,7 +253,7 @@ Of more than 20, those of a promise and those that have changed are tried in any
   $ sed -i '1i promise: nothing skipped' crates/toy/must-fail/7.edit; echo >> crates/toy/must-fail/9.edit
   $ bodies > told; grep -cE '^toy/(7|9): refused' told; git add -A && git commit -qm x
   2
-  $ LOGIC=00 bodies | tail -n 1; echo '// more' >> crates/toy/src/lib.rt; bodies | tail -n 1
+  $ LOGIC=00 bodies | tail -n 1; echo 'use more' >> crates/toy/src/lib.rt; bodies | tail -n 1
   30 passed, 0 failed
   30 passed, 0 failed
 

@@ -3,7 +3,7 @@
 
     tools/refuse.py PROGRAM FILE..
 
-Each FILE is a standard input; FILE.args, where it is there, has the program's words, one a line. Each run has to give the same bytes and
+Each FILE is a standard input; FILE.args, if it exists, has the program's words, one a line. Each run has to give the same bytes and
 status as an undisturbed one, or no output, `no memory` and status 3.
 """
 import os

@@ -34,7 +34,7 @@ static void trace_hit(const struct asking *asking, const struct counter *counter
             (unsigned long long)counter->hits, answer, change->shown, "-");
 }
 
-/* One hit of the point that is counted there: whether it is answered by a return. A pause stops the run, and nothing is laid. */
+/* Makes a hit of the counter's point. Returns whether a `return` acts there. A pause ends this program, and nothing is laid out. */
 static bool returns(struct asking *asking, struct counter *counter, const struct change *change) {
     const struct term *term = acting_term(chain_named(&asking->scenario, counter->name), counter->used);
     asking->number++;
@@ -51,7 +51,7 @@ static bool has_halves(const struct change *change) {
     return (change->kind == WRITTEN || change->kind == STORED) && change->length > 1;
 }
 
-/* Asks for each pending change; what is torn is its first half from here on. */
+/* Makes the hits for each pending change. From here on, a torn change is only its first half. */
 static void ask(struct asking *asking, struct replay *replay) {
     for (size_t i = 0; i < replay->pending.count; i++) {
         struct change *change = replay->pending.list[i];
@@ -71,10 +71,10 @@ static void read_asking(struct asking *asking, const char *text) {
         refuse("scenario", what);
     }
     if (!asking->tears && chain_named(scenario, point_names[TEAR]))
-        fprintf(stderr, "powercut: never acts: %s: `keep` doesn't ask it, `tear` does\n", point_names[TEAR]);
+        fprintf(stderr, "powercut: never acts: %s: the state `keep` has no hits of it, `tear` has\n", point_names[TEAR]);
 }
 
-/* The hits of an earlier cut of this run are taken out of the trace again. */
+/* The hits of an earlier cut of this run are removed from the trace. */
 void ask_all(struct asking *asking, const struct state *state, struct replay *replay, const char *text) {
     char path[LONG_PATH];
     read_asking(asking, text);

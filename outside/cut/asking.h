@@ -1,4 +1,4 @@
-/* What a cut asks its scenario: power::keep of each pending change, and where it tears, power::tear of each write that is kept. */
+/* The hits of a power cut: power::keep for each pending change and, in the state `tear`, power::tear for each write that is kept. */
 #ifndef ASKING_H
 #define ASKING_H
 
@@ -6,22 +6,23 @@
 
 #include <stdio.h>
 
-/* By what it asks: the scenario, the trace that takes the hits, and their counts, which are the run's once it goes on. */
+/* The scenario of a cut, the trace to which its hits are written, and their counts, which become the run's if it goes on. */
 struct asking {
     struct scenario scenario;
     bool tears;
     FILE *trace;
-    uint64_t number; /* of the last hit */
+    uint64_t number; /* the number of the last hit */
     struct counter keep, tear;
 };
 
-/* From what the run has counted; without a question these counts stay. */
+/* Begins with the run's counts. They stay the same if the cut has no hits. */
 void begin_asking(struct asking *asking, struct state *state, bool tears);
 
-/* Asks for all pending changes, by the scenario of that text; they know then what is kept and what is torn. */
+/* Makes the hits for all pending changes under the scenario of that text. Then each change says whether it is kept, and has its length if it is
+   torn. */
 void ask_all(struct asking *asking, const struct state *state, struct replay *replay, const char *text);
 
-/* Has the run count on from there. */
+/* Makes these counts those of the run, which goes on. */
 void keep_counts(const struct asking *asking, struct state *state);
 
 #endif

@@ -16,11 +16,11 @@ void refuse(const char *what, const char *why) {
 }
 
 void must(bool done, const char *what) {
-    if (!done) refuse(what, errno == ENOTSUP ? "the file system tells no time of birth" : strerror(errno));
+    if (!done) refuse(what, errno == ENOTSUP ? "the file system records no times of birth" : strerror(errno));
 }
 
 void joined(char *to, const char *folder, const char *name) {
-    if (snprintf(to, LONG_PATH, "%s/%s", folder, name) >= LONG_PATH) refuse(name, "too long a path");
+    if (snprintf(to, LONG_PATH, "%s/%s", folder, name) >= LONG_PATH) refuse(name, "the path is too long");
 }
 
 void write_key(char *text, const struct key *key) {
@@ -69,7 +69,7 @@ static void note_contents(int folder, const char *name, int note) {
 
 /* ---- a tree */
 
-/* No part of the functions that go down a tree, which would need its memory for each folder on the way. */
+/* It isn't inlined, since functions that go down a tree would need its memory for each folder on the way. */
 __attribute__((noinline)) int open_note(const char *book, char kind, const struct key *key, int flags) {
     char folder[LONG_PATH], path[LONG_PATH], text[KEY_TEXT];
     write_key(text, key);
@@ -85,7 +85,7 @@ struct noting {
 
 static void note_file(const struct noting *noting, int folder, const char *name, const struct key *key) {
     int note = open_note(noting->book, 'c', key, O_WRONLY | O_CREAT | O_EXCL);
-    if (note < 0 && errno == EEXIST) return; /* another name of a file that is noted */
+    if (note < 0 && errno == EEXIST) return; /* this is another name of a file that is noted already */
     must(note >= 0, noting->book);
     note_contents(folder, name, note);
 }

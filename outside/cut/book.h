@@ -1,8 +1,8 @@
-/* What a tree of files holds at one time. A book is a folder with
+/* A book records what a tree of files holds at one time. It is a folder with
      c/KEY   a file's contents
      d/KEY   a folder's names: for each `KIND MODE KEY NAME` and a byte of zero, for a symbolic link then its target and
              another one; KIND is c, d or l
-   KEY is the file's number and its time of birth: numbers are used again. */
+   KEY is the file's inode number and its time of birth, since numbers are used again. */
 #ifndef BOOK_H
 #define BOOK_H
 
@@ -10,7 +10,7 @@
 
 enum { KEY_TEXT = 64 };
 
-/* Ends the program with 2 and a line. */
+/* Prints a line and ends the program with 2. */
 _Noreturn void refuse(const char *what, const char *why);
 void must(bool done, const char *what);
 
@@ -18,10 +18,10 @@ void joined(char *to, const char *folder, const char *name);
 void write_key(char *text, const struct key *key);
 bool read_key(const char *text, struct key *key);
 
-/* Opens what a book has of a file's contents, `c`, or of a folder's names, `d`; or answers -1. */
+/* Opens what a book has of a file's contents (`c`) or of a folder's names (`d`). Returns -1 if it has nothing. */
 int open_note(const char *book, char kind, const struct key *key, int flags);
 
-/* Notes the tree in a folder, in place of one that an earlier command left. */
+/* Makes the book of a tree in that folder, in place of one that an earlier command left. */
 void make_book(const char *book, const struct tree *tree);
 void take_book_away(const char *book);
 

@@ -24,7 +24,8 @@ static uint64_t length_of(int file, const char *path) {
     return (uint64_t)told.st_size;
 }
 
-/* The next bytes that are no hole, from `at` on; false where there are none. A file system without holes has none but that at the end. */
+/* Finds the next bytes from `at` on that aren't a hole. Returns false if there are none. On a file system without holes the only hole is at the
+   end. */
 static bool next_data(int file, uint64_t at, uint64_t *from, uint64_t *to) {
     off_t data = lseek(file, (off_t)at, SEEK_DATA), hole = data < 0 ? -1 : lseek(file, data, SEEK_HOLE);
     if (data < 0 && errno == ENXIO) return false;
@@ -39,7 +40,7 @@ void copy_whole(int in, int out, const char *path) {
     must(!ftruncate(out, (off_t)length), path);
 }
 
-/* From where on one of them has bytes, which may be zeros. */
+/* The first place from `at` on at which one of the two has bytes, which may be zeros. */
 static uint64_t data_of_either(int one, int other, uint64_t at) {
     uint64_t first = UINT64_MAX, second = UINT64_MAX, to;
     next_data(one, at, &first, &to);

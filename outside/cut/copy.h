@@ -1,11 +1,11 @@
-/* Copies and compares files, whose holes stay holes. */
+/* Copies and compares files. Holes stay holes. */
 #ifndef COPY_H
 #define COPY_H
 
 #include <stdbool.h>
 #include <stdint.h>
 
-/* To the same place, up to so many bytes or the end; and all of it, to an empty file. */
+/* Copies at most so many bytes to the same place of another file, up to the end; or the whole file to an empty one. */
 void copy_part(int in, int out, uint64_t at, uint64_t length, const char *path);
 void copy_whole(int in, int out, const char *path);
 

@@ -1,7 +1,7 @@
 #include "lasting.h"
 
-/* Each change stands in the lists of what may make it last, and is let go of there once that is done: so all syncs together look at
-   each change a few times, however many they are. */
+/* Each change is in the lists of the syncs that may make it last, and leaves a list once it lasts. So all syncs together look at each change only a
+   few times, however many syncs there are. */
 void await_sync(struct replay *replay, struct change *change) {
     if (is_contents(change)) {
         add_to(&change->file->contents, change);
@@ -15,11 +15,11 @@ void await_sync(struct replay *replay, struct change *change) {
     add_to(&replay->all_names, change);
 }
 
-/* ---- what one sync says of a change: whether nothing is left to say */
+/* ---- what one sync does to a change; each function returns whether the change leaves the list */
 
 struct sync {
     const struct note *note;
-    const struct file *file; /* null where all is synced */
+    const struct file *file; /* null if everything is synced */
 };
 
 static bool is_wholly_synced(struct change *change, const struct sync *sync) {
@@ -47,7 +47,7 @@ static bool is_lost(struct change *change, const struct sync *sync) {
     return change->lost;
 }
 
-/* Of what was noted before the sync began. */
+/* Applies a sync to the changes of a list that were noted before the sync began. */
 static void look_at_each(struct changes *changes, const struct sync *sync, bool (*is_done)(struct change *, const struct sync *)) {
     size_t left = 0;
     for (size_t i = 0; i < changes->count; i++) {
@@ -60,7 +60,7 @@ static void look_at_each(struct changes *changes, const struct sync *sync, bool 
 
 /* ---- the syncs */
 
-/* Names that a sync of the file itself makes last, and those of the folders that lead to it. */
+/* A sync of a file makes its names last too, and those of the folders that lead to it. */
 static void sync_own_names(struct file *file, const struct sync *sync) {
     for (int depth = 0; file && depth < 100; depth++, file = file->known_folder)
         look_at_each(&file->names_of_it, sync, is_wholly_synced);

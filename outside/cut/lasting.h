@@ -1,4 +1,4 @@
-/* Which changes last, by the syncs of a run. */
+/* Finds which changes the syncs of a run make last. */
 #ifndef LASTING_H
 #define LASTING_H
 
@@ -6,19 +6,19 @@
 
 enum { SYSTEM_BLOCK = 4096 };
 
-/* A change of two folders lasts in each by itself. */
+/* Whether a change lasts in all of its folders: in each of two it lasts separately. */
 static inline bool lasts_whole(const struct change *change) {
     return change->lasts && (!change->other_folder || change->other_lasts);
 }
 
-/* Has a change wait for the syncs that make it last. */
+/* Adds a change to the lists of the syncs that may make it last. */
 void await_sync(struct replay *replay, struct change *change);
 
-/* A sync, and one that failed, as they were noted. */
+/* Apply a sync that was noted, and one that failed. */
 void sync_changes(struct replay *replay, const struct note *note);
 void lose_changes(struct replay *replay, const struct note *note);
 
-/* A block that is written to is dirty again, with all that is in it. */
+/* Makes the blocks that a write touches dirty again, with all lost changes in them. */
 void dirty_again(struct file *file, uint64_t at, uint64_t length);
 
 #endif

@@ -26,7 +26,7 @@ static void write_bytes(int out, const char *bytes, uint64_t at, uint64_t length
     }
 }
 
-/* Where bytes that came later are: in the first copy after them that has them, else in the file as the cut found it. */
+/* Writes bytes that were noted without a copy. They are in the first later copy that has them, or else in the file as the cut found it. */
 static void write_later(const struct replay *replay, const struct change *change, const struct late_copy *after, int out,
     const char *path) {
     const struct late_copy *found = after;
@@ -38,7 +38,7 @@ static void write_later(const struct replay *replay, const struct change *change
     close(in);
 }
 
-/* A hole, where the file system has holes. */
+/* Writes zeros, as a hole if the file system has holes. */
 static void write_zeros(int out, uint64_t at, uint64_t length, const char *path) {
     static const char zeros[65536];
     if (!length || !fallocate(out, FALLOC_FL_PUNCH_HOLE | FALLOC_FL_KEEP_SIZE, (off_t)at, (off_t)length)) return;
@@ -48,7 +48,7 @@ static void write_zeros(int out, uint64_t at, uint64_t length, const char *path)
     }
 }
 
-/* `after` are the copies that were made after that change. */
+/* Writes a change. `after` has the copies that were made after it. */
 static void apply(const struct replay *replay, const struct change *change, const struct late_copy *after, int out, const char *path) {
     struct stat told;
     uint64_t length = change->length;
@@ -61,7 +61,7 @@ static void apply(const struct replay *replay, const struct change *change, cons
     else write_bytes(out, replay->notes + change->bytes, change->at, length, path);
 }
 
-/* An earlier one that is kept is under a later one. */
+/* Later changes are written over earlier ones. */
 void write_contents(const struct replay *replay, const struct file *file, bool all, int out, const char *path) {
     int in;
     if (open_noted(replay->base, file, &in)) {
@@ -81,7 +81,7 @@ struct laying {
     struct replay *replay;
     enum contents contents;
     const struct tree *tree;
-    char path[LONG_PATH]; /* below the root, of what is laid now */
+    char path[LONG_PATH]; /* the path below the root of what is laid out now */
 };
 
 static void lay_file(const struct laying *laying, struct file *file, int folder, const char *name) {
@@ -107,7 +107,7 @@ static void lay_name(struct laying *laying, struct file *file, int folder, const
     } else if (!S_ISDIR(file->key.mode)) {
         if (file->laid) must(!linkat(laying->tree->folder, file->laid, folder, name, 0), path);
         else lay_file(laying, file, folder, name);
-    } else if (!file->being_laid) { /* else a folder that two moves, half lasting, put below itself */
+    } else if (!file->being_laid) { /* otherwise it is a folder that two renames, each lasting in one folder alone, put below itself */
         must(!mkdirat(folder, name, 0700), path);
         int below = open_below(laying->tree, folder, name);
         lay_folder(laying, file, below);
@@ -121,7 +121,7 @@ static void lay_folder(struct laying *laying, struct file *folder, int at) {
     for (struct name *name = folder->names; name; name = name->next_in_folder) {
         if (!name->file) continue;
         int more = snprintf(laying->path + length, LONG_PATH - length, "/%s", name->text);
-        if ((size_t)more >= LONG_PATH - length) refuse(laying->path, "too long a path");
+        if ((size_t)more >= LONG_PATH - length) refuse(laying->path, "the path is too long");
         lay_name(laying, name->file, at, name->text);
         laying->path[length] = 0;
     }

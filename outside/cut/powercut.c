@@ -1,27 +1,27 @@
-/* powercut COMMAND RUN ..: help.c has the commands and the states that a cut may leave. `begin` makes the folder of a run: state, trace
-   and, where ROOT is given, notes of what is there. The first cut notes what is there, so that each state can be laid in turn, whatever
-   a look at one of them did to the files.
+/* powercut COMMAND RUN ..: help.c has the commands, and the states that a cut may leave. `begin` makes the folder of a run, with its state, its
+   trace and, if ROOT is given, notes of the files that are there. The first cut notes the files as the run left them, so that each state can be
+   laid out in turn, whatever a judge did to the files of another state.
 
-   A change is of names (create, mkdir, symlink, link, unlink, rmdir, rename, exchange) or of contents (a write, a store of a page
-   through a mapping, a new length, cleared bytes). A rename or exchange moves both names or neither; over two folders it lasts in
-   each with that folder's sync. A write of more than FAULTS_BLOCK bytes is a change for each aligned block, since a disk may tear
-   it. One with O_DSYNC or O_SYNC makes itself last, the file's length, and older writes inside of it; what else is in its block
-   may or may not. What is laid is what was there at the beginning, and over it the changes that last or are kept, in their order;
-   bytes before a kept write that nothing wrote are zeros. Modes are as they are.
+   A change is one of names (create, mkdir, symlink, link, unlink, rmdir, rename, exchange) or of contents (a write, a store of a page through a
+   mapping, a new length, cleared bytes). A rename or exchange moves both names or neither. If it changes two folders, it lasts in each with that
+   folder's sync. A write of more than FAULTS_BLOCK bytes is one change for each aligned block, since a disk may tear it. A write with O_DSYNC or
+   O_SYNC makes itself last, with the file's length and older writes inside of it. What else is in its block may last or not. A cut lays out the
+   files as they were at the beginning, and over them, in order, the changes that last or are kept. Bytes before a kept write that nothing wrote are
+   zeros. Modes are those that the files have at the cut.
 
-   A torn write: of `abcdefg`, kept and torn, `abc` is there, and a file that it makes longer ends behind the `c`. `tear` asks
-   power::tear behind power::keep for each write or store of two bytes or more that is kept, of a long write for each block; a
-   return leaves its first half alone, rounded down. Names, new lengths and cleared bytes have no half. `keep` never asks it, so
-   that what settings without power::tear are told has no hit of it.
+   A torn write: if `abcdefg` is kept and torn, `abc` is there, and a file that this write makes longer ends behind the `c`. For each kept write or
+   store of two bytes or more, and for each block of a long write, the state `tear` hits power::tear behind power::keep. A return there leaves only
+   the first half, rounded down. Names, new lengths and cleared bytes have no half. The state `keep` never hits power::tear, so that answers for
+   settings without power::tear have no hit of it.
 
-   The hits of power::keep stand in the trace behind the others, hit k for change k of `pending`, each with that of power::tear
-   behind it. A pause at either ends the command with 97, and nothing is laid; another task than a return does nothing. After
-   `recover` what was laid is what is there, all of it lasts, and hits are numbered on.
+   The hits of power::keep stand in the trace behind the others: hit k is for change k of `pending`, and its hit of power::tear follows it. A pause
+   at either ends the command with 97, and nothing is laid out. Other tasks than a return do nothing. After `recover` the files that were laid out
+   are those of the run, all of them last, and its hits are numbered on.
 
-   A run in which nothing ran under the supervisor, or nothing under ROOT was called, is refused,
-   with 2 as all that is refused, and before anything is changed. So is one in which files changed that neither the notes explain nor
-   the script named, as by stores into a mapping of a process that was killed; and a ROOT that isn't the folder of `begin`, or below
-   which something is mounted. Where the supervisor was killed between a change and its note, the change is told and not refused. */
+   Before anything is changed, a run is refused, with 2, in which nothing ran under the supervisor or no call under ROOT was made; in which files
+   changed that neither the notes explain nor the script named, for example by stores into a mapping of a process that was killed; and one whose
+   ROOT isn't the folder of `begin`, or has something mounted below it. If the supervisor was killed between a change and its note, the change is
+   only reported. */
 #define _GNU_SOURCE
 #include "../run/help.h"
 #include "asking.h"
@@ -39,7 +39,8 @@
 
 /* ---- begin */
 
-/* Counters take room as they are used, the rest now: where the disk is full, a store into a mapping ends a process by a signal. */
+/* Takes room on the disk for all but the counters, which take it as they are used. On a full disk, a store into a mapping ends a process by a
+   signal. */
 static void make_room(int file, const char *name) {
     must(!ftruncate(file, sizeof(struct state)), name);
     errno = posix_fallocate(file, 0, offsetof(struct state, counters));
@@ -54,7 +55,7 @@ static struct state *map_state(const char *run, int flags) {
     if (flags & O_CREAT) make_room(file, name);
     struct stat told;
     must(!fstat(file, &told), name);
-    if (told.st_size != sizeof(struct state)) refuse(run, "not a run's folder");
+    if (told.st_size != sizeof(struct state)) refuse(run, "this isn't a folder that powercut begin made");
     struct state *state = mmap(NULL, sizeof *state, PROT_READ | PROT_WRITE, MAP_SHARED, file, 0);
     must(state != MAP_FAILED, name);
     close(file);
@@ -111,18 +112,18 @@ static void begin(const char *run, const char *root) {
 static struct state *state_with_root(const char *run) {
     char path[LONG_PATH], noted[1];
     joined(path, run, "root");
-    if (readlink(path, noted, sizeof noted) < 0) refuse(run, "no folder of a run that noted a root");
+    if (readlink(path, noted, sizeof noted) < 0) refuse(run, "this isn't a folder that powercut begin made for a ROOT");
     return map_state(run, 0);
 }
 
 /* Only the folder that `begin` noted is ever emptied. */
 static void open_root(struct tree *tree, const struct state *state, const char *root) {
     open_tree(tree, root);
-    if (!same_identity(&tree->identity, &state->root)) refuse(root, "not the folder that begin noted");
+    if (!same_identity(&tree->identity, &state->root)) refuse(root, "this isn't the folder that powercut begin was given");
     check_tree(tree);
 }
 
-/* A verdict over a run that nothing watched would be about nothing. A program that only starts others isn't what is tested. */
+/* Refuses a run that nothing watched, since its verdict would mean nothing. So would that of a run whose first program only started others, unseen. */
 static void check_loaded(const struct state *state) {
     if (!state->loaded)
         refuse("nothing ran under the supervisor", "paklour-faults wasn't started with this FAULTS_RUN, or ended before its command began");
@@ -137,7 +138,7 @@ static uint64_t length_of_trace(const char *run) {
     return (uint64_t)told.st_size;
 }
 
-/* The first cut finds the run as its programs left it, and later ones go by that. */
+/* The first cut notes how the programs left the run, and later cuts use these notes. */
 static void find_cut(struct state *state, const char *run) {
     lock_state(state, run);
     if (!state->cut.done) {
@@ -148,7 +149,7 @@ static void find_cut(struct state *state, const char *run) {
     pthread_mutex_unlock(&state->mutex);
 }
 
-/* What is there, what the supervisor knew that it missed, where it didn't tell that, and what the notes don't explain. */
+/* Notes the files that are there, prints what the supervisor missed and hasn't printed, and refuses changes that the notes don't explain. */
 static void look_at_what_is_there(struct state *state, struct replay *replay, const struct tree *tree) {
     make_book(replay->live, tree);
     for (; state->unseen_told < state->unseen; state->unseen_told++)
@@ -175,10 +176,11 @@ static void check_state(const char *name, const char *scenario) {
     if (scenario) return;
     for (size_t i = 0; i < sizeof states / sizeof *states; i++)
         if (!strcmp(name, states[i])) return;
-    refuse(name, "no such state");
+    refuse(name, takes_scenario(name) ? "this state needs a SCENARIO behind it"
+                                      : "no such state; the states are lasting, live, names, contents, keep and tear");
 }
 
-/* What was laid is what is there now, and all of it lasts. */
+/* Lets the run go on with the files that were laid out, all of which last. */
 static void go_on(struct state *state, const struct replay *replay, const struct tree *tree, const struct asking *asking) {
     char changes[LONG_PATH];
     take_book_away(replay->live);

@@ -59,14 +59,14 @@ static void clear_names(struct replay *replay) {
 
 static void read_folder(struct replay *replay, struct file *folder, const char *book, bool is_base);
 
-/* One name of a folder's note. The line's last part may hold blanks. */
+/* Reads one name of a folder's note. The last part of the line may have blanks. */
 static void read_name(struct replay *replay, FILE *note, const char *line, struct file *folder, const char *book, bool is_base) {
     char kind, text[KEY_TEXT];
     struct key key;
     unsigned mode;
     int end = 0;
     bool read = sscanf(line, "%c %o %63s%n", &kind, &mode, text, &end) == 3 && line[end] == ' ' && read_key(text, &key);
-    if (!read) refuse(line, "a bad note");
+    if (!read) refuse(line, "this note is damaged");
     struct file *file = file_of(replay, &key);
     struct name *name = name_of(replay, folder, line + end + 1);
     if (!is_base || !file->key.mode) file->key.mode = mode | (kind == 'd' ? S_IFDIR : kind == 'l' ? S_IFLNK : S_IFREG);
@@ -98,7 +98,7 @@ void names_of_book(struct replay *replay, const char *book) {
     read_folder(replay, replay->root, book, false);
 }
 
-/* ---- the path of a change, for a look */
+/* ---- the path of a change, as it is shown */
 
 char *path_of(const struct file *folder, const char *name) {
     char path[LONG_PATH], longer[LONG_PATH];
@@ -132,7 +132,7 @@ static char *shown_names(const struct change *change) {
 
 /* ---- the notes, one by one */
 
-/* A note, which may begin at any byte, and what follows it. */
+/* A note, which may begin at any byte of the file, and the texts and bytes that follow it. */
 struct record {
     struct note note;
     uint64_t at;
@@ -142,9 +142,9 @@ struct record {
 static struct record record_at(const struct replay *replay, uint64_t at) {
     struct record record = {.at = at};
     uint64_t left = replay->noted - at;
-    if (left < sizeof record.note) refuse(replay->run, "bad notes");
+    if (left < sizeof record.note) refuse(replay->run, "the notes of this run are damaged");
     memcpy(&record.note, replay->notes + at, sizeof record.note);
-    if (record.note.size < sizeof record.note || record.note.size > left) refuse(replay->run, "bad notes");
+    if (record.note.size < sizeof record.note || record.note.size > left) refuse(replay->run, "the notes of this run are damaged");
     record.name = replay->notes + at + sizeof record.note;
     record.other_name = record.name + record.note.name;
     record.bytes = record.other_name + record.note.other_name;
@@ -170,7 +170,7 @@ static void add_part(struct replay *replay, struct change part, uint64_t at, uin
     part.file->last = change;
 }
 
-/* A long write is a change for each of its blocks. Where a sync failed for good, the system's blocks are told apart too. */
+/* Adds one change for each block of a long write. If a failed sync loses blocks for good, the system's own blocks are changes of their own too. */
 static void add_contents(struct replay *replay, const struct record *record) {
     const struct note *note = &record->note;
     struct change whole = {
@@ -233,7 +233,7 @@ static void read_record(struct replay *replay, const struct record *record) {
     case COPIED: return add_copy(replay, record);
     case SYNCED: case SYNCED_RANGE: case SYNCED_ALL: return sync_changes(replay, &record->note);
     case SYNC_FAILED: return lose_changes(replay, &record->note);
-    default: refuse(replay->run, "bad notes");
+    default: refuse(replay->run, "the notes of this run are damaged");
     }
 }
 
@@ -243,7 +243,7 @@ static void map_notes(struct replay *replay) {
     joined(path, replay->run, "changes");
     int file = open(path, O_RDONLY | O_CLOEXEC);
     must(file >= 0 && !fstat(file, &told), path);
-    if ((uint64_t)told.st_size < replay->noted) refuse(path, "bad notes");
+    if ((uint64_t)told.st_size < replay->noted) refuse(path, "the notes of this run are damaged");
     if (replay->noted) replay->notes = mmap(NULL, replay->noted, PROT_READ, MAP_PRIVATE, file, 0);
     must(replay->notes != MAP_FAILED, path);
     close(file);

@@ -1,4 +1,4 @@
-/* A run's files by its notes: what was there as it began, each change since, and which of them last. */
+/* A run's files by its notes: what was there when it began, each change since, and which changes last. */
 #ifndef REPLAY_H
 #define REPLAY_H
 
@@ -12,32 +12,32 @@ struct changes {
     size_t count, room;
 };
 
-/* A name in a folder, and what it leads to now; null where it leads to nothing. */
+/* A name in a folder, and the file to which it leads now, or null. */
 struct name {
     struct file *folder, *file;
-    struct file *by_changes; /* what it leads to by all changes, for a look at what wasn't seen */
+    struct file *by_changes; /* the file to which it leads after all changes; compared to find what wasn't seen */
     char *text;
     struct name *next_in_folder, *next_of_hash;
 };
 
-/* One part of a file's contents, or a change of names. */
+/* A change of one part of a file's contents, or of names. */
 struct change {
     enum kind kind;
     uint64_t noted;         /* its place in the notes */
     struct file *file;
-    uint64_t at, length;    /* of contents */
+    uint64_t at, length;    /* the place in the file, for contents */
     uint64_t bytes;         /* where they are in the notes */
-    bool later;             /* they aren't there */
+    bool later;             /* the bytes aren't in the notes */
     struct file *other_file, *folder, *other_folder;
     const char *name, *other_name;
-    bool lasts, other_lasts; /* a change in two folders lasts in each by itself */
-    bool lost;              /* the system takes these blocks for clean */
-    bool kept;              /* by this cut */
+    bool lasts, other_lasts; /* a change in two folders lasts in each separately */
+    bool lost;              /* a sync failed, and the system takes these blocks for clean */
+    bool kept;              /* whether this cut keeps it */
     char *shown;            /* its names, as shown_text has them */
     struct change *next_of_file;
 };
 
-/* Bytes that were noted late, as they were then; in the order of the notes. */
+/* A copy of bytes that had been noted without one. Copies are in the order of the notes. */
 struct late_copy {
     uint64_t noted, at, length, bytes;
     struct late_copy *next;
@@ -45,15 +45,15 @@ struct late_copy {
 
 struct file {
     struct key key;
-    const char *target;     /* of a symbolic link */
-    bool in_base;           /* it was there as the run began */
-    struct name *names;     /* of a folder */
-    struct change *first, *last; /* of its contents */
+    const char *target;     /* the target of a symbolic link */
+    bool in_base;           /* it was there when the run began */
+    struct name *names;     /* the names in a folder */
+    struct change *first, *last; /* changes of its contents */
     struct late_copy *first_copy, *last_copy;
-    struct changes contents, lost, entries, names_of_it; /* what waits for a sync: of its bytes, in it, of a name of it */
+    struct changes contents, lost, entries, names_of_it; /* those that wait for a sync: of its bytes, lost ones, of names in it, of its own names */
     struct file *known_folder; /* a name that it has or had */
     const char *known_name;
-    char *laid;             /* where a cut laid it */
+    char *laid;             /* the path at which a cut laid it out */
     bool being_laid;
     struct file *next_of_hash;
 };
@@ -66,8 +66,8 @@ struct replay {
     uint64_t noted, block;
     enum names_last names_last;
     bool forgets;
-    struct changes changes, pending;         /* all, and those that don't last; in the order in which they were made */
-    struct changes all_names, all_contents;  /* what waits for a sync of anything */
+    struct changes changes, pending;         /* all changes, and those that don't last, in the order in which they were made */
+    struct changes all_names, all_contents;  /* changes that wait for a sync of anything */
     struct file *root, *files[HASHES];
     struct name *names[HASHES];
 };
@@ -80,18 +80,18 @@ static inline bool is_contents(const struct change *change) { return change->kin
 
 void add_to(struct changes *changes, struct change *change);
 
-/* Lets names be as they were as the run began, then as the changes that last or are kept leave them; or as all leave them. */
+/* Sets the names as they were when the run began, and then as the changes that last or are kept leave them, or as all changes do. */
 void names_of_changes(struct replay *replay, bool all);
 
-/* Lets names be as a book has them, with the modes that files have there. */
+/* Sets the names as a book has them, with the modes that the files have there. */
 void names_of_book(struct replay *replay, const char *book);
 
 struct file *file_of(struct replay *replay, const struct key *key);
 
-/* The path under the root of a name in a folder. */
+/* The path below the root of a name in a folder. */
 char *path_of(const struct file *folder, const char *name);
 
-/* A text as a line may hold it: control bytes and backslashes as `\\ooo`. */
+/* A text for one line: control bytes and backslashes are written as `\\ooo`. */
 char *shown_text(const char *text);
 
 #endif

@@ -44,7 +44,8 @@ static struct identity identity_of(const struct statx *told) {
     };
 }
 
-/* Of the same file system a mount tells itself by its number alone. A folder of another file system may be there without a mount. */
+/* Looks at a name and refuses what is mounted there. A mount of the same file system shows only by its number, and a folder of another file system
+   may be there without a mount. */
 static void look_below(const struct tree *tree, int folder, const char *name, struct statx *told) {
     look_at(folder, name, told);
     if (told->stx_mnt_id != tree->mount) refuse_below(folder, name, "something is mounted here, below ROOT: nothing is emptied");
@@ -68,7 +69,7 @@ void open_tree(struct tree *tree, const char *path) {
         refuse(path, S_ISLNK(itself.st_mode) ? "a symbolic link, and not a folder itself" : "not a folder");
     must(tree->folder >= 0, path);
     look_at(tree->folder, "", &told);
-    if (!(told.stx_mask & STATX_MNT_ID)) refuse(path, "the system doesn't tell what is mounted below: Linux does from 5.8 on");
+    if (!(told.stx_mask & STATX_MNT_ID)) refuse(path, "the system can't say what is mounted below it; Linux can since 5.8");
     errno = ENOTSUP;
     must(told.stx_mask & STATX_BTIME, path);
     tree->identity = identity_of(&told);
@@ -101,7 +102,7 @@ const char *next_name(DIR *names) {
 
 /* ---- all that is below */
 
-/* What can't be read is looked into when it is emptied. */
+/* A folder that can't be read is checked only when it is emptied. */
 static void check_folder(const struct tree *tree, int above, const char *name) {
     DIR *names = names_below(tree, above, name);
     for (const char *below; (below = next_name(names));) {
@@ -113,7 +114,7 @@ static void check_folder(const struct tree *tree, int above, const char *name) {
 
 void check_tree(const struct tree *tree) { check_folder(tree, tree->folder, "."); }
 
-/* So that what can't be read or written is taken away too. */
+/* Makes a folder readable and writable, so that it can be emptied. */
 static void make_open(const struct tree *tree, int above, const char *name) {
     char link[64];
     struct statx told;

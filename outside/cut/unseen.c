@@ -10,7 +10,7 @@
 #include <sys/stat.h>
 #include <unistd.h>
 
-/* ---- what the script changes itself: its names under the root, each with a byte of zero */
+/* ---- the names under the root that the script changes itself: each ends with a byte of zero */
 
 static FILE *open_expected(const char *run, const char *mode) {
     char path[LONG_PATH];
@@ -24,13 +24,13 @@ void expect_names(const char *run, char **names, int count) {
     for (int i = 0; i < count; i++) {
         size_t length = strlen(names[i]);
         while (length > 0 && names[i][length - 1] == '/') length--;
-        if (!length || names[i][0] == '/') refuse(names[i], "a name under ROOT is wanted, as `pending` tells it");
+        if (!length || names[i][0] == '/') refuse(names[i], "give a name below ROOT, as `pending` prints it");
         fprintf(out, "%.*s%c", (int)length, names[i], 0);
     }
     must(!fclose(out), run);
 }
 
-/* A folder's name stands for all that is in it. */
+/* Whether the script named this path, or a folder above it. */
 static bool is_expected(const char *run, const char *path) {
     char *name = NULL;
     size_t size = 0;
@@ -47,7 +47,7 @@ static bool is_expected(const char *run, const char *path) {
 
 /* ---- a file's contents */
 
-/* Whether a file's changes, all of them, give what it held at the cut. */
+/* Whether all changes of a file together give the contents that it had at the cut. */
 static bool is_explained(const struct replay *replay, const struct file *file) {
     char path[LONG_PATH];
     int live, base, out;
@@ -81,7 +81,7 @@ static void add_path(struct paths *paths, char *path) {
     paths->first[paths->count++] = path;
 }
 
-/* The names that the changes give, beside those that were there. */
+/* The paths that lead to another file at the cut than after all changes, or to a file with other contents. */
 static struct paths unseen_paths(struct replay *replay) {
     struct paths paths = {0};
     names_of_changes(replay, true);
@@ -99,7 +99,7 @@ static struct paths unseen_paths(struct replay *replay) {
 
 static int by_text(const void *one, const void *other) { return strcmp(*(char *const *)one, *(char *const *)other); }
 
-/* The first of them in a line. */
+/* The first few of these paths, in one line. */
 static char *told_paths(const struct paths *paths) {
     enum { MOST_TOLD = 5 };
     char *text = NULL;

@@ -1,5 +1,5 @@
-"""copies.py FOLDER NAME..: how many whole copies of FOLDER's message0, message1 and message2 the NAMEs hold: mboxes, or folders with a
-file for each message. Ends with 1, and says where, if something is there that is no whole message."""
+"""copies.py FOLDER NAME..: prints how many whole copies of FOLDER's message0, message1 and message2 the NAMEs hold. A NAME is an mbox, or
+a folder with a file for each message. If something there is no whole message, it says where, and ends with 1."""
 import os
 import re
 import sys

@@ -1,7 +1,7 @@
-# What the programs of the examples of mail systems share: sourced. The system delivers messages 1 and 2, each by a process of its own; message 0 was there
-# before. The messages are none of the data. torn: something stands there that is no whole message. lost: a message isn't there though its
-# process answered 0, or one that was there before isn't. twice: a message is there more than once, though its process answered 0.
-# bounced: the sender is told that it can't be delivered, where trying again would do. crashed: a signal.
+# The programs of the examples of mail systems source this file. The system delivers messages 1 and 2, each by a process of its own; message 0 was there
+# before. The messages to deliver aren't part of the data. The judge says torn if something in the mailbox is no whole message, lost if a message is missing
+# though its process ended with 0, or if message 0 is missing, twice if a message is there more than once though its process ended with 0, bounced if the
+# exit status sends a message back to its sender, though trying again would do, and crashed after a signal.
 
 # message N: its text, of more than two blocks
 message() {
@@ -27,8 +27,8 @@ broken() {
     exit 1
 }
 
-# statuses: what the two processes ended with (sysexits.h): 0 took the message, 75 (EX_TEMPFAIL) leaves it with the sender, who tries again; all else sends it
-# back, or tells nothing.
+# statuses: checks what the two processes ended with (sysexits.h). With 0 the message is taken. With 75 (EX_TEMPFAIL) the sender still has it, and tries again.
+# Any other status sends the message back, or says nothing about it.
 statuses() {
     while read -r number status; do
         case $status in

@@ -1,7 +1,8 @@
-"""A campaign over a program of one's own: what `outside/loop` does, and `outside/new`.
+"""Campaigns of the user's own program: the commands `outside/loop` and `outside/new`.
 
-command.py reads the words; campaign.py asks (paklour.py), has it tried, keeps the answers (answers.py). script.py tries by a script of the user's.
-A harness (definition.py, settings.py) is tried by whole.py: workers.py has scenarios decided side by side, deciding.py says by which run, or from
-which it follows (records.py, scenario.py), run.py makes a run in a folder of work.py by the programs of programs.py, judging.py judges what is left
-(tree.py, served.py, step.py). What runs may take is bounded by room.py (bounds.py, disk.py). telling.py and watching.py say it in words. shard.py
-divides it among machines. processes.py ends all that was begun."""
+command.py reads the arguments. campaign.py asks which scenarios are to be tried (paklour.py), lets an engine try them, and records the answers
+(answers.py). script.py is the engine for a script of the user. whole.py is the engine for a harness (definition.py, settings.py): workers.py has
+threads that decide scenarios, deciding.py makes a run for a scenario or derives its result from another run (records.py, scenario.py), run.py makes
+a run in a folder of work.py with the programs of programs.py, and judging.py judges what is left (tree.py, served.py, step.py). room.py limits what
+runs may take (bounds.py, disk.py). telling.py and watching.py print results for a person. shard.py divides a campaign among machines. processes.py
+ends all that was started. making.py writes a harness."""

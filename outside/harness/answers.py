@@ -1,4 +1,4 @@
-"""The file of answers, a line for each run: all that is known of a campaign."""
+"""The file of answers, which has a line for each run and so all that is known of a campaign."""
 
 import errno
 import fcntl
@@ -6,13 +6,13 @@ import os
 from pathlib import Path
 
 MOST = 1048576  # bytes of an answer, with the end of its line
-WRITE_FAILED = 4  # the status where something can't be written
-DIFFERS = 5  # that where a second run told otherwise than the first
+WRITE_FAILED = 4  # the exit status if something can't be written
+DIFFERS = 5  # the exit status if a second run came out otherwise than the first
 NO_ROOM = {errno.ENOSPC, errno.EDQUOT, errno.EFBIG, errno.EIO}
 
 
 class Stopped(Exception):
-    """What ends a campaign: a line for a person, and the status."""
+    """Ends a campaign, with a line for a person and an exit status."""
 
     def __init__(self, line: str, status: int = 2):
         super().__init__(line)
@@ -21,8 +21,13 @@ class Stopped(Exception):
 
 
 def stopped_by(error: OSError) -> Stopped:
-    """A call on a file of the campaign that failed, where nothing more can be said of it."""
+    """The end of a campaign after a call on one of its files failed."""
     return Stopped(f"{error.filename or 'a file'}: {error.strerror}", WRITE_FAILED if error.errno in NO_ROOM else 2)
+
+
+def changed(what: str, first: str, then: str, scenario: str) -> str:
+    """The line for a scenario whose second run gave another verdict than the first, or other hits."""
+    return f"the {what} changed from {first or 'none'} to {then or 'none'}: {scenario}"
 
 
 def whole_lines(text: bytes) -> list[str]:
@@ -30,7 +35,7 @@ def whole_lines(text: bytes) -> list[str]:
 
 
 class Answers:
-    """One loop at a time has them. Stopped at any moment, it goes on by them later."""
+    """The answers of a campaign. Only one loop at a time has them open; if it is stopped, a later one goes on from them."""
 
     def __init__(self, path: str):
         self.path = path
@@ -41,7 +46,7 @@ class Answers:
         try:
             fcntl.flock(self.file, fcntl.LOCK_EX | fcntl.LOCK_NB)
         except BlockingIOError as error:
-            raise Stopped(f"another loop writes to {path}") from error
+            raise Stopped(f"another loop is writing to {path}: wait until it has ended, or stop it") from error
         lines = self.lines()
         self.count = len(lines)
         self.failing = sum(line.startswith("fail") for line in lines)
@@ -50,11 +55,11 @@ class Answers:
         return Path(self.path).read_bytes()
 
     def lines(self) -> list[str]:
-        """Those that end: what a killed writer left of the last one is none."""
+        """The lines that have an end. If a writer was killed in the last line, that line isn't among them."""
         return whole_lines(self.text())
 
     def cut_torn(self) -> None:
-        """Takes back what is behind the last whole line."""
+        """Cuts off what is behind the last whole line."""
         os.truncate(self.path, self.text().rfind(b"\n") + 1)
 
     def keep(self, answer: str) -> None:
@@ -65,6 +70,6 @@ class Answers:
                 written += os.write(self.file, line[written:])
         except OSError as error:
             self.cut_torn()
-            raise Stopped(f"an answer can't be written to {self.path}") from error
+            raise Stopped(f"{self.path}: an answer can't be written: {error.strerror}") from error
         self.count += 1
         self.failing += answer.startswith("fail")

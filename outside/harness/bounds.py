@@ -1,25 +1,26 @@
-"""What one run may do."""
+"""The limits of one run: time, bytes and hits."""
 
 from dataclasses import dataclass
 from pathlib import Path
 
 from . import tree
-from .trace import MOST_HITS, hits_too_often
+from .trace import MOST_HITS, hits_too_often, length_of
 
-TEXTS = ("said", "said_again", "errors", "judged", "run/changes")
+TEXTS = ("said", "said_again", "errors", "judged")
+NOTES = ("run", "rewound")  # the folders of the notes of a run. The second has those of `again`, and before it the hits of `run`
 
 
 @dataclass
 class Bounds:
-    seconds: int  # of each of its programs
-    most: int  # bytes that it writes
+    seconds: int  # that each program of the run may take
+    most: int  # bytes that the run may write
 
     def passed(self, folder: Path) -> str:
-        """Which bound a run has passed, or an empty text."""
-        texts = [folder / name for name in TEXTS]
-        written = tree.size(folder / "data") + tree.size(folder / "tmp") + sum(path.stat().st_size for path in texts if path.exists())
+        """The limit that a run has passed, as a text, or an empty text."""
+        noted = max(length_of(folder / notes / "changes") for notes in NOTES)
+        written = tree.size(folder / "data") + tree.size(folder / "tmp") + sum(length_of(folder / name) for name in TEXTS) + noted
         if written > self.most:
-            return f"it wrote more than {self.most} bytes"
-        if hits_too_often(folder / "run"):
+            return f"it wrote more than {self.most} bytes (--bytes)"
+        if any(hits_too_often(folder / notes) for notes in NOTES):
             return f"it hit more than {MOST_HITS} points"
         return ""

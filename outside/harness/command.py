@@ -1,4 +1,4 @@
-"""The command `loop`: its words, and its end."""
+"""The command `loop`: its arguments and its exit status."""
 
 import os
 import shlex
@@ -11,7 +11,7 @@ from .bounds import Bounds
 from .campaign import Campaign
 from .disk import disk_of
 from .paklour import Paklour
-from .processes import WITHIN, Processes
+from .processes import OUTSIDE, WITHIN, Processes
 from .records import Records
 from .room import Room
 from .run import Runner
@@ -37,17 +37,17 @@ def on_signal(number: int, frame: object) -> None:
 
 def tell_unbuilt() -> None:
     if not os.access(WITHIN, os.X_OK):
-        show(f"loop: not built: {WITHIN} (make -C outside): what a run leaves running lives on")
+        show(f"loop: {WITHIN} isn't built, so processes that a run leaves behind aren't ended: call make -C {OUTSIDE}")
 
 
 def refuse_others(options: dict[str, str], others: set[str], of: str) -> None:
-    """One that has no meaning here isn't passed over."""
+    """Refuses options that have no meaning here."""
     for word in options.keys() & others:
-        raise Stopped(f"{word} is an option of {of}")
+        raise Stopped(f"{word} can be used only with {of}")
 
 
 def script_words(options: dict[str, str], rest: list[str]) -> tuple[str, str, str, list[str]]:
-    """SETTINGS ANSWERS TRY, and GNU parallel's own words; `--script TRY` may stand before."""
+    """SETTINGS, ANSWERS, TRY and GNU parallel's own arguments. TRY may also be given by `--script TRY`."""
     given, behind = (rest[:rest.index("--")], rest[rest.index("--") + 1:]) if "--" in rest else (rest, [])
     if "--script" in options:
         given = [*given, options["--script"]]
@@ -80,7 +80,7 @@ def run_script(options: dict[str, str], rest: list[str], processes: Processes) -
 
 
 def script_report(options: dict[str, str], campaign: Campaign, tries: script.Tries) -> int:
-    """Writes the report, and runs what fails once more."""
+    """Prints the report, and runs each failing plan once more."""
     paklour = campaign.paklour
     status, report = paklour.report(*(["--strict"] if "--strict" in options else []))
     write_out(paklour.report("--brief", tells=False)[1] if "--brief" in options else report)
@@ -98,7 +98,7 @@ def asked_of(loop: str, options: dict[str, str], path: str) -> Asked:
 
 
 def run_harness(loop: str, options: dict[str, str], path: str, processes: Processes) -> int:
-    """Has the files beside the harness, or in the folder that is named."""
+    """Runs a campaign of a harness. Its files lie beside the harness, or in the folder of `--into`."""
     refuse_others(options, OF_SCRIPT, "a script")
     programs.check_built()
     harness = definition.read(path)
@@ -111,7 +111,7 @@ def run_harness(loop: str, options: dict[str, str], path: str, processes: Proces
     note = None if "--try" in options else Note(answers, own, "--every-run" in options)
     if "--join" in options:
         join(Path(options["--join"]), own, answers)
-    settings = Settings(harness, folder, answers, options.get("--settings"), depth_of(options), kinds_of(options))
+    settings = Settings(harness, folder, answers, options.get("--settings"), depth_of(options), kinds_of(options), keeps="--try" in options)
     harness.order = "next" if NEXT in settings.points else harness.order
     work = Work(note)
     try:

@@ -1,8 +1,8 @@
-"""What becomes of each scenario that is asked: by a run, or by what follows from one that was made.
+"""Finds the outcome of each scenario, by a run of its own or from another run.
 
-A run that ends by a panic is another's up to there. What the power cut keeps or tears is another cut of the same run. So the run with the other
-faults is made once, and the rest is laid out from its notes. One in twenty of what follows is run and judged all the same, and has to come out
-alike."""
+A run that ends by a panic is the same as another run up to that hit. What the power cut keeps or tears is another cut of the same run. So the run
+with the other faults is made once, and the rest is laid out from its notes. One in twenty of the derived outcomes is run and judged all the same,
+and must come out alike."""
 
 import hashlib
 import shutil
@@ -11,7 +11,7 @@ from dataclasses import dataclass, replace
 from pathlib import Path
 
 from . import tree
-from .answers import DIFFERS, Stopped
+from .answers import DIFFERS, Stopped, changed
 from .definition import ALL_STATES, Harness
 from .judging import PASS, UNRESOLVED, Judge, Judgement, LooksUp
 from .outcome import Outcome
@@ -22,12 +22,12 @@ from .run import Runner
 from .scenario import POWER, Scenario, Unreadable, hits_text, keeping, scenario_of
 from .trace import MARKS, points_trace, trace_of
 
-ONE_IN = 20  # of what follows is tried
+ONE_IN = 20  # of so many derived outcomes one is run as a check
 NAMES = {"create", "mkdir", "symlink", "link", "unlink", "rmdir", "rename", "exchange"}
 
 
 class Differs(Exception):
-    """What followed isn't what a run says."""
+    """An outcome that was derived from another run differs from the outcome of the scenario's own run."""
 
     def __init__(self, followed: Outcome, tried: Outcome):
         super().__init__(followed.scenario)
@@ -37,7 +37,7 @@ class Differs(Exception):
 
 @dataclass(frozen=True)
 class Ended:
-    """What came of a run that was ended at a hit. There may be ten thousands of them, so it has no whole trace."""
+    """The outcome of a run that was ended at a hit. There may be tens of thousands of them, so it has no whole trace."""
 
     hit: int
     rest: str  # lines of its trace, from that hit on
@@ -45,7 +45,7 @@ class Ended:
     pending: list[list[str]]
 
     def outcome_at(self, hit: int, scenario: str, trace: list[list[str]]) -> Outcome:
-        """Of another hit at the same place; the trace is that of the known run up to there."""
+        """The outcome for another hit at the same place. `trace` is the trace of the known run up to that hit."""
         end, *asked = [line.split("\t") for line in self.rest.split("\n")]
         trace[-1][3] = end[3]
         later = [[str(int(number) + hit - self.hit), *fields] for number, *fields in asked]
@@ -58,15 +58,15 @@ def ended(outcome: Outcome, hit: int) -> Ended:
 
 
 def is_tried(scenario: str) -> bool:
-    """The same ones each time."""
+    """Whether this derived scenario is run all the same. The choice is the same in each campaign."""
     return int.from_bytes(hashlib.sha256(scenario.encode("utf-8", "surrogateescape")).digest()[:8], "big") % ONE_IN == 0
 
 
 def meet(outcome: Outcome, folder: Path) -> None:
-    """Where no hits are told, those of a client count too, which have no place among the others. A fault that is never met wasn't tried."""
+    """Without a depth, adds a client's hits behind the others, since nobody knows their place. If no fault was met, the run is unresolved."""
     outcome.trace += points_trace(folder, len(outcome.trace))
     if outcome.scenario != "none" and all(hit[3] == "go" for hit in outcome.trace):
-        outcome.judgement = Judgement(UNRESOLVED, "no fault of it was met")
+        outcome.judgement = Judgement(UNRESOLVED, "the run met none of its faults")
 
 
 class Decider:
@@ -77,17 +77,17 @@ class Decider:
         self.harness: Harness = runner.harness
         self.judge = Judge(runner)
         self.records = runner.room.records
-        self.asking = asking  # the state of a power cut that asks the scenario; None where it isn't asked
-        self.depth = depth  # a run with so many faults has no others that follow
-        self.every_run = every_run or not depth  # without a depth no run has to have the hits of another
+        self.asking = asking  # the state of the power cut if the scenario says what it keeps, otherwise None
+        self.depth = depth  # nothing is derived from a run with so many faults
+        self.every_run = every_run or not depth  # without a depth, runs need not repeat each other's hits
         self.tried = 0
         self.followed = 0
         self.made_bases: set[Key] = set()
-        self.places: dict[tuple, Ended] = {}  # where a run was ended, and what came of it
+        self.places: dict[tuple, Ended] = {}  # the outcomes of runs that were ended, by the place where they were
         self.lock = threading.Lock()
 
     def base_of(self, text: str) -> tuple[Key, int] | None:
-        """The known run from which this one follows."""
+        """The known run from which this scenario's outcome can be derived, and the hit at which it ends, if there is such a run."""
         try:
             scenario = Scenario(text)
             return None if self.every_run or scenario.is_endless() else self.records.base_of(scenario)
@@ -95,7 +95,7 @@ class Decider:
             return None
 
     def make_base(self, text: str) -> None:
-        """After a stop nothing is known of the runs before: the one from which this scenario's should follow is made, once."""
+        """Makes, once, the run from which this scenario's outcome can be derived. A campaign that goes on after a stop has no runs yet."""
         try:
             scenario = Scenario(text)
             key = lasting_faults(scenario)
@@ -127,7 +127,7 @@ class Decider:
         return outcome
 
     def try_out(self, followed: Outcome) -> Outcome:
-        """Runs and judges it, whatever is known of it."""
+        """Runs and judges a scenario whose outcome was derived, and compares the two."""
         tried = self.run(followed.scenario, LooksUp.NONE)
         with self.lock:
             self.tried += 1
@@ -139,7 +139,7 @@ class Decider:
         return self.room.within(lambda: self.run(text, looks_up))
 
     def passes(self, **variables: str) -> bool:
-        """Whether the run without faults does, with these in the environment of its programs."""
+        """Whether the run without faults passes with these variables in the environment of its programs."""
         decider = Decider(self.runner.with_variables(**variables), self.asking, self.depth, every_run=True)
         return decider.run_again("none", LooksUp.NONE).verdict == PASS
 
@@ -162,7 +162,7 @@ class Decider:
             self.room.make_way()
 
     def follow(self, text: str, key: Key, hit: int) -> Outcome | None:
-        """Lays it out from the run that it follows from, which is made again where it wasn't kept; None where that run doesn't tell."""
+        """Derives the outcome from a known run, which is made again if its files are gone. None if it can't be derived from that run."""
         record = self.records.take(key)
         if record:
             self.room.begin(record.folder)
@@ -175,7 +175,7 @@ class Decider:
         return outcome
 
     def ended_at(self, record: Record, key: Key, hit: int, text: str) -> Outcome | None:
-        """A run that ends between the same two changes as another leaves what that one left: as before each of two reads."""
+        """The outcome of a run that ends at a hit. If there is no change between two hits, such as two reads, a run that ends at either leaves the same."""
         if "again" in self.harness.steps or hit > len(record.points):
             return self.finish(record, hit, text, LooksUp.ALL)
         place = key, *record.place(hit), *(piece for piece in text.split(";") if piece.strip().startswith(POWER))
@@ -190,13 +190,13 @@ class Decider:
         record = self.runner.make(scenario_of(key))
         before = self.records.points[key]
         if record.points != before and not record.why:
-            raise Stopped(f"other hits: {hits_text(before)}, then {hits_text(record.points)}: {record.scenario}", DIFFERS)
+            raise Stopped(changed("hits", hits_text(before), hits_text(record.points), record.scenario), DIFFERS)
         return record
 
     # ---- from the end of a run to its judgement
 
     def finish(self, record: Record, hit: int, text: str, looks_up: LooksUp) -> Outcome | None:
-        """Cuts the power of a run at that hit, goes on where the harness has an `again`, and judges what is left."""
+        """Cuts the power of a run at that hit, runs `again` if the harness has one, and judges what is left."""
         if record.why:
             return Outcome(text, Judgement(UNRESOLVED, record.why), trace_of(record.run))
         try:
@@ -225,13 +225,13 @@ class Decider:
         return self.cut_and_judge(record.folder, run, text, said, looks_up, lays_states=is_end)
 
     def go_on(self, record: Record, run: Path, text: str, said: bytes, looks_up: LooksUp) -> Outcome:
-        """Recovery under the same scenario, from what the power cut left."""
+        """Runs recovery under the same scenario, from what the power cut left."""
         more = record.said_again
         more.unlink(missing_ok=True)
         state = [self.asking, text] if self.asking else ["lasting"]
         pending = self.tools.pending(run) if "power::" in text else []
         if not self.tools.cut(run, record.data, *state, goes_on=True):
-            return Outcome(text, Judgement(UNRESOLVED, "the scenario pauses"), trace_of(run))
+            return Outcome(text, Judgement(UNRESOLVED, "the scenario has a pause"), trace_of(run))
         (run / MARKS).touch()
         _, why = self.runner.under("again", run, record.folder, text, more)
         if why:
@@ -246,7 +246,7 @@ class Decider:
         judgements = []
         for state in self.states(run, text, lays_states):
             if not self.tools.cut(run, folder / "data", *state):
-                return Outcome(text, Judgement(UNRESOLVED, "the scenario pauses"), trace_of(run))
+                return Outcome(text, Judgement(UNRESOLVED, "the scenario has a pause"), trace_of(run))
             if self.asking:
                 trace = trace_of(run)
             judgements.append(self.judge.judge(folder, said, looks_up))
@@ -260,8 +260,8 @@ class Decider:
         return outcome
 
     def states(self, run: Path, text: str, lays_states: bool) -> list[list[str]]:
-        """Words for the cut, of states that differ by what they keep of what is pending. Of a run that goes on elsewhere what is there isn't
-        known as it is, but all changes are."""
+        """The arguments of the cut for each state that keeps other pending changes. If the run was rewound to a hit, the files themselves aren't
+        known, but all changes are."""
         if self.asking:
             return [[self.asking, text]]
         changes = self.tools.pending(run)

@@ -1,8 +1,9 @@
-"""A harness: how a program is prepared, run, run again after a power cut, and judged. A folder with up to four programs of these names, or a
-file of Python, which defines them as functions or commands. A file of Python in the folder says more of the programs beside it."""
+"""A harness, which says how a program is prepared, run, run again after a power cut, and judged. It is a folder with up to four programs of these
+names, or a file of Python that defines them as functions or commands. A file of Python in the folder may add to the programs beside it."""
 
 import json
 import os
+import shlex
 import subprocess
 import sys
 from dataclasses import dataclass, field
@@ -15,6 +16,7 @@ from .step import STEPS
 STEP = Path(__file__).resolve().with_name("step.py")
 PYTHON_FILE = "harness.py"
 ALL_STATES = ("lasting", "names", "contents", "live")
+ORDERS = ("settled", "arrival")
 VARIABLES = ("FAULTS_SYNC", "FAULTS_BLOCK", "FAULTS_FSYNC", "FAULTS_POINTS", "FAULTS_SOCKETS")
 
 
@@ -23,18 +25,18 @@ class Harness:
     name: str
     folder: Path
     steps: dict[str, list[str]]
-    file: Path | None = None  # of Python
-    others: list[Path] = field(default_factory=list)  # files of which it consists beside these: programs that it names by their paths, modules
-    commands: dict[str, str | list[str] | None] = field(default_factory=dict)  # the steps as the file has them
+    file: Path | None = None  # the file of Python, if it has one
+    others: list[Path] = field(default_factory=list)  # other files on which answers depend: programs named by their paths, and modules
+    commands: dict[str, str | list[str] | None] = field(default_factory=dict)  # the steps as the file of Python defines them
     functions: frozenset[str] = frozenset()  # the steps that are functions of Python
-    variables: dict[str, str] = field(default_factory=dict)  # of the environment of its programs
-    states: tuple[str, ...] = ()  # those that are judged where no power::keep is among the points; else what the scenario keeps
+    variables: dict[str, str] = field(default_factory=dict)  # for the environment of its programs
+    states: tuple[str, ...] = ()  # those that are judged if the settings don't list power::keep
     order: str = "settled"
     pins: bool = True
-    unjudged: tuple[str, ...] = ()  # patterns of names of files into which the judge doesn't look, as logs with times
+    unjudged: tuple[str, ...] = ()  # patterns of names of files into which the judge doesn't look, such as logs with times
 
     def identity(self, into: Path) -> Identity:
-        """Of a campaign that leaves its own files in that folder."""
+        """What answers depend on, for a campaign that writes its own files into that folder."""
         is_folder = not self.file or self.file.name == PYTHON_FILE
         files = [*files_in(self.folder, into)] if is_folder else [self.file]
         named = {name: os.environ[name] for name in VARIABLES if name in os.environ}
@@ -45,14 +47,14 @@ class Harness:
 def read(path: str) -> Harness:
     place = Path(path).resolve()
     if not place.exists():
-        raise Stopped(f"{path}: no such harness")
+        raise Stopped(f"{path}: there is no such harness; paklour-new writes one")
     file = place / PYTHON_FILE if place.is_dir() else place
     harness = read_folder(file.parent) if file.name == PYTHON_FILE else Harness(file.stem, file.parent, {})
     if file.exists():
         read_file(file, harness)
     for needed in ("run", "judge"):
         if needed not in harness.steps:
-            raise Stopped(f"{path}: a harness without `{needed}` says nothing")
+            raise Stopped(f"{path}: `{needed}` is missing: a harness has a program of this name, or a file of Python that defines it")
     return harness
 
 
@@ -60,7 +62,7 @@ def read_folder(place: Path) -> Harness:
     files = [place / name for name in STEPS if (place / name).exists()]
     for file in files:
         if not os.access(file, os.X_OK):
-            raise Stopped(f"{file} can't be run: chmod +x")
+            raise Stopped(f"{file} isn't executable: call chmod +x {shlex.quote(str(file))}")
     harness = Harness(place.name, place, {file.name: [str(file)] for file in files})
     patterns = place / "unjudged"
     if patterns.exists():
@@ -69,10 +71,10 @@ def read_folder(place: Path) -> Harness:
 
 
 def read_file(file: Path, harness: Harness) -> None:
-    """Adds what the file defines."""
+    """Adds to the harness what its file of Python defines."""
     done = subprocess.run([sys.executable, str(STEP), str(file)], capture_output=True, check=False)
     if done.returncode:
-        raise Stopped(f"{file}: {done.stderr.decode('utf-8', 'surrogateescape').strip() or 'it ends with ' + str(done.returncode)}")
+        raise Stopped(f"{file}: {done.stderr.decode('utf-8', 'surrogateescape').strip() or 'Python ended with status ' + str(done.returncode)}")
     told = json.loads(done.stdout.splitlines()[-1])
     harness.file = file
     harness.commands = {step: told[step] for step in STEPS if step in told}
@@ -85,13 +87,13 @@ def read_file(file: Path, harness: Harness) -> None:
     harness.states, harness.order, harness.pins = tuple(told.get("states", ())), told.get("order", "settled"), told.get("pin", True)
     harness.unjudged += tuple(told.get("unjudged", ()))
     if unknown := set(harness.states) - set(ALL_STATES):
-        raise Stopped(f"{file}: no such state: {', '.join(sorted(unknown))}")
-    if harness.order not in ("settled", "arrival"):
-        raise Stopped(f"{file}: no such order: {harness.order}")
+        raise Stopped(f"{file}: no such state: {', '.join(sorted(unknown))}; the states are {', '.join(ALL_STATES)}")
+    if harness.order not in ORDERS:
+        raise Stopped(f"{file}: no such order: {harness.order}; the orders are {', '.join(ORDERS)}")
 
 
 def words_of(file: Path, step: str, command: str | list[str] | None) -> list[str]:
-    """A function runs in a Python of its own, a text by the shell; the path of a program is that from the harness's folder."""
+    """The command of a step. A function runs in a Python of its own, and a text in the shell. A program's path begins at the harness's folder."""
     if command is None:
         return [sys.executable, str(STEP), str(file), step]
     if isinstance(command, str):

@@ -1,4 +1,4 @@
-"""What is free where a folder is: on a disk, or in memory."""
+"""The bytes that are free where a folder lies, on a disk or in memory."""
 
 import os
 from collections.abc import Iterator
@@ -12,7 +12,7 @@ OLDER = ("memory", "memory.limit_in_bytes", "memory.usage_in_bytes", "total_inac
 
 
 def kind_of(folder: str) -> str:
-    """Of the file system in which it is."""
+    """The kind of file system in which a folder lies."""
     device = os.stat(folder).st_dev
     number = f"{os.major(device)}:{os.minor(device)}"
     for mount in Path("/proc/self/mountinfo").read_text("utf-8", "surrogateescape").splitlines():
@@ -23,13 +23,13 @@ def kind_of(folder: str) -> str:
 
 
 def left_by(group: Path, most: str, taken: str, given_back: str) -> int:
-    """What a control group leaves its processes. What it keeps of files of a disk it gives back."""
+    """The memory that a control group leaves its processes. Cached contents of files count as free."""
     kept = [line.split(" ")[1] for line in (group / "memory.stat").read_text().splitlines() if line.startswith(f"{given_back} ")]
     return int((group / most).read_text()) - int((group / taken).read_text()) + int(kept[0])
 
 
 def left_by_groups() -> Iterator[int]:
-    """By each of the groups that bound this process's memory."""
+    """For each control group that limits this process, the memory that it leaves."""
     for line in Path("/proc/self/cgroup").read_text().splitlines():
         number, names, path = line.split(":", 2)
         if number != "0" and "memory" not in names.split(","):
@@ -40,7 +40,7 @@ def left_by_groups() -> Iterator[int]:
             try:
                 yield left_by(each, *files)
             except (OSError, ValueError, IndexError):
-                continue  # none that bounds, or that can be seen from here
+                continue  # this group has no limit, or can't be seen from here
 
 
 def free_memory() -> int:
@@ -51,7 +51,7 @@ def free_memory() -> int:
 
 @dataclass
 class Disk:
-    """Where a folder is."""
+    """The file system in which a folder lies."""
 
     folder: str
     is_in_memory: bool

@@ -1,4 +1,4 @@
-"""Whose answers are: all on which they depend here, but for a program that the harness calls by its name. Those of another harness say nothing of this one."""
+"""The identity of a harness: all that its answers depend on, except programs that it finds by the PATH. Answers of another harness are refused."""
 
 import hashlib
 import json
@@ -10,20 +10,20 @@ from typing import NoReturn
 
 from .answers import Stopped
 
-NOTE = "campaign.json"  # beside the answers: whose they are
-WRITTEN = {"answers", NOTE, "campaign.new", "settings.new", "report", "page.html", "junit.xml", "report.json"}  # by the loop, beside a harness
-TOLD = 3  # names of what isn't the same
+NOTE = "campaign.json"  # beside the answers: says to which harness they belong
+WRITTEN = {"answers", NOTE, "campaign.new", "settings.new", "report", "page.html", "junit.xml", "report.json"}  # files that the loop writes beside a harness
+TOLD = 3  # at most so many names of what differs are printed
 
 Identity = dict[str, object]  # as JSON has it
 
 
 def is_passed_over(name: str) -> bool:
-    """Hidden, or what Python and editors keep beside a file."""
+    """Whether a name is hidden, or of a file that Python or an editor leaves."""
     return name.startswith(".") or name.endswith("~") or name == "__pycache__"
 
 
 def is_settings(path: Path) -> bool:
-    """Of a campaign: answers go on with others, as with a greater depth."""
+    """Whether a file has settings of a campaign. Answers don't belong to them, so that they stay good for a greater depth."""
     if path.suffix != ".toml":
         return False
     try:
@@ -37,7 +37,7 @@ def refuse(error: OSError) -> NoReturn:
 
 
 def files_in(folder: Path, into: Path) -> Iterator[Path]:
-    """What a harness consists of: all that is in its folder and below, but settings, what campaigns leave there, and what is passed over."""
+    """The files of a harness: all in its folder and below, except settings, what campaigns leave there, and what is passed over."""
     for place, folders, names in os.walk(folder, onerror=refuse):
         here = Path(place)
         folders[:] = [name for name in folders if not is_passed_over(name) and here / name != into and not (here / name / NOTE).exists()]
@@ -48,7 +48,7 @@ def files_in(folder: Path, into: Path) -> Iterator[Path]:
 
 
 def digest_of(path: Path) -> str:
-    """Of a file's bytes, through a link too. A link to a folder, or to nothing, is told by where it leads."""
+    """The digest of a file's bytes, also through a link. For a link to a folder, or to nothing, it is the link's text."""
     if not path.is_file():
         return str(path.readlink()) if path.is_symlink() else ""
     try:
@@ -63,7 +63,7 @@ def digests(folder: Path, files: list[Path]) -> dict[str, str]:
 
 
 def differences(known: Identity, other: Identity) -> list[str]:
-    """The names of what isn't the same."""
+    """The names of what differs between two identities."""
     found = []
     for name in sorted(known.keys() | other.keys()):
         one, two = known.get(name), other.get(name)
@@ -75,22 +75,22 @@ def differences(known: Identity, other: Identity) -> list[str]:
 
 
 def noted(answers: Path) -> dict:
-    """What the note beside answers says; nothing where there is none."""
+    """What the note beside answers has, or an empty table if there is no note."""
     note = answers.with_name(NOTE)
     try:
         said = json.loads(note.read_text("utf-8")) if note.exists() else {}
     except (OSError, ValueError):
         said = None
     if not isinstance(said, dict):
-        raise Stopped(f"{note} isn't as a campaign leaves it: take it and {answers.name} away, and begin anew")
+        raise Stopped(f"{note} can't be read as the note of a campaign: delete it and {answers.name}, and start again")
     return said
 
 
 def refuse_others(answers: Path, own: Identity) -> None:
-    """Answers that the note beside them says to be those of another harness."""
+    """Refuses answers if the note beside them has the identity of another harness."""
     known = noted(answers).get("harness")
     if known == own:
         return
     names = differences(known, own) if isinstance(known, dict) else []
-    told = f", with another {', '.join(names[:TOLD])}" + " and more" * (len(names) > TOLD) if names else ""
-    raise Stopped(f"{answers} are those of another harness{told}: take them away, and begin anew")
+    other = f"a harness with another {', '.join(names[:TOLD])}" + " and more" * (len(names) > TOLD) if names else "another harness"
+    raise Stopped(f"{answers} belongs to {other}: delete it, and start again")

@@ -1,4 +1,4 @@
-"""What a power cut left, judged by the harness. The same promises over the same state are judged once."""
+"""Judges what a power cut left, by the harness. The same promises over the same state are judged once."""
 
 import hashlib
 import threading
@@ -17,12 +17,12 @@ PASS, UNRESOLVED = "pass", "unresolved"
 @dataclass(frozen=True)
 class Judgement:
     verdict: str
-    why: str = ""  # of an unresolved one
-    is_known: bool = False  # from another run
+    why: str = ""  # why it is unresolved
+    is_known: bool = False  # it was taken from another run
 
 
 class LooksUp(Enum):
-    """Which judgements are taken from others of the same state."""
+    """Which judgements may be taken from an earlier one of the same state."""
 
     NONE = "none"
     PASSES = "those that pass"
@@ -37,7 +37,7 @@ class Judge:
         self.lock = threading.Lock()
 
     def judge(self, folder: Path, said: bytes, looks_up: LooksUp) -> Judgement:
-        """Judges the data of a run's folder, or says what is known of its like."""
+        """Judges the data of a run's folder, or returns the known judgement of the same promises and state."""
         key = hashlib.sha256(said).digest() + tree.digest(folder / "data", self.runner.harness.unjudged)
         known = self.known.get(key) if looks_up != LooksUp.NONE else None
         if known and (looks_up == LooksUp.ALL or known.verdict == PASS):
@@ -64,6 +64,6 @@ class Judge:
 
 
 def code_of(output: Path) -> str:
-    """Its first line, as a code of settings."""
+    """The first line of the judge's output, in a form that settings can have."""
     first = output.read_bytes().split(b"\n", 1)[0].strip()
     return " ".join(plain(first, MOST_TEXT).split()) or "broken"

@@ -1,4 +1,4 @@
-"""The command `new`: writes a harness for a program that is there."""
+"""The command `paklour-new`, which writes a harness for a program that exists."""
 
 import os
 import shlex
@@ -9,74 +9,84 @@ from pathlib import Path
 
 from . import tree
 from .answers import WRITE_FAILED, Stopped, stopped_by
+from .identity import WRITTEN, is_passed_over
 from .shown import show, until_nobody_reads, write_out
 from .words import ASK_HELP, Usage, as_called, usage_of, write_help
 
-CANNOT = 1  # the status where the folder can't be made as it is asked for
+CANNOT = 1  # the exit status if the folder can't be made, or the command can't be run
+NAMES = {"prepare", "run", "again", "judge", "unjudged", "harness.py", "settings.toml", "expected", "message", *WRITTEN}  # that have a meaning in a harness
 
 PREPARE = """#!/bin/sh
-# Fills the data's folder, in which it is started: what is there when it ends lasts. From an empty folder a folder that is never synced is
-# found too; from a store that has some keys, what happens to old ones. Have a harness for each.
+# Fills the folder of the data, in which this script starts. What is there when it ends is on the disk, and each run begins with a copy of it.
+# For example, a program that changes a note may begin with an old one:
+#     printf old > note
+# A harness that begins with an empty folder also finds a folder that the program never syncs. One that begins with data finds old data that are
+# lost. So have one of each.
 """
 
 RUN = """#!/bin/sh
-# Is run under faults, in the data's folder. Each line that it writes is a promise: what it says has been done.
+# Runs the program under faults, in the folder of the data. Each line that is printed here, by the program too, is a promise: from then on it must be
+# true, whatever happens. A program that stores several things should print a line for each as soon as it is stored, for example: stored key
 {command} || exit
 echo done
 """
 
 JUDGE = """#!/bin/sh
-# Is run over what a power cut left, in its folder; the file "$SAID" has the promises. It ends with 0 where they are kept, and with 1 where one is
-# broken: its first line is a code for that. Anything else says nothing.
+# Checks the promises, in the folder as a power cut left it. The file "$SAID" has the lines that `run` printed until then. Exit with 0 if the promises
+# were kept. If one was broken, print a code that names it, such as lost, and exit with 1. With any other exit status the run has no verdict.
 grep -qx done "$SAID" || exit 0 # nothing was promised
-diff -r "$HARNESS/expected" . >&2 && exit 0 # what a run without faults left in an empty folder: what prepare makes has to be there too
+# The folder `expected` has what a run without faults left in an empty folder. If `prepare` makes files, add them there.
+diff -r "$HARNESS/expected" . >&2 && exit 0
 echo lost
 exit 1
 """
 
 SERVER_RUN = """#!/bin/sh
-# Is run under faults, in the data's folder. Each line that it writes is a promise: what it says has been done. Runs go side by side: let the server
-# have a socket under "$TMPDIR", which is each run's own, or with a fixed port have one run at a time, by -j 1.
-: > "$TMPDIR/output" # what an earlier start said is not this one's
+# Runs the server under faults, in the folder of the data. Each line that is printed here is a promise: from then on it must be true, whatever happens.
+# Several runs are made at once. So give the server a socket under "$TMPDIR", which each run has for itself. If it needs a fixed port, call
+# paklour-loop with -j 1.
+: > "$TMPDIR/output" # without the output of an earlier start
 setsid {command} >> "$TMPDIR/output" 2>&1 &
 server=$!
 until grep -qF {line} "$TMPDIR/output"; do
     kill -0 "$server" 2> "$TMPDIR/ended" || exit 1
     sleep 0.05
 done
-# Here it is asked for what has to last, and what it acknowledged is said, as
+# Send requests here, and print a line for each that the server acknowledged, for example:
 #     redis-cli -s socket set key value && echo 'set key'
 echo started
-kill -s KILL -- "-$server" # with its children; an orderly end hides what wasn't synced
+kill -s KILL -- "-$server" # with its children. An orderly shutdown would sync what wasn't synced, and so hide it
 wait
 exit 0
 """
 
 SERVER_JUDGE = """#!/bin/sh
-# Is run over what a power cut left, in its folder; the file "$SAID" has the promises. It ends with 0 where they are kept, and with 1 where one is
-# broken: its first line is a code for that. Anything else says nothing. This one looks whether the server starts again.
-: > "$TMPDIR/output" # what an earlier start said is not this one's
+# Checks the promises, in the folder as a power cut left it. The file "$SAID" has the lines that `run` printed until then. Exit with 0 if the promises
+# were kept. If one was broken, print a code that names it, such as lost, and exit with 1. With any other exit status the run has no verdict.
+# This judge only checks that the server starts again.
+: > "$TMPDIR/output" # without the output of an earlier start
 setsid {command} >> "$TMPDIR/output" 2>&1 &
 server=$!
 until grep -qF {line} "$TMPDIR/output"; do
     kill -0 "$server" 2> "$TMPDIR/ended" || {{ echo unopenable; exit 1; }}
     sleep 0.05
 done
-# Here it is asked for each promise of "$SAID", and one that is broken ends it: echo lost; exit 1
+# Ask the server here for everything that "$SAID" lists, for example:
+#     ! grep -qx 'set key' "$SAID" || [ "$(redis-cli -s socket get key)" = value ] || {{ echo lost; exit 1; }}
 kill -s KILL -- "-$server"
 exit 0
 """
 
 MAIL_RUN = """#!/bin/sh
-# Is run under faults, in the data's folder. Each line that it writes is a promise: what it says has been done.
+# Delivers a message under faults, in the folder of the data. Each line that is printed here is a promise: from then on it must be true, whatever happens.
 {command} < "$HARNESS/message" || exit
 echo delivered
 """
 
 MAIL_JUDGE = """#!/bin/sh
-# Is run over what a power cut left, in its folder; the file "$SAID" has the promises. It ends with 0 where they are kept, and with 1 where one is
-# broken: its first line is a code for that. Anything else says nothing.
-grep -qx delivered "$SAID" || exit 0 # whoever sent it has it still
+# Checks the promises, in the folder as a power cut left it. The file "$SAID" has the lines that `run` printed until then. Exit with 0 if the promises
+# were kept. If one was broken, print a code that names it, such as lost, and exit with 1. With any other exit status the run has no verdict.
+grep -qx delivered "$SAID" || exit 0 # nothing was promised: the sender still has the message
 grep -rqxF 'This line is the last.' . && exit 0
 grep -rqxF 'This line is the first.' . && { echo torn; exit 1; }
 echo lost
@@ -99,19 +109,27 @@ def write(path: Path, text: str) -> None:
 
 
 def expect(folder: Path) -> None:
-    """Keeps what a run without faults leaves; without one there is nothing to judge by."""
+    """Makes a run without faults, and copies the files that it leaves into `expected`, for the judge to compare."""
     with tempfile.TemporaryDirectory() as place:
         data = Path(place) / "data"
         data.mkdir()
         environment = os.environ | {"HARNESS": str(folder), "TMPDIR": place}
         done = subprocess.run([folder / "run"], cwd=data, env=environment, stdout=subprocess.PIPE, check=False)
         if done.returncode:
-            raise Stopped(f"the command ends with {done.returncode} in an empty folder: let prepare fill it, and run's words be right", CANNOT)
+            raise Stopped(f"the command ended with {done.returncode} in an empty folder, so {folder}/expected is missing. Let {folder}/prepare make what the "
+                f"command needs, and let {folder}/judge check the promises without that folder", CANNOT)
         tree.copy(str(data), str(folder / "expected"))
 
 
-def words_of(words: list[str]) -> tuple[str, str, Path, str]:
-    """Which form, the line of a server, the folder, the command."""
+def link(program: str, folder: Path) -> None:
+    """Links a program that was named by its path into the harness, so that answers belong to it too."""
+    name = os.path.basename(program)
+    if "/" in program and name not in NAMES and not is_passed_over(name) and os.access(program, os.R_OK):
+        (folder / name).symlink_to(os.path.relpath(program, folder))
+
+
+def words_of(words: list[str]) -> tuple[str, str, Path, list[str]]:
+    """The form of the harness, the line that says that a server is ready, the harness's folder, and the command."""
     form, line = "command", ""
     if words[:1] == ["--server"]:
         form, line, words = "server", *words[1:2], words[2:]
@@ -120,27 +138,29 @@ def words_of(words: list[str]) -> tuple[str, str, Path, str]:
     if len(words) < 2 or words[0].startswith("-"):
         raise Usage
     if not (program := shutil.which(words[1])):
-        raise Stopped(f"no such program: {words[1]}", CANNOT)
+        raise Stopped(f"there is no such program: {words[1]}", CANNOT)
     command = [os.path.abspath(program) if "/" in words[1] else words[1], *words[2:]]
-    return form, line, Path(words[0]).resolve(), shlex.join(command)
+    return form, line, Path(words[0]).resolve(), command
 
 
 def loop_beside(new: str) -> str:
-    """`paklour-loop` beside `paklour-new`, `loop` beside `new`."""
+    """The name of the loop: `paklour-loop` beside `paklour-new`, `loop` beside `new`."""
     return as_called(os.path.join(os.path.dirname(new), os.path.basename(new).removesuffix("new") + "loop"))
 
 
-def make(form: str, line: str, folder: Path, command: str) -> None:
+def make(form: str, line: str, folder: Path, words: list[str]) -> None:
     try:
         folder.mkdir()
     except FileExistsError as error:
-        raise Stopped(f"{folder} is there", CANNOT) from error
+        raise Stopped(f"{folder} exists already: delete it, or give another name", CANNOT) from error
     except OSError as error:
         raise Stopped(f"{folder}: {error.strerror}", CANNOT) from error
+    command = shlex.join(words)
     run, judge = {"command": (RUN, JUDGE), "server": (SERVER_RUN, SERVER_JUDGE), "mail": (MAIL_RUN, MAIL_JUDGE)}[form]
     write(folder / "prepare", PREPARE)
     write(folder / "run", run.format(command=command, line=shlex.quote(line)))
     write(folder / "judge", judge.format(command=command, line=shlex.quote(line)) if form == "server" else judge)
+    link(words[0], folder)
     if form == "mail":
         (folder / "message").write_text(MESSAGE)
     if form == "command":

@@ -1,4 +1,4 @@
-"""What became of a scenario."""
+"""The outcome of a scenario: its judgement and its hits."""
 
 from dataclasses import dataclass, field
 
@@ -12,8 +12,8 @@ class Outcome:
     scenario: str
     judgement: Judgement
     trace: list[list[str]]
-    pending: list[list[str]] = field(default_factory=list)  # at its cuts, one after another: of what fails
-    follows: bool = False  # from another run, or from a judgement of the same state
+    pending: list[list[str]] = field(default_factory=list)  # the pending changes at its cuts, in order, if it fails
+    follows: bool = False  # it was derived from another run, or from a judgement of the same state
 
     @property
     def verdict(self) -> str:
@@ -21,7 +21,7 @@ class Outcome:
 
     @property
     def hits(self) -> str:
-        """`-` where they are more than an answer may have."""
+        """The hits as an answer has them, or `-` if there are more than an answer may have."""
         if len(self.trace) > MOST_HITS:
             return "-"
         return hits_text([hit[1] for hit in self.trace])

@@ -1,4 +1,4 @@
-"""The program that asks and reports: `paklour` of the PATH. It starts nothing; it knows a campaign by its answers."""
+"""Calls the program `paklour`, which lists the scenarios to try and writes the reports. It runs nothing itself: it only reads settings and answers."""
 
 import re
 import subprocess
@@ -15,7 +15,7 @@ class Paklour:
         self.settings = settings
         self.answers = answers
         self.look_share = look_share
-        self.ask_again = 0.0  # from when on another look at the answers takes no larger share of the time
+        self.ask_again = 0.0  # the time from which on another look at the answers stays within its share
 
     def has_depth(self) -> bool:
         return re.search(r"^[ \t]*[\"']?depth[\"']?[ \t]*=", text_of(Path(self.settings)), re.M) is not None
@@ -27,11 +27,11 @@ class Paklour:
             raise Stopped("paklour is not on the PATH") from error
 
     def tell_notes(self, done: subprocess.CompletedProcess) -> None:
-        """What it told, though each call says it again."""
+        """Shows each line of its standard error once, though each call prints it again."""
         show_once(done.stderr.decode("utf-8", "surrogateescape"))
 
     def asks(self) -> list[str]:
-        """What is still to be tried. Settings or answers that can't be read end the campaign."""
+        """The scenarios that are still to be tried. If settings or answers can't be read, the campaign ends."""
         begun = time.monotonic()
         done = self.call("asks")
         self.tell_notes(done)
@@ -45,22 +45,23 @@ class Paklour:
         return done.stdout.decode("utf-8", "surrogateescape").splitlines()
 
     def look(self) -> None:
-        """Whether the answers can be read so far, where that doesn't take too much time."""
+        """Checks that the recorded answers can be read, unless that would take too large a share of the time."""
         if time.monotonic() >= self.ask_again:
             self.asks()
 
     def fields(self, line: str) -> list[str]:
-        """Of the answer with that number."""
+        """The fields of the answer in that line."""
         return self.answers.lines()[int(line) - 1].split("\t")
 
     def name_differing_run(self, told: str) -> None:
-        """Names the scenario whose run didn't go as the one that it begins like."""
+        """Names the scenario whose run didn't repeat the run that it grew from."""
         found = re.search(r"^answers: line (\d+): (fault not met|hits differ from line \d+ at hit \d+|contradicts line \d+)$", told, re.M)
         if found and len(fields := self.fields(found[1])) > 1:
-            show(f"loop: line {found[1]} is of {fields[1]}: runs don't go alike each time, as by a clock, threads, or a port that runs side by side share (-j 1)")
+            why = "look for clocks, threads, random names, or a port that runs share (-j 1)"
+            show(f"loop: line {found[1]} is the run of {fields[1]}, which doesn't repeat an earlier run: {why}")
 
     def name_unknown_points(self, told: str) -> None:
-        """Names the points that a refused answer has hit and the settings don't have."""
+        """Names the points that a refused answer has and the settings don't."""
         found = re.search(r"^answers: line (\d+): unknown point$", told, re.M)
         if not found:
             return
@@ -79,8 +80,8 @@ class Paklour:
 
 
 def failing_plans(report: bytes, brief: bytes) -> list[tuple[str, str]]:
-    """What fails by the report, plans and what they are reduced to: verdict and scenario, each once. The brief report has the scenarios, and
-    the whole one says where the name of a code ends."""
+    """The failing plans and reduced scenarios of a report, each once with its verdict. The brief report has the scenarios, and the whole
+    one shows where the name of a code ends."""
     begins = {}
     for line in report.decode("utf-8", "surrogateescape").splitlines():
         found = re.match(r"verdict (\S+) fail ", line)

@@ -1,4 +1,4 @@
-"""Programs that the loop starts: each ends with the loop, with all that it began, in whatever session."""
+"""The programs that the loop starts. Each ends with the loop, with all that it started, in any session."""
 
 import os
 import subprocess
@@ -7,19 +7,19 @@ from pathlib import Path
 
 OUTSIDE = Path(__file__).resolve().parent.parent
 WITHIN = OUTSIDE / "out" / "within"
-LASTS = 3  # the descriptor by which a run sees that the loop is gone
+LASTS = 3  # the descriptor of a pipe whose other end closes when the loop ends, so that each run ends too
 
 
 class Ended(Exception):
-    """The loop ends, and nothing more is begun."""
+    """The loop ends, and starts nothing more."""
 
 
 class Processes:
-    """What runs now. To be made first of all: it takes descriptor 3."""
+    """The programs that run now. It must be made before any other file is opened, since it takes descriptor 3."""
 
     def __init__(self) -> None:
         while (number := os.open(os.devnull, os.O_RDWR)) < LASTS:
-            pass  # a standard one that is closed is no file's of the campaign
+            pass  # so that no file of the campaign gets the number of a standard stream that is closed
         os.close(number)
         reader, writer = os.pipe()
         self.reader = os.dup(reader) if reader == LASTS else reader
@@ -41,7 +41,7 @@ class Processes:
             self.running.discard(process)
 
     def end(self) -> None:
-        """Asks each to end, and waits for it: what runs by `within` has ended with it."""
+        """Asks each program to end, and waits for it. What runs by `within` has then ended too."""
         with self.lock:
             self.is_ended = True
             running = list(self.running)

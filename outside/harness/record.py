@@ -1,4 +1,4 @@
-"""A run that was made, and isn't gone on with: from it, others follow."""
+"""A run that was made, from which others can be derived."""
 
 from dataclasses import dataclass
 from pathlib import Path
@@ -11,7 +11,7 @@ class Record:
     folder: Path
     scenario: str
     status: int
-    why: str  # it says nothing: why, or an empty text
+    why: str  # why the run has no verdict, or an empty text
     points: list[str]
     is_cut: bool = False
 
@@ -25,16 +25,16 @@ class Record:
 
     @property
     def rewound(self) -> Path:
-        """The run's folder as it stood at a hit, which is gone on with, or cut."""
+        """The run's folder as it was at a hit. It is continued or cut."""
         return self.folder / "rewound"
 
     @property
     def said_again(self) -> Path:
-        """What is said after the cut."""
+        """The file of what `again` prints after the cut."""
         return self.folder / "said_again"
 
     def place(self, hit: int) -> tuple[str, ...]:
-        """How far the notes and the output were when that hit began."""
+        """How long the notes and the output were when that hit began."""
         return tuple((self.run / MARKS).read_text().splitlines()[hit - 1].split("\t")[1:])
 
     def said(self) -> bytes:

@@ -1,4 +1,4 @@
-"""Runs that were made, kept as long as there is room (room.py): from each of them others follow."""
+"""The runs that were made, from which others can be derived. Their files stay as long as there is room (room.py)."""
 
 import threading
 from collections import OrderedDict
@@ -11,7 +11,7 @@ Key = frozenset[Fault]
 
 
 def key_of(record_trace: list[list[str]]) -> Key:
-    """The faults that acted."""
+    """The faults that acted in a run."""
     return frozenset(Fault(hit[1], int(hit[2]), hit[3]) for hit in record_trace if hit[3] != "go")
 
 
@@ -19,11 +19,11 @@ class Records:
     def __init__(self) -> None:
         self.taken = 0  # bytes on the disk
         self.lock = threading.Lock()
-        self.points: dict[Key, list[str]] = {}  # what such a run hits
+        self.points: dict[Key, list[str]] = {}  # what a run with these faults hits
         self.kept: OrderedDict[Key, list[tuple[Record, int]]] = OrderedDict()
 
     def take(self, key: Key) -> Record | None:
-        """One that nobody else has meanwhile."""
+        """A run with these faults, which no other thread gets until it is given back."""
         with self.lock:
             if not self.kept.get(key):
                 return None
@@ -39,7 +39,7 @@ class Records:
             self.taken += size
 
     def shrink(self, most: int) -> None:
-        """To so many bytes: the ones that weren't used for longest go."""
+        """Deletes runs until at most so many bytes are taken. Those that weren't used for longest go first."""
         gone = []
         with self.lock:
             while self.taken > most and self.kept:
@@ -50,7 +50,7 @@ class Records:
             tree.remove(record.folder)
 
     def base_of(self, scenario: Scenario) -> tuple[Key, int] | None:
-        """The known run from which the scenario's follows, and the hit at which it ends that run: the one behind the last where it doesn't."""
+        """The known run from which the scenario's can be derived, and the hit at which the scenario ends it: one behind the last if it doesn't."""
         with self.lock:
             known = sorted((key for key in subsets(lasting_faults(scenario)) if key in self.points), key=len, reverse=True)
         for key in known:
@@ -61,7 +61,7 @@ class Records:
 
 
 def lasting_faults(scenario: Scenario) -> Key:
-    """Those that neither end the run nor say what a power cut keeps."""
+    """The faults that neither end the run nor belong to a power cut."""
     return frozenset(fault for fault in scenario.faults() if not fault.point.startswith(POWER) and not fault.answer.startswith("panic"))
 
 
@@ -73,7 +73,7 @@ def subsets(faults: Key) -> list[Key]:
 
 
 def place_in(points: list[str], key: Key, scenario: Scenario) -> int | None:
-    """Where the scenario ends a run that went so; None where it does otherwise before."""
+    """The hit at which the scenario ends a run with these hits and faults, or None if it acts otherwise before."""
     acted = {(fault.point, fault.hit): fault.answer for fault in key}
     counts: dict[str, int] = {}
     for number, (point, answer) in enumerate(zip(points, scenario.answers(points)), 1):

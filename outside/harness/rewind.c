@@ -1,9 +1,9 @@
-/* rewind RUN NEW NUMBER SCENARIO: makes NEW, the run's folder as it were if SCENARIO had ended the run at that hit, by what RUN noted of a
-   run that went on there. NUMBER may be one more than RUN has hits: then NEW is RUN at its end, for going on under SCENARIO. RUN has
-   marks, and its power was cut once. Neither it nor its files are changed.
+/* rewind RUN NEW NUMBER SCENARIO: makes NEW, the folder of a run that SCENARIO ended at hit NUMBER. It is made from the notes of RUN, a run that
+   went on there. If NUMBER is one more than RUN has hits, NEW is RUN at its end, from which it can go on under SCENARIO. RUN must have marks, and
+   its power must have been cut once. Neither RUN nor its files are changed.
 
-   It writes how many bytes of the standard output had been written by then. It ends with 2 where it can't do its work, and with 3 where
-   RUN doesn't tell: what is stored through a mapping is noted late. */
+   It prints how many bytes had been written to standard output by then, or `all`. It ends with 2 if it can't do its work, and with 3 if RUN's notes
+   don't show the files at that hit, since stores through a mapping are noted late. */
 #define _GNU_SOURCE
 #include "../run/run.h"
 
@@ -34,7 +34,7 @@ static char *below(const char *folder, const char *name) {
     return path;
 }
 
-/* ---- files that are taken over */
+/* ---- files that are linked or copied */
 
 struct text {
     char *bytes;
@@ -62,7 +62,7 @@ static void write_all(int file, const char *bytes, size_t length, const char *na
     for (ssize_t written; length > 0; bytes += written, length -= (size_t)written) must((written = write(file, bytes, length)) > 0, name);
 }
 
-/* All names of a folder of notes, which nobody writes to any more. */
+/* Links all files of a folder of notes, to which nobody writes any more. */
 static void link_all(const char *from, const char *to) {
     DIR *names = opendir(from);
     must(names && !mkdir(to, 0700), from);
@@ -107,7 +107,7 @@ static struct place place_of(const char *run, const struct state *state, uint64_
     stop(run, "no such hit");
 }
 
-/* ---- notes: those up to there, and of later ones the bytes that came late to earlier ones */
+/* ---- notes: those up to that hit, and the bytes that later notes have for earlier ones */
 
 static uint64_t write_notes(const char *run, const char *new, uint64_t all, const struct place *place) {
     struct text notes = read_whole(below(run, "changes"));
@@ -117,7 +117,7 @@ static uint64_t write_notes(const char *run, const char *new, uint64_t all, cons
     for (uint64_t at = 0; at < all;) {
         struct note note;
         memcpy(&note, notes.bytes + at, sizeof note);
-        if (note.size < sizeof note || note.size > all - at) stop(run, "bad notes");
+        if (note.size < sizeof note || note.size > all - at) stop(run, "the notes of this run are damaged");
         if (note.kind == STORED && !place->is_end) exit(UNTOLD);
         if (note.kind == COPIED && at >= noted) {
             write_all(out, notes.bytes + at, note.size, new);
@@ -140,7 +140,7 @@ static struct state *map_state(const char *run, int flags) {
     return state;
 }
 
-/* Its lock is taken over free; counts are counted anew, since another scenario has other terms. */
+/* The copy has a free lock. Its counts are made anew, since another scenario has other terms. */
 static struct state *copy_state(const char *new, const struct state *state) {
     struct state *copy = map_state(new, O_CREAT | O_EXCL);
     memcpy(copy, state, offsetof(struct state, counters));
@@ -157,7 +157,7 @@ static const struct scenario *scenario_of(const char *text) {
     return &scenario;
 }
 
-/* A line of the trace up to its answer, and what stands behind that; the result is the last column. */
+/* Writes the last line of the trace: it has the term that ends the run as its answer, and no result. */
 static void end_line(FILE *out, const char *line, const char *answer_at, const struct term *term) {
     static char answer[4 * MOST_BYTES + 64];
     const char *rest = strchr(answer_at, '\t'), *result = strrchr(answer_at, '\t');
@@ -166,7 +166,7 @@ static void end_line(FILE *out, const char *line, const char *answer_at, const s
     fprintf(out, "%.*s%s%.*s\t%-20s\n", (int)(answer_at - line), line, answer, (int)(result - rest), rest, "-");
 }
 
-/* Counts the hits of the trace under the scenario; the last one is where it ends the run. */
+/* Counts the hits of the trace under the scenario, which ends the run at the last one. */
 static void count_hits(struct state *copy, struct text trace, const struct place *place, const struct scenario *scenario, FILE *out) {
     char *next, *line = trace.bytes, *end = trace.bytes + trace.length;
     for (; line < end && (next = memchr(line, '\n', (size_t)(end - line))); line = next + 1) {
@@ -187,7 +187,7 @@ static void write_trace(const char *run, const char *new, struct state *copy, co
     struct text trace = read_whole(below(run, "trace"));
     FILE *out = fopen(below(new, "trace"), "wex");
     must(out, new);
-    trace.length = copy->cut.trace; /* behind that stands what a cut asked */
+    trace.length = copy->cut.trace; /* behind it stand the hits of a cut */
     count_hits(copy, trace, place, scenario_of(text), out);
     copy->cut.trace = (uint64_t)ftell(out);
     must(!fclose(out), new);

@@ -1,6 +1,6 @@
-"""Room for runs: what all of them take on the disk together, those that are kept and those in the making.
+"""Limits what all runs take on the disk together, those that are recorded and those in the making.
 
-Where it gets short, those that are kept go, and then no two are made at once. A campaign never takes a file system whole."""
+If room gets short, recorded runs are deleted, and then no two runs are made at once. A campaign never fills a file system."""
 
 import contextlib
 import errno
@@ -20,7 +20,7 @@ from .records import Records
 from .shown import show_once
 
 LOOKS_EVERY = 0.05  # seconds
-LOOKS_LESS = 4  # times as long as a look takes pass before the next
+LOOKS_LESS = 4  # the pause between two looks is at least so many times as long as a look takes
 LEAST = 16 << 20  # bytes that always stay free
 SHARE = 4  # a campaign takes one in so many of the bytes that are free when it begins
 
@@ -28,11 +28,11 @@ Made = TypeVar("Made")
 
 
 class Crowded(Exception):
-    """A run was ended, since there is no room for it beside others."""
+    """A run was ended, because there is no room for it beside others."""
 
 
 class TooLarge(Exception):
-    """A run was ended, since there is no room for it; why, in words."""
+    """A run was ended, because there is no room for it. The text gives the reason."""
 
 
 @dataclass
@@ -41,9 +41,9 @@ class Making:
 
     folder: Path
     thread: int
-    process: subprocess.Popen | None = None  # which is ended where the run is
-    why: str = ""  # it was ended: the bound that it passed
-    is_crowded: bool = False  # it was ended: there is no room
+    process: subprocess.Popen | None = None  # the program that runs now, which is ended with the run
+    why: str = ""  # the limit that it passed, if it was ended for that
+    is_crowded: bool = False  # whether it was ended because there is no room
 
     def end(self) -> None:
         if self.process:
@@ -63,9 +63,9 @@ class Room:
         self.seats = 0  # how many threads make runs
         self.is_alone = False
         self.waiting_alone = 0
-        self.largest = 0  # bytes that a run took
+        self.largest = 0  # the most bytes that one run took
         if self.most < asked:
-            show_once(f"loop: runs have {self.most} bytes of {disk.folder}, where {free} are free")
+            show_once(f"loop: all runs together may take {self.most} bytes in {disk.folder}, where {free} are free")
         threading.Thread(target=self.watch, daemon=True).start()
 
     # ---- who makes a run
@@ -94,7 +94,7 @@ class Room:
                 self.changed.notify_all()
 
     def within(self, make: Callable[[], Made]) -> Made:
-        """Has it made, and where it was ended since others take the room, once more, alone."""
+        """Makes a run, and if it was ended because others take the room, makes it once more, alone."""
         for alone in (False, True):
             with self.seat(alone), contextlib.suppress(Crowded):
                 return self.made(make)
@@ -113,12 +113,13 @@ class Room:
             raise Crowded from error
 
     def full(self) -> str:
-        return f"{self.disk.folder}: {self.disk.free()} bytes are free, too few for a run that took {self.largest}: go on with another TMPDIR"
+        free = self.disk.free()
+        return f"{self.disk.folder}: {free} bytes are free, which is too few: one run took {self.largest}. Free some, or set TMPDIR to another folder"
 
     # ---- its folder
 
     def hold(self, size: int) -> None:
-        """So many bytes are taken as long as the campaign lasts, by what each run begins with."""
+        """Takes so many bytes for the whole campaign: the data with which each run begins."""
         self.most = max(0, self.most - size)
 
     def begin(self, folder: Path) -> None:
@@ -126,13 +127,13 @@ class Room:
             self.makings[folder] = Making(folder, threading.get_ident())
 
     def end(self, folder: Path, size: int) -> None:
-        """It is made."""
+        """The run in this folder is made, and has this size."""
         with self.changed:
             self.makings.pop(folder, None)
             self.largest = max(self.largest, size)
 
     def take_away(self) -> None:
-        """What this thread was making."""
+        """Deletes the run that this thread was making."""
         with self.changed:
             mine = [making for making in self.makings.values() if making.thread == threading.get_ident()]
             for making in mine:
@@ -142,20 +143,20 @@ class Room:
             tree.remove(making.folder)
 
     def make_way(self) -> None:
-        """What is kept has the room that those in the making leave."""
+        """Deletes recorded runs until they fit beside the runs in the making."""
         self.records.shrink(max(0, self.most - self.seats * self.largest))
 
     # ---- its programs
 
     def wait(self, process: subprocess.Popen, folder: Path) -> str:
-        """Waits for its end; which bound the run has passed, or an empty text."""
+        """Waits for a program's end. The limit that the run has passed, or an empty text."""
         with self.watched(process, folder):
             process.wait()
         return self.why_ended(folder) or self.bounds.passed(folder)
 
     @contextlib.contextmanager
     def watched(self, process: subprocess.Popen, folder: Path) -> Iterator[None]:
-        """Meanwhile the process is ended where the run is."""
+        """While this lasts, the process is ended if the run is."""
         making = self.makings[folder]
         making.process = process
         try:
@@ -164,18 +165,18 @@ class Room:
             making.process = None
 
     def why_ended(self, folder: Path) -> str:
-        """Why the run was ended, or an empty text where it wasn't."""
+        """Why the run was ended, or an empty text if it wasn't."""
         return self.want(folder) or self.makings[folder].why
 
     def want(self, folder: Path) -> str:
-        """That there is no room for the run, or an empty text where there is."""
+        """The reason why there is no room for the run, or an empty text if there is room."""
         if not self.makings[folder].is_crowded:
             return ""
         if not self.is_alone:
             raise Crowded
         if self.is_short():
             raise Stopped(self.full())
-        return f"it takes more than the {self.most} bytes that runs have"
+        return f"it took more than the {self.most} bytes that all runs together may take (--room)"
 
     def is_crowded(self, folder: Path) -> bool:
         return folder in self.makings and self.makings[folder].is_crowded
@@ -183,7 +184,7 @@ class Room:
     # ---- looking
 
     def is_short(self) -> bool:
-        """One that is made alone may go further: to twice what a run took."""
+        """Whether too little is free. A run that is made alone may use more: all but twice what the largest run took."""
         stays = min(self.stays_free, max(2 * self.largest, LEAST)) if self.is_alone else self.stays_free
         return self.disk.free() < stays
 
@@ -192,7 +193,7 @@ class Room:
         took = 0.0
         while not tick.wait(max(LOOKS_EVERY, LOOKS_LESS * took)):
             begun = time.monotonic()
-            with contextlib.suppress(FileNotFoundError):  # a run's folder goes meanwhile
+            with contextlib.suppress(FileNotFoundError):  # a run's folder may be deleted meanwhile
                 self.look()
             took = time.monotonic() - begun
 
@@ -206,8 +207,8 @@ class Room:
         self.settle({making.folder: tree.size(making.folder) for making in makings})
 
     def settle(self, sizes: dict[Path, int]) -> None:
-        """Where too much is taken, what is kept goes, and then the largest of those in the making, one after the other. Where the file system itself
-        gets full, all of them go: none may come to its end by that."""
+        """If too much is taken, recorded runs are deleted, and then the largest runs in the making are ended, one after the other. If the file
+        system itself gets full, all of them are ended, so that none fails by that."""
         taken, is_short = sum(sizes.values()), self.is_short()
         if taken + self.records.taken <= self.most and not is_short:
             return

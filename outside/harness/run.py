@@ -24,7 +24,7 @@ TIME_IS_UP, CANNOT, NOT_FOUND = 124, 125, 127  # how `within` ends
 
 
 class Runner:
-    """Lays runs out and makes them."""
+    """Makes runs, each in a folder of its own."""
 
     def __init__(self, harness: Harness, work: Work, processes: Processes, room: Room):
         self.harness = harness
@@ -43,13 +43,13 @@ class Runner:
         return self.outer | {"HARNESS": str(self.harness.folder), "TMPDIR": str(folder / "tmp")} | self.harness.variables | more
 
     def with_variables(self, **variables: str) -> "Runner":
-        """The same with more of its environment."""
+        """The same runner, with more variables in the environment of its programs."""
         other = copy.copy(self)
         other.harness = replace(self.harness, variables=self.harness.variables | variables)
         return other
 
     def start(self, words: list[str], folder: Path, said: Path, **variables: str) -> tuple[int, str]:
-        """Runs a step in the data's folder; its status, and why it says nothing."""
+        """Runs a step in the data's folder. Returns its status, and the reason if the run is unresolved by it."""
         (folder / "tmp").mkdir(exist_ok=True)
         with open(said, "ab") as output, open(folder / "errors", "ab") as errors:
             process = self.processes.start([str(WITHIN), str(self.seconds), "-", *words], cwd=folder / "data", stdin=subprocess.DEVNULL,
@@ -61,32 +61,32 @@ class Runner:
         if passed:
             return process.returncode, passed
         if process.returncode == TIME_IS_UP:
-            return process.returncode, f"ended after {self.seconds} seconds"
+            return process.returncode, f"it was ended after {self.seconds} seconds (--seconds)"
         if process.returncode in (CANNOT, NOT_FOUND):
             raise Stopped(f"{words[-1]} can't be run: {last_line(folder / 'errors')}")
         return process.returncode, ""
 
     def judged(self, folder: Path, output: Path, **variables: str) -> tuple[int, str]:
-        """The same for `judge`, which isn't watched by the supervisor, so that a function of Python needs no start."""
+        """Runs `judge` in the same way. It runs without the supervisor, so if it is a function of Python, it needs no new Python."""
         if not self.served:
             return self.start(self.harness.steps["judge"], folder, output, **variables)
         return self.served.call("judge", folder, output, self.environment(folder, **variables), self.room)
 
     def prepare(self) -> None:
-        """What is there before each run. It is made once, and copied: so that a run finds the same bytes each time."""
+        """Makes the data with which each run begins. They are made once, and copied, so that each run finds the same bytes."""
         folder = self.work.new()
         self.room.begin(folder)
         (folder / "data").mkdir()
         if "prepare" in self.harness.steps:
             status, why = self.start(self.harness.steps["prepare"], folder, folder / "said")
             if status or why:
-                raise Stopped(f"prepare: {why or f'it ended with {status}'}: {last_line(folder / 'errors')}")
+                raise Stopped(f"prepare failed: {why or f'it ended with {status}'}: {last_line(folder / 'errors')}")
         (folder / "data").rename(self.prepared)
         self.room.hold(tree.size(self.prepared))
         self.room.end(folder, 0)
 
     def under(self, step: str, run: Path, folder: Path, scenario: str, said: Path) -> tuple[int, str]:
-        """A step under the supervisor; its status, and why the run says nothing."""
+        """Runs a step under the supervisor. Returns its status, and the reason if the run is unresolved."""
         order = [] if self.harness.order == "arrival" else ["--order", self.harness.order]
         words = [str(programs.FAULTS), *order, *["--pin"] * self.harness.pins, "--", *self.harness.steps[step]]
         status, why = self.start(words, folder, said, FAILPOINTS=scenario, FAULTS_ROOT=str(folder / "data"), FAULTS_RUN=str(run),
@@ -94,11 +94,11 @@ class Runner:
         if status == programs.REFUSED:
             why = last_line(folder / "errors") or "it ended with 98"
         if status == programs.PAUSED:
-            why = "the scenario pauses"
+            why = "the scenario has a pause"
         return status, why
 
     def make(self, scenario: str) -> Record:
-        """Runs it, from what was prepared to its end or the scenario's."""
+        """Makes a run under a scenario, from the prepared data to its end, or to the hit at which the scenario ends it."""
         with self.lock:
             self.count += 1
         folder = self.work.new()
@@ -107,9 +107,9 @@ class Runner:
         try:
             self.tools.begin(folder / "run", folder / "data")
         except TooLarge as found:
-            raise Stopped(f"what prepare left: {found}") from found
+            raise Stopped(f"the files that prepare made: {found}") from found
         status, why = self.under("run", folder / "run", folder, scenario, folder / "said")
-        points = [sys.intern(hit[1]) for hit in trace_of(folder / "run")]  # which are kept of each run, and always the same few texts
+        points = [sys.intern(hit[1]) for hit in trace_of(folder / "run")]  # interned, since each run keeps such a list of the same few texts
         return Record(folder, scenario, status, why, points)
 
 

@@ -1,4 +1,4 @@
-"""Scenarios, as `paklour asks` writes them: which hit of which point is answered with what."""
+"""Scenarios as `paklour asks` prints them, which say what happens at which hit of which point."""
 
 import re
 from collections import Counter
@@ -10,7 +10,7 @@ POWER = "power::"
 
 
 class Unreadable(Exception):
-    """A scenario of which this can't tell what it does, as one with shares."""
+    """A scenario that this module can't read, such as one with percentages."""
 
 
 @dataclass(frozen=True)
@@ -26,7 +26,7 @@ class Term:
 
 @dataclass(frozen=True)
 class Fault:
-    """The answer to one hit: of that point, counted from 1."""
+    """What happens at one hit of a point. Hits count from 1."""
 
     point: str
     hit: int
@@ -49,16 +49,16 @@ class Scenario:
             self.chains[name.strip()] = [read_term(term) for term in chain.split("->")]
 
     def faults(self) -> list[Fault]:
-        """All of its faults, where each acts so many times."""
+        """All of its faults, if each acts a given number of times."""
         return [fault for name, chain in self.chains.items() for fault in faults_of(name, chain)]
 
     def is_endless(self) -> bool:
-        """Whether a fault of the run itself acts from then on."""
+        """Whether it has a sticky fault, except at a power cut."""
         return any(term.count is None and term.task != "off"
             for name, chain in self.chains.items() if not name.startswith(POWER) for term in chain)
 
     def answers(self, points: Iterable[str]) -> list[str]:
-        """What it answers to these hits, in order: `go`, or its task."""
+        """What it does at these hits, in order: `go`, or its task."""
         used = {name: [0] * len(chain) for name, chain in self.chains.items()}
         return [acting(self.chains[point], used[point]) if point in used else "go" for point in points]
 
@@ -77,7 +77,7 @@ def faults_of(name: str, chain: list[Term]) -> list[Fault]:
 
 
 def acting(chain: list[Term], used: list[int]) -> str:
-    """The first term that isn't used up."""
+    """What the first term does that isn't used up."""
     for number, term in enumerate(chain):
         if term.count is None or used[number] < term.count:
             used[number] += 1
@@ -86,7 +86,7 @@ def acting(chain: list[Term], used: list[int]) -> str:
 
 
 def scenario_of(faults: Iterable[Fault]) -> str:
-    """The text of these faults, each at one hit."""
+    """The text of a scenario with these faults, each at one hit."""
     by_point: dict[str, list[Fault]] = {}
     for fault in sorted(faults, key=lambda fault: (fault.point, fault.hit)):
         by_point.setdefault(fault.point, []).append(fault)
@@ -101,12 +101,12 @@ def scenario_of(faults: Iterable[Fault]) -> str:
 
 
 def keeping(numbers: Iterable[int]) -> str:
-    """The scenario that keeps these of the pending changes, and no other."""
+    """The scenario that keeps the pending changes of these numbers, and no others."""
     return scenario_of(Fault("power::keep", number, "return") for number in numbers)
 
 
 def hits_text(points: list[str]) -> str:
-    """Hits as an answer tells them: in order, n of one point in a row as `n*POINT`."""
+    """Hits as an answer has them: in order, with n hits of one point in a row as `n*POINT`."""
     stretches: list[list] = []
     for point in points:
         if stretches and stretches[-1][0] == point:
@@ -117,7 +117,7 @@ def hits_text(points: list[str]) -> str:
 
 
 def points_of(hits: str) -> list[str]:
-    """The same back: the points of hits as an answer tells them, in order; none where nobody knows them."""
+    """The points of an answer's hits, in order. If nobody knows them, there are none."""
     points = []
     for stretch in hits.split(";") if hits not in ("", "-") else []:
         count, _, point = stretch.rpartition("*") if stretch[0].isdigit() else ("", "", stretch)

@@ -1,4 +1,4 @@
-"""Tries by a script of the user's: TRY gets a scenario, and writes the answer's line."""
+"""Makes runs by a script of the user, TRY, which gets a scenario and prints the answer's line."""
 
 import os
 import queue
@@ -9,13 +9,13 @@ import threading
 import time
 from collections.abc import Iterator
 
-from .answers import MOST, Stopped
+from .answers import MOST, Stopped, changed
 from .paklour import Paklour, failing_plans
 from .processes import WITHIN, Ended, Processes
 from .shown import show
 
-# One run on whichever machine, as words for its sh: SECONDS TRY HITS WITHIN MOST SCENARIO. It writes how many seconds it took, how many bytes
-# TRY wrote, the scenario, and on the next line these bytes.
+# Makes one run on any machine, in sh, with the arguments SECONDS TRY HITS WITHIN MOST SCENARIO. It prints the seconds that the run took, the number of
+# bytes that TRY printed, the scenario, and on the next line these bytes.
 REMOTE = """
     seconds=$1 try=$2 hits=$3 within=$4 most=$5 scenario=$6; file=$(mktemp) || exit; begun=$(date +%s);
     unset HITS; [ "$hits" = untold ] || export HITS=yes;
@@ -27,7 +27,7 @@ REMOTE = """
 
 
 class Tries:
-    """What the ways to run TRY share. `hits` says whether TRY is asked for hits: `untold`, `asked`, or `told` where it has to tell them."""
+    """The common part of the ways to run TRY. `hits` says whether TRY gets HITS=yes: `untold` if not, `asked`, or `told` if it must print them."""
 
     def __init__(self, name: str, seconds: int, jobs: int, hits: str):
         self.name = name
@@ -36,19 +36,19 @@ class Tries:
         self.hits = hits
 
     def answers_of(self, scenario: str, took: float, output: bytes) -> list[str]:
-        """The lines that TRY wrote; `unresolved` where it was ended before."""
+        """The lines that TRY printed, or an `unresolved` answer if it was ended before it printed any."""
         if not output and took >= self.seconds:
-            show(f"loop: ended after {self.seconds} seconds: {scenario}")
+            show(f"loop: the run was ended after {self.seconds} seconds (--seconds): {scenario}")
             return [f"unresolved\t{scenario}" + ("\t-" if self.hits == "told" else "")]
         if len(output) > MOST:
-            raise Stopped(f"an answer with more than {MOST} bytes: {scenario}")
+            raise Stopped(f"{self.name} printed more than {MOST} bytes for the scenario {scenario}")
         if output and not output.endswith(b"\n"):
-            raise Stopped(f"an answer with no end of its line: {scenario}")
+            raise Stopped(f"{self.name} printed no line feed at the end of its answer to the scenario {scenario}")
         return output.decode("utf-8", "surrogateescape").split("\n")[:-1]
 
 
 class Here(Tries):
-    """Runs TRY on this machine, some at once."""
+    """Runs TRY on this machine, several at once."""
 
     def __init__(self, *words, processes: Processes):
         super().__init__(*words)
@@ -92,7 +92,7 @@ class Here(Tries):
 
 
 class Parallel(Tries):
-    """GNU parallel runs TRY, also on other machines."""
+    """Lets GNU parallel run TRY, also on other machines."""
 
     def __init__(self, *words, options: list[str]):
         super().__init__(*words)
@@ -121,21 +121,21 @@ class Parallel(Tries):
 
 
 def recheck(paklour: Paklour, tries: Tries, report: bytes, shows_progress: bool) -> bool:
-    """Runs what fails once more; whether each was told the same again."""
+    """Runs failing plans once more. Whether each came out the same again."""
     failing = failing_plans(report, paklour.report("--brief", tells=False)[1])
     if not failing:
-        raise Stopped("the report has no plan that fails, and ends with 1")
+        raise Stopped("paklour report ended with 1, but its report has no plan that fails")
     if shows_progress:
-        show(f"loop: {len(failing)} that fail run once more")
+        show(f"loop: {len(failing)} failing plans are run once more")
     first = {fields[1]: fields[2:3] for fields in (line.split("\t") for line in paklour.answers.lines()) if len(fields) > 1}
     again = {fields[1]: fields for fields in (line.split("\t") for line in tries.try_all([scenario for _, scenario in failing])) if len(fields) > 1}
     is_same = True
     for verdict, scenario in failing:
-        told = again.get(scenario, ["nothing"])
+        told = again.get(scenario, ["no answer"])
         if told[0] != verdict:
-            show(f"loop: told otherwise: {verdict}, then {told[0]}: {scenario}")
+            show(f"loop: {changed('verdict', verdict, told[0], scenario)}")
         elif scenario in first and first[scenario] != told[2:3]:
-            show(f"loop: other hits: {''.join(first[scenario])}, then {''.join(told[2:3])}: {scenario}")
+            show(f"loop: {changed('hits', ''.join(first[scenario]), ''.join(told[2:3]), scenario)}")
         else:
             continue
         is_same = False

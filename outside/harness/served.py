@@ -1,5 +1,5 @@
-"""Functions of a harness, each in a process of its own that is there at once: a Python that has read the harness divides itself, and needs no
-start. One such program serves one call at a time."""
+"""Calls functions of a harness, each in a process that is forked from a waiting Python, which has read the harness and needs no start. One such
+program serves one call at a time."""
 
 import json
 import subprocess
@@ -31,7 +31,7 @@ class Served:
         return self.processes.start(words, stdin=subprocess.PIPE, stdout=subprocess.PIPE)
 
     def call(self, step: str, folder: Path, output: Path, environment: dict[str, str], room: Room) -> tuple[int, str]:
-        """Its status, and why it says nothing: it was ended, or an empty text."""
+        """Calls a function. Returns its status, and why it was ended, or an empty text."""
         server = self.take()
         files = {"folder": str(folder / "data"), "output": str(output), "errors": str(folder / "errors")}
         asked = {"step": step, "environment": environment, "seconds": room.bounds.seconds} | files
@@ -40,14 +40,14 @@ class Served:
         if why := room.why_ended(folder):
             return 0, why
         if not told:
-            raise Stopped(f"{self.file}: its Python ended")
+            raise Stopped(f"{self.file}: the Python process that calls its functions has ended")
         with self.lock:
             self.free.append(server)
-        return (0, f"ended after {room.bounds.seconds} seconds") if told == LATE else (int(told), "")
+        return (0, f"it was ended after {room.bounds.seconds} seconds (--seconds)") if told == LATE else (int(told), "")
 
 
 def ask(server: subprocess.Popen, line: str) -> str:
-    """Its answer; an empty text where it has ended."""
+    """The server's line for this request, or an empty text if the server has ended."""
     try:
         server.stdin.write(line.encode() + b"\n")
         server.stdin.flush()

@@ -1,4 +1,4 @@
-"""The settings of a harness: its own, or those that are made where it has none."""
+"""The settings of a harness: its own, or those that the loop makes if it has none."""
 
 import json
 import os
@@ -10,19 +10,23 @@ from .answers import Answers, Stopped
 from .definition import Harness
 from .shown import plain, show
 
-MADE = "# Made by paklour-loop. Without this line they are yours, and stay as they are."
+MADE_BY = "# Made by paklour-loop."
+MADE = f"{MADE_BY} It writes this file again for each campaign. If you delete this line, the settings are your own and stay as they are."
 FILES = ["open", "read", "write", "fsync", "truncate", "rename", "link", "unlink", "mkdir", "rmdir", "symlink"]
 POINTS = [f"sys::{name}" for name in FILES] + ["power::keep", "power::tear"]
-NEXT = "order::next"  # where settings have it, who goes first is planned as faults are
+NEXT = "order::next"  # if settings list this point, it is planned, as faults are, which thread goes first
 OWN_POINTS = re.compile(r"(sys|libc|power|order)::")
 KNOWN_POINTS = re.compile(r"sys::(" + "|".join([*FILES, "connect", "accept", "send", "recv"]) + r")(@.*)?|power::keep|power::tear|" + NEXT, re.S)
 WRITES = ["return", "return(ENOSPC)", "return(HALF)", "panic"]
+NO_POINT = "there is no such point; remove it from the points"
+NO_PLACE = "a point of the program's own can't be in settings with a depth; remove it, or remove the depth"
+NO_KEEP = "no program hits it unless power::keep is among the points too; add that"
 MOST_TEXT, MOST_CODES = 200, 64  # bytes of a label or a code, and how many codes settings may have
-SAYS_MADE = ", settings made"
+SAYS_MADE = ", settings by paklour-loop"
 
 
 def toml(value: str | list[str]) -> str:
-    """Of texts without control characters. Letters stand as they are: JSON may escape one by two halves, which TOML doesn't know."""
+    """A TOML value for texts without control characters. Letters aren't escaped: JSON may escape one as two halves, which TOML doesn't have."""
     return json.dumps(value, ensure_ascii=False)
 
 
@@ -45,34 +49,39 @@ def text_of(settings: Path) -> str:
 
 
 class Settings:
-    """`codes` of made ones are those that were found so far, in order of the alphabet: so that a campaign that was stopped ends as another."""
+    """A harness's settings. If the loop makes them, `codes` are those that were found, in alphabetical order, so that a stop
+    doesn't change the report. With `keeps`, as for one run by `--try`, those of an earlier campaign stay as they are."""
 
-    def __init__(self, harness: Harness, folder: Path, answers: Answers, named: str | None, depth: int | None, kinds: bool | None):
+    def __init__(self, harness: Harness, folder: Path, answers: Answers, named: str | None, depth: int | None, kinds: bool | None, keeps: bool = False):
         self.path = Path(named) if named else harness.folder / "settings.toml"
-        self.is_made = not named and not self.path.exists() or text_of(self.path).startswith(MADE)
+        self.is_made = not named and not self.path.exists() or text_of(self.path).startswith(MADE_BY)
         if self.is_made:
             self.path = folder / "settings.toml"
         elif depth or kinds is not None:
-            raise Stopped(f"{self.path} are settings of your own: change the depth and the kinds there")
-        if self.is_made:
+            raise Stopped(f"{self.path} has settings of your own: change the depth and the kinds there, in place of --depth, --kinds and --no-kinds")
+        makes = self.is_made and not (keeps and self.path.exists())
+        if makes:
             self.depth = depth or 1
             self.has_kinds = self.depth == 1 if kinds is None else kinds
             self.label = label_of(harness.name)
             self.codes = sorted({code_of(line) for line in answers.lines() if line.startswith("fail ")})
             self.write()
-            self.show()
+            self.show(leaves_out=self.depth > 1 and kinds is None)
         try:
             self.table = tomllib.loads(text_of(self.path))
         except tomllib.TOMLDecodeError as error:
             raise Stopped(f"{self.path}: {error}") from error
         self.points = self.table.get("outside", {}).get("points", [])
         self.depth = self.table.get("depth", 0)
-        if not self.is_made:
+        if not makes:
             self.codes = self.table.get("outside", {}).get("codes", [])
 
-    def show(self) -> None:
+    def show(self, leaves_out: bool) -> None:
         kinds = ", full disks and half writes" if self.has_kinds else ""
-        show(f"loop: settings made, {self.path}: depth {self.depth}, all points of files, what a power cut keeps and tears{kinds}; codes as they are found")
+        tried = f"depth {self.depth}, all points of files, what a power cut keeps and tears{kinds}"
+        show(f"loop: wrote the settings {self.path}: {tried}; codes are added as the judge prints them")
+        if leaves_out:
+            show(f"loop: full disks and half writes are left out at depth {self.depth}; --kinds tries them")
 
     def write(self) -> None:
         new = self.path.with_suffix(".new")
@@ -80,27 +89,29 @@ class Settings:
         new.rename(self.path)
 
     def take_code(self, answer: str) -> None:
-        """Before an answer is kept: settings have its code."""
+        """Adds the code of an answer to the settings, before the answer is recorded."""
         if not answer.startswith("fail ") or (code := code_of(answer)) in self.codes:
             return
         if not self.is_made:
-            raise Stopped(f"judge says {code}: add it to the codes of {self.path}")
+            raise Stopped(f"the judge printed the code {code}: add it to the codes of {self.path}")
         if len(self.codes) == MOST_CODES:
-            raise Stopped(f"judge says {code}, and settings may have {MOST_CODES} codes: its first line is to say which promise is broken, and not more")
+            raise Stopped(f"the judge printed the code {code}, but settings have at most {MOST_CODES} codes: its first line should only name the promise that "
+                "is broken")
         self.codes = sorted([*self.codes, code])
         self.write()
 
     def asking(self) -> str | None:
-        """The state of a power cut whose hits these settings can name."""
+        """The state of the power cut that hits the points of these settings, or None."""
         if "power::keep" not in self.points:
             return None
         return "tear" if "power::tear" in self.points else "keep"
 
     def refused_points(self) -> list[tuple[str, str]]:
-        """Each with why: a prefix of these tools, and no program ever hits it; or one that is told to nobody. Only what is kept may be torn."""
+        """The points that can't be in settings, each with the reason: a name of these tools that no program hits, or, with a depth, a program's
+        own point, whose place among the other hits nobody knows. power::tear needs power::keep."""
         unknown = [point for point in self.points if not KNOWN_POINTS.fullmatch(point) and (self.depth or OWN_POINTS.match(point))]
-        unknown += ["power::tear"] * ("power::tear" in self.points and not self.asking())
-        return [(point, "no program hits" if OWN_POINTS.match(point) else "with a depth there is no place for a program's own") for point in unknown]
+        refused = [(point, NO_POINT if OWN_POINTS.match(point) else NO_PLACE) for point in unknown]
+        return refused + [("power::tear", NO_KEEP)] * ("power::tear" in self.points and not self.asking())
 
 
 def code_of(answer: str) -> str:

@@ -1,13 +1,14 @@
-"""Campaigns that go over machines: each has a share of the plans, and one of them brings the answers together.
+"""Campaigns on several machines: each machine has a share of the plans, and one of them joins the answers.
 
-A plan belongs to the fault that acts first in it. Up to there its run is the one without faults, which each machine makes, and all that grows from a
-plan has the same first fault: so a share is grown without the others. Where no run's hits are told nothing grows, and any share will do."""
+The fault that acts first in a plan decides to which share it belongs. Up to that fault its run is the one without faults, which each machine makes,
+and all plans that grow from it have the same first fault. So a share grows without the others. If answers have no hits, nothing grows, and any share
+will do."""
 
 import zlib
 from dataclasses import dataclass
 from pathlib import Path
 
-from .answers import DIFFERS, Answers, Stopped, whole_lines
+from .answers import DIFFERS, Answers, Stopped, changed, whole_lines
 from .identity import Identity, refuse_others
 from .scenario import Scenario, Term, Unreadable, numbered, points_of
 from .words import Usage, whole_number
@@ -26,7 +27,7 @@ class Shard:
 
 
 def shard_of(text: str) -> Shard:
-    """As 2/8."""
+    """Reads a share such as 2/8."""
     number, _, count = text.partition("/")
     shard = Shard(whole_number(number), whole_number(count))
     if shard.number > shard.count:
@@ -42,7 +43,7 @@ def places_in(answers: Answers) -> Places:
 
 
 def first_hit(chain: list[Term]) -> int:
-    """Of its point, from 1; 0 where none of its terms does anything."""
+    """The first hit of its point at which a chain acts, counted from 1, or 0 if it never does."""
     hit = 1
     for term in chain:
         if term.task != "off":
@@ -52,7 +53,7 @@ def first_hit(chain: list[Term]) -> int:
 
 
 def first_place(text: str, places: Places) -> int:
-    """Of the fault that acts first; 0 where none acts in the run without faults, but for what its power cut keeps."""
+    """The place of the fault that acts first, or 0 if none acts at a hit of the run without faults."""
     try:
         chains = Scenario(text).chains
     except Unreadable:
@@ -61,11 +62,11 @@ def first_place(text: str, places: Places) -> int:
 
 
 def join(folder: Path, own: Identity, answers: Answers) -> None:
-    """Takes over the answers of the folders below that one, of shards or of other campaigns of the same harness."""
+    """Takes over the answers of the folders in that one, which are shards or other campaigns of the same harness."""
     known = {scenario_in(line): line for line in answers.lines()}
     parts = sorted(folder.glob("*/answers"))
     if not parts:
-        raise Stopped(f"{folder}: no folder in it has answers")
+        raise Stopped(f"no folder in {folder} has a file answers")
     for part in parts:
         refuse_others(part, own)
         for line in whole_lines(part.read_bytes()):
@@ -74,13 +75,18 @@ def join(folder: Path, own: Identity, answers: Answers) -> None:
                 known[scenario] = line
                 answers.keep(line)
             elif known[scenario] != line:
-                first, other = known[scenario].split("\t")[0], line.split("\t")[0]
-                raise Stopped(f"told otherwise: {first}, then {other}: {scenario}", DIFFERS)
+                raise Stopped(f"{part}: {difference(known[scenario], line, scenario)}", DIFFERS)
+
+
+def difference(first: str, then: str, scenario: str) -> str:
+    """What differs in two answers to the same scenario: the verdict, or if that is the same, the hits."""
+    (one, *one_has), (two, *two_has) = first.split("\t"), then.split("\t")
+    return changed("verdict", one, two, scenario) if one != two else changed("hits", "".join(one_has[1:]), "".join(two_has[1:]), scenario)
 
 
 def scenario_in(line: str) -> str:
-    """Of an answer: the loop's own have a verdict, a scenario, and with a depth hits."""
+    """The scenario of an answer. The loop's answers have a verdict, a scenario, and with a depth hits."""
     fields = line.split("\t")
     if len(fields) < 2:
-        raise Stopped(f"no answer of a harness: {line}")
+        raise Stopped(f"this line of the answers has no scenario: {line}")
     return fields[1]

@@ -1,4 +1,4 @@
-"""What is written: lines on standard error, for a person, and texts on standard output."""
+"""Writes lines for a person to standard error, and texts to standard output."""
 
 import contextlib
 import os
@@ -13,11 +13,11 @@ CONTROL = re.compile(r"[\x00-\x1f\x7f]")
 
 
 class NobodyReads(Exception):
-    """Whoever read what is written has seen enough, as `head` has."""
+    """Nobody reads any more what is written, for example behind `head`."""
 
 
 def until_nobody_reads(perform: Callable[[], int]) -> int:
-    """Its status. Where nobody reads any more, this program ends as the system ends others for that: by a signal, and without a word."""
+    """The status of `perform`. If nobody reads the output any more, this program ends by SIGPIPE and without a message, as others do."""
     try:
         return perform()
     except NobodyReads:
@@ -27,7 +27,7 @@ def until_nobody_reads(perform: Callable[[], int]) -> int:
 
 
 def write_whole(file: int, text: bytes) -> None:
-    """Without a buffer: what can't be written isn't tried again at the end."""
+    """Writes without a buffer, so that what can't be written isn't tried again at the end."""
     rest = memoryview(text)
     try:
         while rest:
@@ -49,13 +49,13 @@ def escaped(text: str) -> str:
 
 
 def plain(text: bytes, most: int) -> str:
-    """As settings may have it: without control characters, and of so many bytes at most."""
+    """The text as settings may have it: without control characters, and of at most so many bytes."""
     letters = text[:most].decode("utf-8", "ignore")
     return "".join(letter if letter.isprintable() else "?" for letter in letters)
 
 
 def show(text: str) -> None:
-    """Where they can't be written, the status has to do."""
+    """Writes lines to standard error. If that fails, only the exit status is left."""
     with contextlib.suppress(OSError):
         for line in text.splitlines():
             write_whole(ERRORS, (escaped(line) + "\n").encode("utf-8", "surrogateescape"))
@@ -65,7 +65,7 @@ told: set[str] = set()
 
 
 def show_once(text: str) -> None:
-    """Lines that one run after the other would tell."""
+    """Writes each line only once, though each run has it again."""
     for line in text.splitlines():
         if line not in told:
             show(line)

@@ -1,8 +1,8 @@
-"""step.py HARNESS [NAME | --serve]: of a harness that is a file of Python, what it defines, as JSON; or one of its functions, in the folder in which
-this program is started; or, for each line of standard input, one of them in a process of its own.
+"""step.py HARNESS [NAME | --serve]: reads a harness that is a file of Python. Without NAME it prints as JSON what the harness defines. With NAME it
+calls that function in the current folder. With --serve it calls a function in a process of its own for each line of standard input.
 
-`judge` gets the promises, a list of lines. Where it returns a text, this program writes it and ends with 1: the promise is broken, and the text
-is its code."""
+`judge` gets the promises, a list of lines. If it returns a text, this program prints the text and ends with 1: a promise is broken, and the text
+is the code."""
 
 import json
 import os
@@ -17,13 +17,13 @@ RAISED, LATE = 2, "late"
 
 
 def defined(path: str) -> dict:
-    """A harness's own names. It may import what stands beside it."""
+    """The names that a harness defines. It may import modules from its own folder."""
     sys.path.insert(0, os.path.dirname(path))
     return {name: value for name, value in runpy.run_path(path).items() if not name.startswith("_")}
 
 
 def described(names: dict, path: str) -> dict:
-    """Functions as null, values as they are; what else is there is none of the loop's. The modules are those that stand beside the harness, or below."""
+    """What the loop uses of these names: functions as null, values as they are, and the modules in the harness's folder or below."""
     functions = {name: None for name in STEPS if callable(names.get(name))}
     values = {name: value for name, value in names.items() if isinstance(value, (str, bool, list, tuple, dict))}
     files = [getattr(module, "__file__", None) or "" for module in sys.modules.values()]
@@ -43,7 +43,7 @@ def perform(names: dict, name: str) -> int:
 
 
 def performed(names: dict, name: str) -> int:
-    """Its status. One that raises says nothing, and 1 would say that a promise is broken."""
+    """Calls a function. If it raises an exception, its status is RAISED, since 1 means that a promise is broken."""
     try:
         status = perform(names, name)
     except BaseException:  # noqa: BLE001
@@ -54,7 +54,7 @@ def performed(names: dict, name: str) -> int:
 
 
 def perform_as_asked(names: dict, asked: dict) -> None:
-    """In a new process: where, with what environment, and where to its output goes."""
+    """Calls a function in this new process, with the folder, environment and files of the request."""
     os.setsid()
     os.chdir(asked["folder"])
     os.environ.clear()
@@ -66,7 +66,7 @@ def perform_as_asked(names: dict, asked: dict) -> None:
 
 
 def wait_for(child: int, seconds: int) -> int | str:
-    """How it ended, as a shell tells it; what is late is ended, with its group."""
+    """The status of a child, as a shell has it. If the child takes too long, it is ended with its group."""
     handle = os.pidfd_open(child)
     ended = select.poll()
     ended.register(handle, select.POLLIN)

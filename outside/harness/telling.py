@@ -1,11 +1,11 @@
-"""What a person reads of a campaign: which call of which file failed, in words."""
+"""Describes faults for a person: which call on which file failed."""
 
 from .outcome import Outcome
 from .scenario import Scenario, Unreadable
 from .shown import escaped
 
 TEAR = "power::tear"
-KEEPS = {"power::keep": "is kept", TEAR: "is kept by half"}
+KEEPS = {"power::keep": "is kept", TEAR: "is torn"}
 
 
 def ordinal(number: int) -> str:
@@ -14,7 +14,7 @@ def ordinal(number: int) -> str:
 
 
 def what(answer: str) -> str:
-    """What a call came to, by the task that acted."""
+    """What the task that acted did to a call."""
     return {"return": "fails", "return(HALF)": "does half", "return(DROP)": "is lost", "panic": "ends the run",
         }.get(answer, answer.replace("return(", "fails with ").rstrip(")"))
 
@@ -24,13 +24,13 @@ def call_of(hit: list[str]) -> str:
 
 
 def acts(hit: list[str]) -> bool:
-    """Whether its answer comes to anything: a power cut goes by a return alone."""
+    """Whether a fault acted at this hit. At a power cut only a return does anything."""
     return hit[3] != "go" and (hit[1] not in KEEPS or hit[3].startswith("return"))
 
 
 def change_of(outcome: Outcome, place: int) -> str:
-    """A change that a cut asked for: by its number among those that were pending then, and where half of it is kept, with its bytes. A hit of
-    power::tear stands behind that of power::keep, which has the number."""
+    """A pending change at the hit of a cut: its number, and if half of it is kept, its bytes. A hit of power::tear is behind that of
+    power::keep, which has the number."""
     is_torn = outcome.trace[place][1] == TEAR
     number = int(outcome.trace[place - is_torn][2])
     if number > len(outcome.pending):
@@ -40,7 +40,7 @@ def change_of(outcome: Outcome, place: int) -> str:
 
 
 def endless(scenario: str) -> dict[str, int]:
-    """From which hit on each point is answered for ever."""
+    """For each point with a sticky fault, the hit from which on the fault acts."""
     found = {}
     try:
         for name, chain in Scenario(scenario).chains.items():
@@ -52,7 +52,7 @@ def endless(scenario: str) -> dict[str, int]:
 
 
 def kept_of_torn(outcome: Outcome, places: list[int]) -> set[int]:
-    """Where the hits of power::keep stand that those of power::tear among these say more of."""
+    """The places of the hits of power::keep before those of power::tear among these places."""
     return {place - 1 for place in places if outcome.trace[place][1] == TEAR}
 
 
@@ -60,7 +60,7 @@ def fault_in_words(outcome: Outcome, place: int, is_for_ever: bool) -> str:
     hit = outcome.trace[place]
     if hit[1] in KEEPS:
         later = " and each later one" if is_for_ever else ""
-        return f"of what is pending {change_of(outcome, place)}{later} {KEEPS[hit[1]]}"
+        return f"pending change {change_of(outcome, place)}{later} {KEEPS[hit[1]]}"
     later = f" and each later {hit[1]}" if is_for_ever else ""
     return f"the {call_of(hit)}{later} {what(hit[3])}"
 
@@ -84,5 +84,5 @@ def group_of(outcome: Outcome) -> str:
     places = [place for place, hit in enumerate(outcome.trace) if acts(hit)]
     said_by_tear = kept_of_torn(outcome, places)
     hits = [outcome.trace[place] for place in places if place not in said_by_tear]
-    parts = [f"{KEEPS[hit[1]]}: {hit[4]}" if hit[1] in KEEPS else f"{hit[1]} ({hit[4]}) {what(hit[3])}" for hit in hits]
+    parts = [f"{hit[4]} {KEEPS[hit[1]]}" if hit[1] in KEEPS else f"{hit[1]} ({hit[4]}) {what(hit[3])}" for hit in hits]
     return escaped(f"{outcome.verdict.removeprefix('fail ')}: {', '.join(dict.fromkeys(parts)) or 'without any fault'}")

@@ -1,30 +1,39 @@
-"""The hits of a run, as the supervisor notes them."""
+"""Reads the hits of a run, as the supervisor notes them."""
 
 import itertools
 from pathlib import Path
 
-MOST_HITS = 65536  # that an answer may have
-SHORTEST = 40  # bytes of a line, at least
-POINTS = "points"  # of a run's folder: the trace of a client
-MARKS = "marks"  # of the folder of its notes: for each hit its number, and how long the notes and the output were; the supervisor writes to it if it is there
+MOST_HITS = 65536  # an answer may have so many hits
+SHORTEST = 40  # the fewest bytes that a line has
+POINTS = "points"  # in a run's folder: the trace of a client
+# In the folder of a run's notes: for each hit its number, and how long the notes and the output were. The supervisor writes to it only if it is there.
+MARKS = "marks"
 
 
 def trace_of(run: Path) -> list[list[str]]:
-    """Number, point, which hit of it, answer, file, process, flags and result of each hit; of a run with too many, one more than it may have."""
+    """The columns of each hit: number, point, which hit of it, task, file, process, flags, result. At most one hit more than allowed is read."""
     with open(run / "trace", encoding="utf-8", errors="surrogateescape", newline="\n") as lines:
         return [line.removesuffix("\n").split("\t") for line in itertools.islice(lines, MOST_HITS + 1)]
 
 
 def points_trace(folder: Path, before: int) -> list[list[str]]:
-    """The hits of a client (points/points.h), numbered behind so many others."""
+    """The hits of a client (points/points.h), with numbers behind so many others."""
     path = folder / POINTS
     lines = path.read_text("utf-8", "surrogateescape").splitlines() if path.exists() else []
     return [[str(before + number), *line.split("\t")[1:], "-", "-", "-"] for number, line in enumerate(lines, 1)]
 
 
+def length_of(path: Path) -> int:
+    """The bytes of a file, or 0 if there is none."""
+    try:
+        return path.stat().st_size
+    except FileNotFoundError:
+        return 0
+
+
 def hits_too_often(run: Path) -> bool:
     path = run / "trace"
-    if not path.exists() or path.stat().st_size <= MOST_HITS * SHORTEST:
+    if length_of(path) <= MOST_HITS * SHORTEST:
         return False
     with open(path, "rb") as lines:
         return sum(1 for _ in itertools.islice(lines, MOST_HITS + 1)) > MOST_HITS

@@ -1,4 +1,4 @@
-"""Folders of files: a digest of what one holds, a copy, what it takes on the disk."""
+"""Digests, copies and sizes of folders of files."""
 
 import hashlib
 import os
@@ -9,11 +9,11 @@ from fnmatch import fnmatchcase
 from typing import BinaryIO
 
 BLOCK = 1 << 20
-Entry = tuple[str, os.stat_result]  # a name below the folder, and what the system says of it
+Entry = tuple[str, os.stat_result]  # a name below the folder, and its status
 
 
 def entries(folder: str, below: str = "") -> Iterator[Entry]:
-    """All that is below it, in the order of names, each folder before what it holds."""
+    """All entries below a folder, in the order of names, each folder before what is in it."""
     for entry in sorted(os.scandir(os.path.join(folder, below)), key=lambda entry: entry.name):
         name = f"{below}/{entry.name}" if below else entry.name
         yield name, entry.stat(follow_symlinks=False)
@@ -31,7 +31,7 @@ def contents_of(path: str, told: os.stat_result) -> bytes:
 
 
 def parts(file: int, length: int) -> Iterator[tuple[int, int]]:
-    """Where bytes are, and not holes, or room that nobody has written to: beginnings and lengths."""
+    """The beginnings and lengths of those parts of a file that aren't holes."""
     at = 0
     while at < length:
         try:
@@ -44,7 +44,7 @@ def parts(file: int, length: int) -> Iterator[tuple[int, int]]:
 
 
 def digest_of_parts(file: BinaryIO, length: int) -> bytes:
-    """Of its blocks that aren't all zeros, so that it is the same wherever holes are. One of terabytes isn't read."""
+    """The digest of a file's blocks that aren't all zeros, so holes don't change it. A hole of terabytes isn't read."""
     state = hashlib.sha256(b"%d" % length)
     end = 0
     for at, size in parts(file.fileno(), length):
@@ -57,7 +57,7 @@ def digest_of_parts(file: BinaryIO, length: int) -> bytes:
 
 
 def digest(folder: str, leaves_out: tuple[str, ...] = ()) -> bytes:
-    """Of names, contents, links and modes; of files all of whose names have one of these patterns without their contents."""
+    """The digest of names, contents, links and modes. Contents of files all of whose names match one of these patterns are left out."""
     state = hashlib.sha256()
     first_name: dict[int, str] = {}
     counted: set[int] = set()
@@ -71,7 +71,7 @@ def digest(folder: str, leaves_out: tuple[str, ...] = ()) -> bytes:
 
 
 def copy_file(source: str, target: str, told: os.stat_result) -> None:
-    """Its holes stay holes, and of a log that has room ahead, as etcd's has for 64 megabytes, none is copied."""
+    """Copies a file. Its holes stay holes, and room ahead in a log, such as the 64 megabytes of etcd's, isn't copied."""
     if told.st_size <= BLOCK:
         shutil.copyfile(source, target)
         return
@@ -85,7 +85,7 @@ def copy_file(source: str, target: str, told: os.stat_result) -> None:
 
 
 def copy(source: str, target: str) -> None:
-    """With links and modes, as a new folder."""
+    """Copies a folder with links and modes, as a new folder."""
     os.mkdir(target)
     names = list(entries(source))
     first_name: dict[int, str] = {}
@@ -107,19 +107,19 @@ def copy(source: str, target: str) -> None:
 
 
 def size(folder: str) -> int:
-    """What it takes on the disk, while a program may change it."""
+    """The bytes that a folder takes on the disk, though a program may change it meanwhile."""
     total = 0
     try:
         with os.scandir(folder) as names:
             for entry in names:
                 total += size(entry.path) if entry.is_dir(follow_symlinks=False) else entry.stat(follow_symlinks=False).st_blocks * 512
     except (FileNotFoundError, PermissionError):
-        pass  # gone since it was listed, or closed to us: then it is as good as empty
+        pass  # it was deleted meanwhile, or can't be entered: then it counts as empty
     return total
 
 
 def remove(folder: str) -> None:
-    """Also what may not be entered."""
+    """Deletes a folder, also if it has folders that may not be entered."""
     try:
         shutil.rmtree(folder)
     except PermissionError:

@@ -1,4 +1,4 @@
-"""One scenario, shown hit by hit: with files, and with what had been promised by then."""
+"""Shows one scenario hit by hit, with files, and with what had been promised by then."""
 
 from collections import defaultdict
 from pathlib import Path
@@ -13,7 +13,7 @@ from .shown import escaped, write_out
 from .telling import KEEPS, acts, faults_in_words, what
 from .trace import MARKS
 
-Marks = list[tuple[int, int]]  # of each hit its number, and how long the output was when it began
+Marks = list[tuple[int, int]]  # for each hit its number, and how long the output was when it began
 Lines = defaultdict[int, list[str]]  # what is written before the hit of that number
 
 
@@ -23,7 +23,7 @@ def marks_of(run: Path) -> Marks:
 
 
 def add_said(lines: Lines, said: bytes, marks: Marks, behind: int) -> None:
-    """Each line before the first hit that found it written; what no hit found stands before the one with the number `behind`."""
+    """Adds each printed line before the first hit that came after it. Lines after all hits are added before the number `behind`."""
     at = 0
     for number, length in [*marks, (behind, len(said))]:
         lines[number] += [f"      said: {line}" for line in said[at:length].decode("utf-8", "surrogateescape").splitlines()]
@@ -35,7 +35,7 @@ def pending_lines(tools: Tools, run: Path) -> list[str]:
 
 
 def lines_of(record: Record, outcome: Outcome, tools: Tools) -> Lines:
-    """What the run said, and what it said `again`, which begins once the power cut has left less than was pending."""
+    """The lines that `run` printed, and those that `again` printed after the power cut."""
     lines: Lines = defaultdict(list)
     add_said(lines, record.said(), marks_of(record.run), len(record.points) + 1)
     if not record.said_again.exists():
@@ -59,7 +59,7 @@ def write(lines: list[str]) -> None:
 
 
 def watched(decider: Decider, scenario: str) -> int:
-    """Runs it, and ends with 1 where it fails, and with 2 where the supervisor refused it."""
+    """Runs a scenario and shows it. The status is 1 if it fails, and 2 if the supervisor refused it."""
     with decider.room.seat(alone=True):
         record = decider.runner.make(scenario)
         outcome = decider.finish(record, len(record.points) + 1, scenario, LooksUp.NONE)
@@ -74,7 +74,7 @@ def watched(decider: Decider, scenario: str) -> int:
 
 
 def tell_end(record: Record, outcome: Outcome, tools: Tools) -> None:
-    """What was pending at the last cut, what came of it, and what its programs wrote to standard error."""
+    """Shows what was pending at the last cut, the verdict, and what the programs wrote to standard error."""
     why = f": {outcome.judgement.why}" if outcome.judgement.why else ""
     last = record.rewound if record.said_again.exists() else record.run
     write([*pending_lines(tools, last), f"{outcome.verdict}{why}: {faults_in_words(outcome)}"])

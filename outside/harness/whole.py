@@ -1,4 +1,4 @@
-"""A campaign of a harness, whole: its files, its lines for a person, its end."""
+"""A whole campaign of a harness: its files, its lines for a person, and its exit status."""
 
 import math
 import os
@@ -8,7 +8,7 @@ from collections.abc import Iterator
 from dataclasses import dataclass
 from pathlib import Path
 
-from .answers import DIFFERS, Answers, Stopped
+from .answers import DIFFERS, Answers, Stopped, changed
 from .campaign import Campaign
 from .deciding import Decider, Differs
 from .definition import Harness
@@ -22,7 +22,7 @@ from .shown import show, write_out
 from .telling import failure, group_of
 from .workers import Workers
 
-LOOK_SHARE = 200  # answers of the loop's own can be read; whether runs do the same, the next round sees too
+LOOK_SHARE = 200  # checking the answers takes one part in so many of the time: the loop wrote them itself, and the next round checks them too
 ALWAYS = "--page"
 FORMS = {ALWAYS: "page.html", "--junit": "junit.xml", "--json": "report.json"}
 TRUSTS = {  # what FAULTS_SYNC may be, and what that means
@@ -33,24 +33,24 @@ TRUSTS = {  # what FAULTS_SYNC may be, and what that means
 
 @dataclass
 class Asked:
-    """What the words of the command line ask."""
+    """What the arguments of the command line ask for."""
 
-    words: str  # of the command and the harness, for `again:`
+    words: str  # the command and the harness, as `again:` prints them
     jobs: int
     shows_progress: bool
     brief: bool
     strict: bool
     forms: list[str]
     failures: int | None  # after how many it stops
-    shard: Shard | None  # of many machines, this one's share
+    shard: Shard | None  # this machine's share of the campaign
 
 
 class Enough(Exception):
-    """As many failures as were asked for; or the first, where the run without faults has it."""
+    """As many plans fail as were asked for, or the run without faults fails."""
 
 
 class Whole:
-    """The engine of the campaign, too: it hands on what the workers decide, and tells it."""
+    """A campaign of a harness, and its engine: it passes on what the workers decide, and prints lines about it."""
 
     name = "the harness"
 
@@ -82,13 +82,14 @@ class Whole:
     # ---- lines for a person
 
     def tell_size(self, asked: list[str]) -> None:
-        """How many runs the settings make, once their first round is known."""
+        """Prints how many plans there are, once the first round of them is known."""
         if asked == ["none"] or self.has_told_size:
             return
         self.has_told_size = True
         hits = len(asked) // 2
         more = sum(2 * math.comb(hits, faults) for faults in range(2, self.settings.depth + 1))
-        show(f"loop: {len(asked)} plans" + " with one fault" * (self.settings.depth > 0) + (f", and to depth {self.settings.depth} perhaps {more} more" if more else ""))
+        rest = f", and perhaps {more} more up to depth {self.settings.depth}" if more else ""
+        show(f"loop: {len(asked)} plans" + " with one fault" * (self.settings.depth > 0) + rest)
 
     def tell(self, outcome: Outcome) -> None:
         if outcome.verdict == UNRESOLVED:
@@ -99,7 +100,7 @@ class Whole:
                 raise Enough
 
     def tell_unresolved(self, outcome: Outcome) -> None:
-        """Each reason once."""
+        """Prints each reason for an unresolved run once."""
         why = outcome.judgement.why
         self.unresolved[why] += 1
         if self.unresolved[why] == 1:
@@ -110,28 +111,28 @@ class Whole:
         show(failure(outcome))
 
     def require_pass(self, outcome: Outcome) -> None:
-        """Of the run without faults. One that doesn't pass ends the campaign, and is no answer: the next campaign begins with it again."""
+        """Ends the campaign if the run without faults doesn't pass. This run is no answer: the next campaign begins with it again."""
         if outcome.verdict == PASS:
             return
         if outcome.verdict == UNRESOLVED:
             self.tell_unresolved(outcome)
-            raise Stopped("the run without faults says nothing")
+            raise Stopped("the run without faults is unresolved, for the reason above, so nothing else is tried")
         self.tell_failure(outcome)
-        self.found = ["none"]  # all else says nothing then
+        self.found = ["none"]  # then no other failure means anything
         for change in outcome.pending:
             show(f"pending: {' '.join(change)}")
         self.tell_trust()
         raise Enough
 
     def tell_trust(self) -> None:
-        """Whether the run without faults passes on file systems that promise more of names."""
+        """Prints whether the run without faults passes on file systems that promise more about names."""
         if "FAULTS_SYNC" in os.environ | self.harness.variables:
             return
         passing = [word for word in TRUSTS if self.decider.passes(FAULTS_SYNC=word)]
         for word in passing:
-            show(f"loop: it passes with FAULTS_SYNC={word} in the environment of the loop: {TRUSTS[word]}")
+            show(f"loop: the run without faults passes if you set FAULTS_SYNC={word}: {TRUSTS[word]}")
         if not passing:
-            show(f"loop: it fails with FAULTS_SYNC={' and '.join(TRUSTS)} too: no sync of a file makes good for what is pending")
+            show(f"loop: the run without faults fails with FAULTS_SYNC={' and FAULTS_SYNC='.join(TRUSTS)} too: the pending changes need a sync after them")
 
     def tell_again(self, scenario: str) -> None:
         show(f"again: {self.asked.words} --try {shlex.quote(scenario)}")
@@ -141,7 +142,7 @@ class Whole:
     def run(self) -> int:
         campaign = Campaign(self.paklour, self.answers, self, self.asked.shows_progress)
         for point, why in self.settings.refused_points():
-            raise Stopped(f"{self.settings.path}: {why} {point}")
+            raise Stopped(f"{self.settings.path}: {point}: {why}")
         try:
             campaign.grow(mine=self.mine)
             return self.report() if not self.asked.shard else self.end_of_shard()
@@ -158,7 +159,7 @@ class Whole:
         return [text for text in asked if self.asked.shard.has(text, places)]
 
     def end_early(self) -> int:
-        """What was found is run once more, as what a report finds is; the run without faults was just made."""
+        """Runs the failures once more, as a report's findings are. The run without faults was just made, so it isn't made again."""
         self.tell_counts()
         if self.found != ["none"]:
             return 1 if self.confirm(self.found) else DIFFERS
@@ -166,7 +167,7 @@ class Whole:
         return 1
 
     def end_of_shard(self) -> int:
-        """A part has no report: whoever joins it with the others writes one, and tries again what fails."""
+        """Ends a share of a campaign. It has no report: the campaign that joins the shares writes one, and runs failures once more."""
         self.tell_counts()
         return 1 if self.answers.failing else 0
 
@@ -182,12 +183,17 @@ class Whole:
         return status if is_same else DIFFERS
 
     def tell_counts(self) -> None:
-        runs, judgements, decider = self.decider.runner.count, self.decider.judge.count, self.decider
-        show(f"loop: {runs} runs and {judgements} judgements; {decider.followed} plans by what follows, {decider.tried} of them tried")
+        for why, count in self.unresolved.items():
+            if count > 1:
+                more = "1 more plan is" if count == 2 else f"{count - 1} more plans are"
+                show(f"loop: {more} unresolved for this reason: {why}")
+        decider = self.decider
+        derived = f"{decider.followed} plans were derived from other runs, {decider.tried} of them were run as a check"
+        show(f"loop: {decider.runner.count} runs and {decider.judge.count} judgements; {derived}")
 
     def confirm(self, scenarios: list[str]) -> bool:
-        """Runs each finding and cause once more, and the run without faults, which passed long ago; tells what the causes have in common.
-        Whether all did the same."""
+        """Runs each finding and cause, and the run without faults, once more, and prints what the causes have in common. Whether all came out
+        the same."""
         lines = {scenario_in(line): line for line in self.answers.lines()}
         groups: Counter[str] = Counter()
         is_same = True
@@ -199,21 +205,21 @@ class Whole:
             elif outcome.scenario != "none":
                 groups[group_of(outcome)] += 1
         for group, count in groups.most_common():
-            show(f"{count} of: {group}")
+            show(f"{count} failure{'s' * (count > 1)}: {group}")
         if scenarios:
             self.tell_again(scenarios[0])
         return is_same
 
     def tell_difference(self, verdict: str, tried: Outcome, hits: str) -> None:
         if verdict != tried.verdict:
-            show(f"loop: told otherwise: {verdict}, then {tried.verdict}: {tried.scenario}")
+            show(f"loop: {changed('verdict', verdict, tried.verdict, tried.scenario)}")
         else:
-            show(f"loop: other hits: {hits}, then {tried.hits}: {tried.scenario}")
-        show("loop: the program, or its judge, doesn't do the same each time; --every-run takes nothing from another run")
+            show(f"loop: {changed('hits', hits, tried.hits, tried.scenario)}")
+        show("loop: the program or its judge doesn't do the same each time; with --every-run nothing is derived from another run")
 
 
 def findings(report: bytes, codes: list[str]) -> list[str]:
-    """The scenarios of the first failure, of what it is reduced to, and of the causes, each once."""
+    """The scenarios of a report's first failures, of what they are reduced to, and of the causes, each once."""
     found = []
     for line in report.decode("utf-8", "surrogateescape").splitlines():
         kind, _, rest = line.partition(" ")

@@ -1,4 +1,4 @@
-"""The words of a command line."""
+"""The arguments of a command line."""
 
 import os
 import shutil
@@ -10,24 +10,24 @@ ASK_HELP = ("-h", "--help")
 
 
 class Usage(Exception):
-    """Words that mean nothing."""
+    """Arguments that mean nothing."""
 
 
 def usage_of(command: str) -> str:
-    """The head of that file."""
+    """The usage of a command, which is the head of its file."""
     lines = Path(command).read_text("utf-8").split("\n")[1:]
     head = lines[:next(at for at, line in enumerate(lines) if not line.startswith("#"))]
     return "\n".join(line.removeprefix("#").removeprefix(" ") for line in head)
 
 
 def write_help(command: str) -> int:
-    """For who asks for it."""
+    """Prints the usage of a command, for `--help`."""
     write_out(f"{usage_of(command)}\n".encode())
     return 0
 
 
 def as_called(command: str) -> str:
-    """How a reader calls that file: by its name alone where the PATH leads to it, as to an installed one."""
+    """How a user calls a command: by its name alone if the PATH leads to it, as to an installed one."""
     name = os.path.basename(command)
     found = shutil.which(name)
     return name if found and os.path.realpath(found) == os.path.realpath(command) else command
@@ -40,13 +40,13 @@ def whole_number(text: str) -> int:
 
 
 def bytes_of(text: str) -> int:
-    """As 500M or 2G."""
+    """Reads a number of bytes such as 500M or 2G."""
     shift = {"K": 10, "M": 20, "G": 30}.get(text[-1:], 0)
     return whole_number(text[:-1] if shift else text) << shift
 
 
 def split(words: list[str], with_value: set[str], flags: set[str]) -> tuple[dict[str, str], list[str]]:
-    """Options, and what else is there; behind `--` no option is looked for. `-j4` is `-j 4`."""
+    """The options and the other arguments. Behind `--` there are no options. `-j4` means `-j 4`."""
     options: dict[str, str] = {}
     others: list[str] = []
     rest = list(words)

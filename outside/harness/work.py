@@ -1,4 +1,4 @@
-"""The folder in which runs are laid out, each in one of its own. It goes with the campaign; what a killed one left, the next one takes away."""
+"""The folder of a campaign's runs, each in a folder of its own. It is deleted with the campaign, or by the next one if this one is killed."""
 
 import contextlib
 import itertools
@@ -20,21 +20,21 @@ from .shown import show
 
 PREFIX = "paklour-"
 NAME = re.compile(PREFIX + "[0-9a-f]{8}")
-TRIES = 20  # to take it away, a tenth of a second apart
+TRIES = 20  # so often it tries to delete a folder, a tenth of a second apart
 MEMORY = "/dev/shm"
-ENOUGH = 1 << 30  # bytes that are free there, of which a campaign takes a fourth
+ENOUGH = 1 << 30  # runs lie in memory if so many bytes are free there; a campaign takes a fourth
 
 
 def temporary() -> str:
-    """In memory, where enough of that is free: with the syncs of a disk runs take several times as long."""
+    """The folder for temporary files: in memory if enough is free there, since with the syncs of a disk runs take several times as long."""
     if "TMPDIR" not in os.environ and os.access(MEMORY, os.W_OK) and disk_of(MEMORY).free() >= ENOUGH:
         return MEMORY
     return tempfile.gettempdir()
 
 
 def is_of_loop(folder: Path) -> bool:
-    """Whether it looks like one that the loop makes: it has such a name, is this user's, and open to nobody else. A note may be a stranger's, and name any
-    folder."""
+    """Whether a folder looks like one that the loop makes: it has such a name, is this user's, and is open to nobody else. A note may be a
+    stranger's, and name any folder."""
     try:
         told = folder.lstat()
     except OSError:
@@ -43,7 +43,7 @@ def is_of_loop(folder: Path) -> bool:
 
 
 def is_taken_away(folder: Path) -> bool:
-    """Takes it away, though for a moment what ran there may go on in it: a thread that is about to lay out a run, or what a killed campaign began."""
+    """Deletes a folder, though for a moment a thread that lays out a run, or a program of a killed campaign, may go on in it."""
     for _ in range(TRIES):
         with contextlib.suppress(OSError):
             tree.remove(str(folder))
@@ -54,7 +54,7 @@ def is_taken_away(folder: Path) -> bool:
 
 
 class Note:
-    """Whose the answers beside it are, whether each is of a run of its own, and where their runs are laid out."""
+    """The note beside answers: to which harness they belong, whether each comes from its own run, and where runs are laid out."""
 
     def __init__(self, answers: Answers, own: Identity, every_run: bool):
         place = Path(answers.path)
@@ -64,10 +64,10 @@ class Note:
         if answers.count:
             refuse_others(place, own)
         if answers.count and every_run and not known.get("every_run"):
-            raise Stopped(f"{place}: some of these may follow from other runs: take them away, and begin anew with --every-run")
+            raise Stopped(f"{place} may have answers that were derived from other runs: delete it, and start again with --every-run")
         left = Path(str(known.get("work", "")))
         if is_of_loop(left) and not is_taken_away(left):
-            show(f"loop: {left} has runs of a campaign that was killed, and can't be taken away")
+            show(f"loop: {left} has the runs of a campaign that was killed, and can't be deleted")
         self.write()
 
     def write(self, **more: str) -> None:
@@ -76,7 +76,7 @@ class Note:
         new.rename(self.path)
 
     def new_folder(self) -> Path:
-        """For runs. It is noted before it is there, so that whoever is killed leaves none of which the next one doesn't know."""
+        """Makes a folder for runs. It is noted before it is made, so that the next campaign knows it if this one is killed."""
         while True:
             folder = Path(temporary(), PREFIX + secrets.token_hex(4))
             self.write(work=str(folder))
@@ -93,13 +93,13 @@ class Work:
         self.lock = threading.Lock()
 
     def new(self) -> Path:
-        """A folder for a run. The paths of all of them have one length."""
+        """Makes a folder for a run. The paths of all such folders have the same length."""
         with self.lock:
             folder = self.folder / f"{next(self.numbers):08d}"
         folder.mkdir()
         return folder
 
     def end(self) -> None:
-        """What stays of the folder is noted, for the next campaign."""
+        """Deletes the folder. If something stays, the note still has it for the next campaign."""
         if is_taken_away(self.folder) and self.note:
             self.note.write()

@@ -1,4 +1,4 @@
-"""Some threads that decide scenarios side by side. What follows from one run goes to one of them."""
+"""Threads that decide scenarios side by side. Scenarios that can be derived from one run go to one thread."""
 
 import queue
 import threading
@@ -14,18 +14,19 @@ Task = tuple[Unit, Callable[[str], Outcome], queue.SimpleQueue]
 
 
 class Workers:
-    """The threads last as long as this program, since what a thread starts by `within` ends with it."""
+    """The threads. They last as long as this program, since what a thread starts by `within` ends with the thread."""
 
     def __init__(self, decider: Decider, jobs: int):
         self.decider = decider
         self.jobs = jobs
         self.todo: queue.SimpleQueue[Task] = queue.SimpleQueue()
-        self.awaited: queue.SimpleQueue | None = None  # where the outcomes go that somebody waits for
+        self.awaited: queue.SimpleQueue | None = None  # the queue of the outcomes that somebody waits for
         for _ in range(jobs):
             threading.Thread(target=self.work, daemon=True).start()
 
     def units(self, asked: list[str]) -> list[Unit]:
-        """One for each run that is to be made, one for all that follows from the same run; the longest first, and none too long."""
+        """Divides scenarios into units of work: one for each run to be made, and one for all that can be derived from the same run. Long units come
+        first, and none is too long."""
         alone, following = [], {}
         for text in asked:
             base = self.decider.base_of(text)
@@ -52,7 +53,7 @@ class Workers:
                     return
 
     def side_by_side(self, units: list[Unit], decide: Callable[[str], Outcome]) -> Iterator[Outcome]:
-        """The outcomes, as they come. What was begun before, and isn't waited for any more, is left."""
+        """The outcomes, in the order in which they come. Earlier units that nobody waits for any more are dropped."""
         done: queue.SimpleQueue = queue.SimpleQueue()
         self.awaited = done
         for unit in units:
@@ -67,7 +68,7 @@ class Workers:
         return self.side_by_side(self.units(asked), self.decider.decide)
 
     def run_again(self, scenarios: list[str]) -> Iterator[Outcome]:
-        """Each by a run of its own; what breaks a promise is judged again, and the run without faults."""
+        """Makes a run for each scenario. Failures, and the run without faults, are judged again."""
         def run(text: str) -> Outcome:
             return self.decider.run_again(text, LooksUp.NONE if text == "none" else LooksUp.PASSES)
 

@@ -1,4 +1,4 @@
-/* driver POINT..: hits one after the other, and writes what each hit answered: `go`, or `return(ARGUMENT)`. `held` runs it. */
+/* driver POINT..: hits these points one after the other, and prints what each hit returned: `go`, or `return(ARGUMENT)`. `held` runs it. */
 #include "points.h"
 
 #include <stdio.h>

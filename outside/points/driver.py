@@ -1,4 +1,4 @@
-"""driver.py POINT..: hits one after the other, and writes what each hit answered: `go`, or `return(ARGUMENT)`."""
+"""driver.py POINT..: hits these points one after the other, and prints what each hit returned: `go`, or `return(ARGUMENT)`."""
 import sys
 
 from paklour_points import hit

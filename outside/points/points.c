@@ -1,6 +1,6 @@
-/* The client of points.h. Where POINTS_TRACE names a file, that is all that the processes of a run share: which hit of a
-   point is next is counted from its lines, under a lock, and a line that says panic or pause ends each process at its next
-   hit. So a trace belongs to one run. Without one each process counts for itself. */
+/* The client of points.h. If POINTS_TRACE names a file, the processes of a run share only that file. The next hit of a point is counted from its
+   lines, under a lock, and after a line with panic or pause each process ends at its next hit. So a trace belongs to one run. Without a trace each
+   process counts for itself. */
 #define _GNU_SOURCE
 #include "points.h"
 
@@ -27,20 +27,20 @@ enum { MOST_NAME = 200 };
 struct named {
     struct named *next;
     uint64_t hits;
-    struct chain *chain; /* null where the scenario doesn't name it */
+    struct chain *chain; /* null if the scenario doesn't name it */
     char name[];
 };
 
 static struct scenario scenario;
 static struct named *names;
-static uint64_t number; /* hits so far */
+static uint64_t number; /* the number of the last hit */
 static char trace_name[2 * PATH_MAX];
-static off_t seen; /* bytes of the trace that are counted */
+static off_t seen; /* how many bytes of the trace have been counted */
 static pthread_mutex_t mutex = PTHREAD_MUTEX_INITIALIZER;
-static sigset_t signals; /* under the mutex: those of the thread that holds it */
+static sigset_t signals; /* under the mutex: the signal mask of the thread that holds it */
 
-/* A hit may be that of a signal handler, which may have interrupted any function of the C library: so none is called here that
-   takes memory or a lock. */
+/* A hit may come from a signal handler, which may have interrupted any function of the C library. So no function is called here that takes memory
+   or a lock. */
 static _Noreturn void refuse(const char *what, const char *why) {
     const char *words[] = {"points: ", what, ": ", why, "\n"};
     struct iovec parts[5];
@@ -49,7 +49,7 @@ static _Noreturn void refuse(const char *what, const char *why) {
     _exit(REFUSED);
 }
 
-/* Memory of the client's own, which is kept. */
+/* Memory that belongs to the client, and is never given back. */
 static void *room(size_t bytes) {
     enum { AT_ONCE = 1 << 16 };
     static char *left;
@@ -99,7 +99,7 @@ static struct chain *chain_of_name(const char *name) {
     return its->chain;
 }
 
-/* What a share draws here couldn't be drawn again: the first entry that has one, or null. */
+/* The first entry with a share, or null. Random words that a share draws here couldn't be drawn again. */
 static const struct chain *first_share(unsigned *term) {
     const struct chain *first = NULL;
     for (struct named *its = names; its; its = its->next)
@@ -123,7 +123,7 @@ static void take_scenario(const char *text) {
     refuse("scenario", where);
 }
 
-/* The whole path, since a program may change its folder. */
+/* Keeps the trace's whole path, since a program may change its current folder. */
 static void take_trace(const char *name) {
     char folder[PATH_MAX];
     if (*name != '/' && !getcwd(folder, sizeof folder)) refuse("no trace", strerrordesc_np(errno));
@@ -134,8 +134,8 @@ static void take_trace(const char *name) {
     close(file);
 }
 
-/* Before `main`, so that nothing is done under a scenario that can't be read. A child of a program with threads has one of them: so no
-   other is within a hit as it is made. */
+/* This runs before `main`, so that nothing is done under a scenario that can't be read. A child of a program with threads has only one of them, so
+   no other thread may be in a hit when the child is made. */
 __attribute__((constructor)) static void begin(void) {
     const char *text = getenv("FAILPOINTS"), *trace = getenv("POINTS_TRACE");
     if (pthread_atfork(hold, let_go, let_go)) refuse("no memory", strerrordesc_np(ENOMEM));
@@ -143,13 +143,13 @@ __attribute__((constructor)) static void begin(void) {
     if (trace && *trace) take_trace(trace);
 }
 
-/* ---- the trace: number of the hit, point, which hit of the point, answer, and a column that says nothing */
+/* ---- the trace: number of the hit, point, which hit of the point, what it does, and a column without a meaning */
 
-static char lines[4 * MOST_BYTES + MOST_NAME + 256]; /* under the mutex: those that are read, then the one that is written */
+static char lines[4 * MOST_BYTES + MOST_NAME + 256]; /* under the mutex: the lines that are read, and then the one that is written */
 
 static bool begins(const char *text, const char *with) { return !strncmp(text, with, strlen(with)); }
 
-/* Counts a line that any process of the run has written. */
+/* Counts a line, which any process of the run may have written. */
 static void count_line(const char *line) {
     const char *point = strchr(line, '\t'), *hit = point ? strchr(point + 1, '\t') : NULL;
     const char *answer = hit ? strchr(hit + 1, '\t') : NULL;
@@ -160,7 +160,7 @@ static void count_line(const char *line) {
     named(point + 1, (size_t)(hit - point - 1))->hits++;
 }
 
-/* Counts the whole lines among those bytes; answers how many bytes these have. */
+/* Counts the whole lines among these bytes. Returns how many bytes those lines have. */
 static size_t count_lines(char *text, size_t length) {
     char *line = text, *end;
     for (; (end = memchr(line, '\n', (size_t)(text + length - line))); line = end + 1) {
@@ -193,7 +193,7 @@ static void write_line(int file, const struct named *point, const struct term *t
 
 /* ---- a hit */
 
-/* The term that acts at a hit: each term has its count of them, and one without a count all that are left. */
+/* The term that acts at a hit. Each term acts at as many hits as its count says, and one without a count at all that are left. */
 static const struct term *term_at(const struct chain *chain, uint64_t hit) {
     for (unsigned i = 0; chain && i < chain->length; i++) {
         const struct term *term = &chain->terms[i];
@@ -204,7 +204,7 @@ static const struct term *term_at(const struct chain *chain, uint64_t hit) {
     return NULL;
 }
 
-/* The file is opened for each hit: a program may close every descriptor that it doesn't know. */
+/* The file is opened for each hit, since a program may close every descriptor that it doesn't know. */
 static const struct term *hit_traced(struct named *point) {
     int file = open(trace_name, O_RDWR | O_APPEND | O_CLOEXEC);
     if (file < 0) refuse("no trace", strerrordesc_np(errno));

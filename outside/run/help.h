@@ -1,4 +1,4 @@
-/* What `--help` of a program writes: the pages of share/ are made from it. */
+/* The text that `--help` of a program prints. The pages of share/ are made from it. */
 #ifndef HELP_H
 #define HELP_H
 

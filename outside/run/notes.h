@@ -1,5 +1,5 @@
-/* What was done to the files of a run: the file `changes` of its folder, a record after the other. The supervisor writes them,
-   each after the call that it tells of; a power cut reads them. */
+/* Notes of what was done to the files of a run: records in the file `changes` of its folder. The supervisor writes each of them after the call that
+   it describes, and a power cut reads them. */
 #ifndef NOTES_H
 #define NOTES_H
 
@@ -8,19 +8,19 @@
 #include <string.h>
 #include <sys/types.h>
 
-/* Which file or folder: numbers are used again, with another time of birth. */
+/* The identity of a file or folder. Numbers are used again, but with another time of birth. */
 struct key {
     uint64_t number;
     int64_t seconds;
     uint32_t nanoseconds;
-    uint32_t mode; /* no part of the key; as it was */
+    uint32_t mode; /* its mode at that time, which is no part of the key */
 };
 
 static inline bool same_key(const struct key *one, const struct key *other) {
     return one->number == other->number && one->seconds == other->seconds && one->nanoseconds == other->nanoseconds;
 }
 
-/* A folder among all file systems. */
+/* The identity of a folder among all file systems. */
 struct identity {
     uint64_t device;
     struct key key;
@@ -31,38 +31,38 @@ static inline bool same_identity(const struct identity *one, const struct identi
 }
 
 enum kind {
-    /* Names: `name` in `folder`, `other_name` in `other_folder`; of a symbolic link `other_name` is where it leads. */
-    CREATED, /* a file, folder or symbolic link of that name */
+    /* Names: `name` in `folder`, and `other_name` in `other_folder`. For a symbolic link `other_name` is its target. */
+    CREATED, /* a file, folder or symbolic link of that name was made */
     LINKED,
     UNLINKED,
     RENAMED,
     EXCHANGED,
     /* Contents of `file`: */
-    WRITTEN,  /* `length` bytes at `at`: they follow, or come LATER */
-    STORED,   /* the same through a mapping: it makes no file longer */
-    CLEARED,  /* so many bytes are zeros; it makes no file longer */
-    RESIZED,  /* its length is `at` */
-    COPIED,   /* bytes that came later: they are as they were then */
-    /* What lasts of what was noted before the place `at` of the notes: */
-    SYNCED,       /* of that file, or of that folder its names */
-    SYNCED_RANGE, /* of that file what is between `from` and `from + length`, and its length */
+    WRITTEN,  /* `length` bytes at `at`: they follow, or are copied LATER */
+    STORED,   /* the same through a mapping, which makes no file longer */
+    CLEARED,  /* so many bytes became zeros, which makes no file longer */
+    RESIZED,  /* its length became `at` */
+    COPIED,   /* the copy of bytes that were noted without one, as they were then */
+    /* Syncs, for what was noted before the place `at` of the notes: */
+    SYNCED,       /* all of that file lasts, or the names in that folder */
+    SYNCED_RANGE, /* what is between `from` and `from + length` of that file lasts, and its length */
     SYNCED_ALL,
-    SYNC_FAILED,  /* nothing, and the system takes the file's blocks for clean */
+    SYNC_FAILED,  /* nothing lasts, and the system takes the file's blocks for clean */
     KINDS
 };
 
 enum { LATER = 1 };
 
 struct note {
-    uint64_t size; /* of the record: this, its names, each with a byte of zero, and its bytes */
+    uint64_t size; /* the size of the record: this struct, its names, each with a byte of zero, and its bytes */
     uint32_t kind, flags;
     struct key file, other_file, folder, other_folder;
     uint64_t at, from, length;
-    uint32_t name, other_name; /* lengths, with the byte of zero, or 0 */
+    uint32_t name, other_name; /* the lengths of the names with the byte of zero, or 0 */
 };
 
-/* Key, length and number of names of an open file, or of a name in a folder. False where the system refuses, with errno:
-   ENOTSUP where the file system tells no time of birth. */
+/* Finds the key, the length and the number of names of an open file, or of a name in a folder. Returns false with errno if the system refuses:
+   ENOTSUP if the file system records no times of birth. */
 struct file_facts {
     struct key key;
     uint64_t length;

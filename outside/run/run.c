@@ -18,14 +18,14 @@ struct counter *counter_named(struct state *state, const char *name) {
     return NULL;
 }
 
-/* The system ends the write of a process that is killed between two pages of the file. */
+/* Cuts off a last line without an end. If a process is killed in a write, the system may end the write between two pages of the file. */
 static void cut_off_last_line(const char *run) {
     char path[LONG_PATH], byte;
     snprintf(path, sizeof path, "%s/trace", run);
     int trace = open(path, O_RDWR | O_CLOEXEC);
     off_t length = trace < 0 ? 0 : lseek(trace, 0, SEEK_END), whole = length;
     while (whole > 0 && pread(trace, &byte, 1, whole - 1) == 1 && byte != '\n') whole--;
-    if (whole < length && ftruncate(trace, whole)) return; /* then who reads it says so */
+    if (whole < length && ftruncate(trace, whole)) return; /* then whoever reads the trace reports it */
     if (trace >= 0) close(trace);
 }
 

@@ -1,4 +1,4 @@
-/* What the supervisors of a run and its power cut share, and how a run ends. */
+/* What the supervisors of a run share with its power cut, and how a run ends. */
 #ifndef RUN_H
 #define RUN_H
 
@@ -8,7 +8,7 @@
 #include <limits.h>
 #include <pthread.h>
 
-/* The statuses of what a scenario, or a refusal, ended. */
+/* The exit statuses of a run that the scenario ended, or that was refused. */
 enum { PAUSED = 97, REFUSED = 98, PANICKED = 99 };
 
 enum { MOST_POINT = 200, MOST_COUNTERS = 4096, MOST_LATER = 1024, MOST_UNSEEN = 8, MOST_UNSEEN_TEXT = 240,
@@ -21,51 +21,51 @@ struct counter {
     uint64_t used[MOST_TERMS];
 };
 
-/* Bytes of a file that were noted without being copied: from `from` to `to` they are to be found in the file itself. */
+/* Bytes of a file that were noted without a copy: those between `from` and `to` are only in the file itself. */
 struct later {
     struct key file;
     uint64_t from, to;
-    bool never; /* the file is mapped for writing: its bytes are copied at once */
+    bool never; /* the file is mapped for writing, so its bytes are always copied at once */
 };
 
-/* With which sync a change of names lasts: that of its folder, that of the file too, or that of anything. */
+/* Which syncs make a change of names last: those of its folder, also those of the file, or those of anything. */
 enum names_last { WITH_FOLDER, WITH_FILE, WITH_ANY };
 
 /* The file `state` of a run's folder. */
 struct state {
-    pthread_mutex_t mutex; /* between processes, and taken over where its holder was killed */
+    pthread_mutex_t mutex; /* shared by processes, and taken over if its holder was killed */
     int ended;             /* 0, or the status with which the run was ended */
-    int told;              /* whether a name that never acts was told */
+    int told;              /* whether the warning about a name that never acts was printed */
     int loaded;            /* how many programs ran under the supervisor since the run began or went on */
     int others;            /* how many programs were started without it */
-    int torn;              /* whether a process was killed under the lock, where it may have done what it didn't note */
+    int torn;              /* whether a process was killed under the lock: it may have done something that it didn't note */
     struct identity root;  /* the folder that is cut */
     uint64_t started;      /* the number of hits when the run began or went on */
-    uint64_t number;       /* hits so far */
-    uint64_t noted;        /* bytes of the notes so far */
-    uint64_t block;        /* a kept write of more bytes is one change for each block of so many */
-    int names_last;        /* as enum names_last has it */
-    struct {               /* where the first cut found the run, so that states can be laid in turn */
+    uint64_t number;       /* the number of the last hit */
+    uint64_t noted;        /* how many bytes the notes have */
+    uint64_t block;        /* a longer write is one change for each block of so many bytes */
+    int names_last;        /* a value of enum names_last */
+    struct {               /* how the first cut found the run, so that states can be laid out in turn */
         int done;
         uint64_t noted, number, trace;
     } cut;
-    int unseen, unseen_told; /* what the supervisor knows that it didn't see */
+    int unseen, unseen_told; /* what the supervisor knows that it missed, and how many of these were printed */
     char unseen_text[MOST_UNSEEN][MOST_UNSEEN_TEXT];
     struct later later[MOST_LATER];
     struct counter counters[MOST_COUNTERS];
 };
 
-/* The counts of the point of that name, which is at most MOST_POINT bytes long; null where there is no more room. */
+/* The counts of the point of that name, which has at most MOST_POINT bytes. Returns null if there is no more room. */
 struct counter *counter_named(struct state *state, const char *name);
 
-/* Notes what wasn't seen, once. Under the lock. */
+/* Notes something that wasn't seen, once. Call it under the lock. */
 void add_unseen(struct state *state, const char *what, const char *name);
 
-/* The line that tells what wasn't told yet, and its length: 0 where there is nothing. Under the lock. */
+/* Writes the line about all that wasn't seen and wasn't printed yet. Returns its length, or 0 if there is nothing. Call it under the lock. */
 enum { UNSEEN_LINE = MOST_UNSEEN * (MOST_UNSEEN_TEXT + 2) + 64 };
 size_t unseen_line(struct state *state, char *line);
 
-/* Takes the run in that folder for one process, also from a holder that was killed: of its trace the last line is cut off, where that has no end. */
+/* Takes the lock of the run in that folder, also from a holder that was killed. Then the last line of the trace is cut off if it has no end. */
 void lock_state(struct state *state, const char *run);
 
 #endif

@@ -17,7 +17,7 @@ const char *const task_names[TASKS] = {"off", "return", "sleep", "panic", "print
 
 static const char prefix[] = OWN;
 
-/* What a return may name. */
+/* The names that a return may have. */
 static const struct {
     const char *name;
     int number;
@@ -45,7 +45,7 @@ static char *trimmed(char *text) {
     return text;
 }
 
-/* One or more digits and nothing else, of any length; their value, or `most` and one where it is more than `most`. */
+/* Reads one or more digits, of any length, and nothing else. The value is theirs, or if that is more than `most`, one more than `most`. */
 static bool read_digits(const char *text, uint64_t most, uint64_t *value) {
     *value = 0;
     if (!*text) return false;
@@ -57,7 +57,7 @@ static bool read_digits(const char *text, uint64_t most, uint64_t *value) {
     return true;
 }
 
-/* Digits, or digits, a point and one to four digits: percent, in millionths of the whole. */
+/* Reads a percentage, digits or digits, a point and one to four digits, as millionths of the whole. */
 static bool read_share(char *text, uint32_t *share) {
     char *point = strchr(text, '.');
     uint64_t whole, decimals = 0;
@@ -72,7 +72,7 @@ static bool read_share(char *text, uint32_t *share) {
     return true;
 }
 
-/* The task's argument, by the task's rule: dropped, kept, or milliseconds. */
+/* Reads the task's argument by the rule of the task: it is dropped, kept, or read as milliseconds. */
 static bool read_argument(struct term *term, const char *argument) {
     uint64_t millis;
     switch (term->task) {
@@ -97,7 +97,7 @@ static bool read_task(struct term *term, const char *text) {
     return false;
 }
 
-/* The kind of what is wrong with a term, or null. */
+/* Reads a term up to its argument. Returns the kind of what is wrong with it, or null. */
 static const char *read_head(struct term *term, char *text) {
     char *argument = strchr(text, '('), *mark;
     uint64_t count;
@@ -133,7 +133,7 @@ static bool read_term(struct scenario *scenario, struct chain *chain, char *text
     return true;
 }
 
-/* The point of a name: the call, and where points are named by file, an at sign and the file. */
+/* The point of a name: a call, and if points are named by file, an at sign and the file. */
 static enum point point_of(const struct scenario *scenario, const char *name) {
     size_t length = strcspn(name, "@");
     for (int point = KEEP; point < POINTS; point++)
@@ -174,7 +174,7 @@ static bool read_piece(struct scenario *scenario, char *piece) {
     if (!*name) return refuse(scenario, "NoName", 0);
     struct chain *chain = chain_of(scenario, name);
     chain->entry = scenario->piece;
-    chain->length = 0; /* a name that comes again takes its last chain */
+    chain->length = 0; /* if a name comes again, its last chain counts */
     while (rest) {
         char *text = rest, *arrow = strstr(rest, "->");
         rest = arrow ? arrow + 2 : NULL;
@@ -186,8 +186,8 @@ static bool read_piece(struct scenario *scenario, char *piece) {
 
 static bool moves_bytes(enum point point) { return point == READ || point == WRITE || point == SEND || point == RECV; }
 
-/* The error of a return at a point, false where there is none of that name or no half of the point's work. Without a name it
-   is that of a broken disk or line. A cut and an order take each return as it is. */
+/* Finds the error of a return at a point. Returns false if there is no error of that name, or if the point's work has no half. Without a name it is
+   the error of a broken disk or line. Points of a power cut and of the order take each return as it is. */
 static bool find_error(struct term *term, enum point point) {
     const char *name = term->argument ? term->argument : "";
     if (point >= KEEP) return true;
@@ -205,8 +205,8 @@ static bool find_error(struct term *term, enum point point) {
     return false;
 }
 
-/* What the grammar takes and can't be done here, told before anything runs. Who would draw the words of a share is the
-   component, and not the same ones again. */
+/* Refuses, before anything runs, what the grammar allows and what can't be done here. For a share, random words would have to be drawn in the
+   component, and they couldn't be drawn again. */
 static bool can_do(struct scenario *scenario) {
     for (unsigned number = 0; number < scenario->length; number++)
         for (unsigned i = 0; i < scenario->chains[number].length; i++) {

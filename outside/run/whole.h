@@ -1,4 +1,4 @@
-/* Writes of all bytes, whatever one call writes of them. */
+/* Writes all bytes, however few of them one call writes. */
 #ifndef WHOLE_H
 #define WHOLE_H
 

@@ -1,4 +1,4 @@
-/* Reads and writes of files, done by the supervisor with the thread's own descriptor: so what they come to is known. */
+/* Reads and writes of files. The supervisor makes them with the thread's own descriptor, so it knows their results. */
 #define _GNU_SOURCE
 #include "parts.h"
 #include "pin.h"
@@ -12,7 +12,7 @@ enum { MOST_AT_ONCE = 16 << 20 };
 
 /* ---- where */
 
-/* A place of the call, or -1 for where the file is; false for one that the system refuses. */
+/* Reads a place from the call's arguments: -1 if the file's own place counts. Returns false for one that the system refuses. */
 static bool read_place(const struct call *call, off_t *at) {
     *at = call->row->at ? (off_t)argument(call, call->row->at) : -1;
     return !call->row->at || *at >= 0 || (*at == -1 && call->row->flags);
@@ -25,12 +25,12 @@ static int flags_of(const struct call *call) { return (int)argument(call, call->
 struct writing {
     struct call *call;
     const struct opened *opened;
-    struct file_facts file; /* as it is by now */
+    struct file_facts file; /* as it is now */
     off_t at;
     bool appends, syncs;
 };
 
-/* How many bytes the thread's limit leaves at that place. */
+/* How many bytes the thread's limit on the length of files leaves at that place. */
 static size_t room_in_limit(const struct call *call, uint64_t place, size_t length) {
     struct rlimit limit;
     if (!has_limits()) return length;

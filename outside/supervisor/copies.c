@@ -12,7 +12,7 @@ struct copy {
     struct opened in, out;
     bool reads, writes, sends; /* a file under the root, or a socket */
     loff_t in_at, out_at;
-    loff_t *in_place, *out_place; /* null where the descriptor's own place counts */
+    loff_t *in_place, *out_place; /* null if the descriptor's own place counts */
     size_t length;
 };
 
@@ -31,7 +31,7 @@ static bool is_stream(const struct opened *opened) {
     return opened->file >= 0 && (S_ISFIFO(mode) || S_ISSOCK(mode));
 }
 
-/* A pipe or socket may make it wait. */
+/* Whether a copy can go on. If not, the call waits for the pipe or socket. */
 static bool is_ready(struct call *call, const struct opened *opened, short events) {
     struct pollfd file = {opened->file, events, 0};
     if (!is_stream(opened) || fcntl(opened->file, F_GETFL) & O_NONBLOCK || poll(&file, 1, 0) != 0) return true;
@@ -39,7 +39,7 @@ static bool is_ready(struct call *call, const struct opened *opened, short event
     return false;
 }
 
-/* The calls themselves. */
+/* Makes the call itself. */
 typedef ssize_t copier(const struct copy *copy, unsigned flags);
 
 static ssize_t by_range(const struct copy *copy, unsigned flags) {
@@ -53,7 +53,7 @@ static ssize_t by_sendfile(const struct copy *copy, unsigned flags) {
     return sendfile(copy->out.file, copy->in.file, copy->in_place, copy->length);
 }
 
-/* What was copied is read back for the note. */
+/* Makes the copy, and reads back what was copied for the note. */
 static long copy_noted(const struct call *call, const struct copy *what, copier *copies) {
     char link[LINK_LENGTH];
     const struct key *key = &what->out.facts.file.key;
@@ -82,8 +82,8 @@ static enum answer hit_copy(struct call *call, const struct copy *copy) {
     return copy->sends ? hit(call, SEND, "socket", NULL) : hit(call, READ, copy->in.path, NULL);
 }
 
-/* What goes to a stream may wait for who reads it, who may wait for the supervisor: it goes on by itself, and of a half no more is done
-   than fits. */
+/* Whether the call goes on by itself. A copy to a stream may wait for its reader, and the reader for the supervisor. So it goes on by itself,
+   except for a half, of which only as much is done as fits. */
 static bool goes_by_itself(struct copy *copy, enum answer answer) {
     if (answer == HALF) copy->length /= 2;
     if (!is_stream(&copy->out)) return false;
@@ -131,7 +131,7 @@ void serve_clone(struct call *call) {
     char link[LINK_LENGTH];
     if (!open_of(call, call->row->other_file, &out)) return go_on(call);
     enum answer answer = hit(call, WRITE, out.path, NULL);
-    if (answer == FAIL || answer == NOT_YET) return; /* blocks are shared whole, so half of it is all */
+    if (answer == FAIL || answer == NOT_YET) return; /* blocks are shared as a whole, so a half does all of it */
     const struct key *key = &out.facts.file.key;
     if (is_kept) copy_later(key, link_of(out.file, link), 0, UINT64_MAX);
     bool is_whole = (unsigned)argument(call, call->row->flags) == (unsigned)FICLONE;

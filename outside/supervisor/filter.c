@@ -16,7 +16,7 @@
 
 enum { MOST_STEPS = 1024, MOST_ROWS = 120, FIRST_FOREIGN = 0x40000000 };
 
-/* Of arguments the lower halves: nothing that is looked for is longer, but for places in memory. */
+/* The lower half of an argument. Nothing that is looked for is longer, except addresses. */
 #define ARGUMENT(number) ((unsigned)offsetof(struct seccomp_data, args) + 8u * ((unsigned)(number) - 1))
 #define UPPER_HALF 4u
 
@@ -39,7 +39,7 @@ struct steps {
 
 static void add(struct steps *steps, struct sock_filter step) { steps->list[steps->length++] = step; }
 
-/* What is asked of a call's arguments before it is looked at. */
+/* Adds the condition that a call's arguments must meet for the supervisor to be asked about it. */
 static void add_condition(struct steps *steps, const struct row *row) {
     switch (row->where) {
     case SHARED_FILES: /* MAP_SHARED_VALIDATE is 3 and MAP_PRIVATE 2 */
@@ -78,7 +78,7 @@ static bool is_looked_at(const struct row *row, const struct looks *looks) {
     return true;
 }
 
-/* One row of those from the first to before the last is looked for by halves: the system tries each number there is as the filter is set. */
+/* Adds a search by halves for one of so many rows. It is short, since the system tries each number there is when the filter is set. */
 static void add_rows(struct steps *steps, const struct row *const *rows, size_t count) {
     if (count == 0) return add(steps, ALLOW);
     if (count == 1) {

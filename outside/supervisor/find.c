@@ -1,4 +1,4 @@
-/* The file or folder that a name means to the thread that names it. */
+/* Finds the file or folder that a name means to the thread that uses it. */
 #define _GNU_SOURCE
 #include "supervisor.h"
 
@@ -11,7 +11,7 @@ enum { MOST_LINKS = 40 };
 
 /* ---- names that mean something else to each thread */
 
-/* `/proc/self` is the supervisor's where the supervisor looks, so the thread's own is named. */
+/* For the supervisor `/proc/self` is its own folder. So the name is changed to that of the thread's folder. */
 static void name_own(const struct thread *thread, const char *text, char *named) {
     static const char *const standard[] = {"/dev/stdin", "/dev/stdout", "/dev/stderr"};
     for (int i = 0; i < 3; i++)
@@ -35,7 +35,7 @@ static bool is_in_proc(const struct found *found) {
     return found->of_folder.device == proc;
 }
 
-/* Whether a folder is one of the supervisor's own in /proc, which a link led to; then its name there, of the thread. */
+/* Whether a folder is one of the supervisor's own in /proc, to which a link led. Then `path` is the same folder of the thread. */
 static bool names_own_folder(const struct thread *thread, int folder, char *path) {
     char link[LINK_LENGTH], own[64], text[PATH_MAX];
     ssize_t length = readlink(link_of(folder, link), text, sizeof text - 1);
@@ -62,7 +62,7 @@ static int open_folder(const struct call *call, int from, const char *text) {
     return folder;
 }
 
-/* Where a name begins that doesn't begin at the root: the thread's folder, or a descriptor of it. */
+/* The folder at which a relative name begins: the thread's current folder, or one of its descriptors. */
 static int first_folder(struct call *call, int folder) {
     return folder == AT_FDCWD ? folder_of(call->thread) : hold(call, fetch(call->thread, folder));
 }
@@ -71,7 +71,7 @@ static int first_folder(struct call *call, int folder) {
 
 static bool is_folder_itself(const char *name) { return !*name || !strcmp(name, ".") || !strcmp(name, ".."); }
 
-/* Cuts a path into its folder's and its last part, which is "." where the path ends in the folder itself. */
+/* Cuts a path into the path of its folder and its last part, which is "." if the path leads to the folder itself. */
 static bool split(char *path, const char **folder, struct found *found) {
     size_t length = strlen(path);
     found->ends_in_slash = false;
@@ -92,7 +92,7 @@ static bool split(char *path, const char **folder, struct found *found) {
     return true;
 }
 
-/* Whether a folder that isn't found as links of /proc aren't followed is there after all, but perhaps to the supervisor alone. */
+/* Whether a folder that wasn't found is there if links of /proc are followed. It may be there for the supervisor alone. */
 static bool leads_through_proc(int from, const char *folder) {
     int found = openat(from, folder, O_PATH | O_DIRECTORY | O_CLOEXEC);
     bool leads = found >= 0 || errno != ELOOP;
@@ -118,8 +118,8 @@ static bool open_its_folder(struct call *call, int from, char *path, struct foun
     return found->folder >= 0 && look_at(found->folder, "", AT_EMPTY_PATH, &found->of_folder);
 }
 
-/* What exists is known by itself: a folder, a file that has other names, one that a mount shows. A file of one name is where its
-   folder is. */
+/* Whether what exists is under the root. A folder, a file with several names, and a file that a mount shows are known by themselves. A file with
+   one name is where its folder is. */
 static bool is_inside_by_itself(struct call *call, struct found *found, int *file) {
     bool may_be = S_ISDIR(found->facts.file.key.mode) || found->facts.file.links > 1;
     if (*file < 0 && found->folder_is_inside) {
@@ -161,7 +161,7 @@ static bool look_for(struct call *call, int folder, const char *text, bool follo
             decide(call, found, -1);
             return true;
         }
-        if (is_in_proc(found)) { /* it may lead to a file without a name, which is known by the descriptor of it */
+        if (is_in_proc(found)) { /* it may lead to a file without a name, which is known by its descriptor */
             int file = hold(call, openat(found->folder, found->name, O_PATH | O_CLOEXEC));
             if (file < 0 || !look_at(file, "", AT_EMPTY_PATH, &found->facts)) return false;
             decide(call, found, file);

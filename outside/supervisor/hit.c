@@ -1,4 +1,4 @@
-/* A hit: counted, traced, answered. */
+/* Hits: each is counted and traced, and gets what the scenario says. */
 #define _GNU_SOURCE
 #include "../run/whole.h"
 #include "marks.h"
@@ -7,7 +7,7 @@
 
 #include <errno.h>
 
-/* The line of the hit that is being served. It is written with what the call came to, by one write, where that is known at once. */
+/* The line of the hit that is being served. It is written in one piece with the result of the call, if that is known at once. */
 static char line[LONGEST_LINE];
 static char *result_place;
 
@@ -15,19 +15,19 @@ static int open_trace(int flags) {
     char name[LONG_PATH];
     *stpcpy(stpcpy(name, run_folder), "/trace") = 0;
     int trace = open(name, O_WRONLY | O_CLOEXEC | flags);
-    if (trace < 0) refuse("no trace", strerror(errno));
+    if (trace < 0) refuse("can't write the trace", strerror(errno));
     return trace;
 }
 
 static void write_line(size_t length) {
     static int trace = -1;
     if (trace < 0) trace = open_trace(O_APPEND);
-    if (!write_whole(trace, line, length)) refuse("no trace", strerror(errno));
+    if (!write_whole(trace, line, length)) refuse("can't write the trace", strerror(errno));
 }
 
 static void write_result(const char *text, long at) {
     int trace = open_trace(0);
-    if (!write_whole_at(trace, text, RESULT_WIDTH, at)) refuse("no trace", strerror(errno));
+    if (!write_whole_at(trace, text, RESULT_WIDTH, at)) refuse("can't write the trace", strerror(errno));
     close(trace);
 }
 
@@ -49,7 +49,7 @@ void unlock_run(void) {
     if (!--locks) pthread_mutex_unlock(&state->mutex);
 }
 
-/* The line as it is, without a result; the run is given back to others. */
+/* Writes the line without a result, and lets others use the run. */
 void flush_hit(struct call *call) {
     if (!call->hit.seen || !result_place || call->hit.result_at >= 0) return;
     call->hit.result_at = end_of_trace() + (result_place - line);
@@ -94,7 +94,7 @@ static enum answer act(struct call *call, const struct term *term) {
     }
 }
 
-/* The counts are those of all processes of the run, and of what ran in it before. */
+/* Counts a hit. The counts are those of all processes of the run, and of all that ran in it before. */
 static void count(struct call *call, enum point point, const char *path, const char *flags) {
     char text[MOST_POINT + 1];
     const char *name = point_name(&scenario, point, path, text);

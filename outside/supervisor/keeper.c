@@ -23,7 +23,7 @@
 #include <time.h>
 #include <unistd.h>
 
-/* What the supervisor, the keeper and the command's first process tell each other: messages would be calls that are looked at. */
+/* Memory that the supervisor, the keeper and the command's first process share. Messages between them would be calls that are looked at. */
 enum step { STARTED, LISTENS, FAILED };
 static struct {
     int step;
@@ -87,10 +87,10 @@ static bool reap(void) {
             shared->status = status;
             __atomic_store_n(&shared->command_ended, 1, __ATOMIC_SEQ_CST);
         }
-    return ended == 0; /* some are left */
+    return ended == 0; /* some children are left */
 }
 
-/* Until no process is left. Where the supervisor is gone, each that is there is ended, also one that starts others meanwhile. */
+/* Waits until no process is left. If the supervisor is gone, it ends every process, also one that starts others meanwhile. */
 static _Noreturn void keep(pid_t supervisor, const sigset_t *awaited) {
     bool ends_all = getppid() != supervisor;
     for (;;) {
@@ -115,22 +115,22 @@ static bool hears(enum step before, int milliseconds) {
     return true;
 }
 
-/* False where the supervisor is gone. */
+/* Waits for the supervisor. Returns false if that is gone. */
 static bool is_heard(void) {
     struct pollfd heard = {hearing[0], POLLIN, 0};
     while (poll(&heard, 1, -1) < 0 && errno == EINTR) continue;
     return heard.revents & POLLIN;
 }
 
-/* In the keeper's memory, which waits meanwhile. */
+/* It runs in the memory of the keeper, which waits meanwhile. */
 static _Noreturn void run_command(char **words, const struct looks *looks) {
     shared->command = getpid();
-    if (looks->random) personality(ADDR_NO_RANDOMIZE); /* some draw from addresses too */
+    if (looks->random) personality(ADDR_NO_RANDOMIZE); /* some programs take random numbers from addresses */
     shared->listener = set_filter(looks);
     shared->error = errno;
     say(shared->listener < 0 ? FAILED : LISTENS);
     if (shared->listener < 0 || !is_heard()) _exit(REFUSED);
-    close(shared->listener); /* so that calls fail, and don't wait, where the supervisor is killed now */
+    close(shared->listener); /* so that calls fail, and don't wait, if the supervisor is killed from now on */
     sigprocmask(SIG_SETMASK, &signals_before, NULL);
     execvp(words[0], words);
     char line[4 * PATH_MAX + 128], *end = escaped(stpcpy(line, "faults: "), strndupa(words[0], PATH_MAX));
@@ -159,7 +159,7 @@ static _Noreturn void run_keeper(pid_t supervisor, char **words, const struct lo
 
 /* ---- the supervisor's side */
 
-/* What the system has to have beside the filter. */
+/* Gets the listener, and checks what the system must allow in addition to the filter. */
 static int hear_listener(void) {
     char probe;
     int handle = (int)syscall(SYS_pidfd_open, shared->command, 0);
@@ -175,7 +175,7 @@ static int hear_listener(void) {
     return listener;
 }
 
-/* What can be known before the command is there. Without openat2 names with a folder in them would go unseen. */
+/* Checks what can be known before the command starts. Without openat2, names with a folder in them would go unseen. */
 static void check_system(void) {
     struct open_how how = {.flags = O_PATH | O_CLOEXEC};
     int folder = (int)syscall(SYS_openat2, AT_FDCWD, "/", &how, sizeof how);
@@ -193,7 +193,7 @@ int start_command(char **words, const struct looks *looks) {
     keeper = fork();
     if (keeper < 0) refuse("can't start a process", strerror(errno));
     if (!keeper) run_keeper(supervisor, words, looks);
-    if (!hears(STARTED, 10000)) refuse("can't start a process", "nothing was heard of it");
+    if (!hears(STARTED, 10000)) refuse("can't start a process", "it didn't begin within ten seconds");
     if (shared->step == FAILED)
         refuse("the system lacks seccomp with SECCOMP_FILTER_FLAG_WAIT_KILLABLE_RECV (Linux 5.19), or forbids it",
             strerror(shared->error));

@@ -1,5 +1,5 @@
-/* The process between the supervisor and the command: parent of all that the command starts, so that none of it is lost, and
-   what ends all of it where the supervisor is killed. */
+/* The keeper is the process between the supervisor and the command. It becomes the parent of all that the command starts, so that nothing is lost,
+   and ends all of it if the supervisor is killed. */
 #ifndef KEEPER_H
 #define KEEPER_H
 
@@ -7,13 +7,13 @@
 
 #include <sys/types.h>
 
-/* Starts the command and answers the listener of its filter; what lacks is told, and ends this process. */
+/* Starts the command and returns the listener of its filter. If the system lacks something, a line says what, and this process ends. */
 int start_command(char **words, const struct looks *looks);
 
-/* Whether all of the run has ended; the status of the command is that of wait. */
+/* Whether all processes of the run have ended. `status` is the status of the command, as wait has it. */
 bool has_ended(int *status);
 
-/* Waits until all of it has, which no call tells. */
+/* Waits until all processes of the run have ended. No call would report that. */
 void wait_for_end(void);
 
 /* Ends every process of the run, and waits until they are gone. */
@@ -22,7 +22,7 @@ void end_all(void);
 pid_t command(void);
 bool command_runs(void);
 
-/* Calls `sees` for each thread of the run; ends early, with false, where that answers false. */
+/* Calls `sees` for each thread of the run. If that returns false, it ends early and returns false too. */
 bool each_thread(bool (*sees)(pid_t process, pid_t thread));
 
 #endif

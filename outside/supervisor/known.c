@@ -1,5 +1,5 @@
-/* Which files and folders are under the root: by device, number and time of birth, never by a name. What is there as the run
-   begins is read once; what the run makes, moves and links is told; anything else is looked at once. */
+/* Knows which files and folders are under the root, by device, number and time of birth, and never by a name. Those that are there when the run
+   begins are read once; what the run makes, moves and links is added by its calls; anything else is looked at once. */
 #define _GNU_SOURCE
 #include "supervisor.h"
 
@@ -16,8 +16,8 @@ enum where_it_is { UNKNOWN, INSIDE, OUTSIDE, LEFT };
 struct known {
     struct key key;
     enum where_it_is where;
-    unsigned names;  /* as of which change of names its path is known, or 0 */
-    char *path;      /* below the root */
+    unsigned names;  /* its path is known as of this change of names; 0 if it isn't known */
+    char *path;      /* its path below the root */
 };
 
 static struct known *all;
@@ -67,7 +67,7 @@ static void know(const struct key *key, enum where_it_is where) {
 
 void set_inside(const struct key *key, bool inside) { know(key, inside ? INSIDE : OUTSIDE); }
 
-/* ---- what isn't */
+/* ---- what isn't known yet */
 
 static const char *path_of(int file, char *path) {
     char link[LINK_LENGTH];
@@ -82,14 +82,14 @@ static const char *rest_behind(const char *path, const char *folder) {
     return path[length] == '/' ? path + length + 1 : path[length] ? NULL : ".";
 }
 
-/* The path below the root of what a path leads to, or null. The root may be moved while the run goes on. */
+/* The part of a path that is below the root, or null. The root may be moved while the run goes on. */
 static const char *below_root(const char *path) {
     static char own[PATH_MAX];
     const char *found = rest_behind(path, own);
     return found ? found : rest_behind(path, path_of(root_folder, own));
 }
 
-/* A folder that a mount shows elsewhere too: of those that lead to it one may be known. */
+/* Whether a folder is in one that is known to be under the root. A mount may show it elsewhere too. */
 static bool leads_up_to_root(int folder) {
     struct facts facts, before = {0};
     bool inside = false;
@@ -121,11 +121,11 @@ bool is_inside(int file, const struct facts *facts) {
 static unsigned names_now = 1;
 
 void name_changed(const struct facts *facts) {
-    if (S_ISDIR(facts->file.key.mode)) names_now++; /* and so did the paths of all that is below */
+    if (S_ISDIR(facts->file.key.mode)) names_now++; /* the paths of all that is below changed too */
     else place_of_key(&facts->file.key)->names = 0;
 }
 
-/* Of a file with several names each descriptor has its own. */
+/* The path by which a file is known, or null. For a file with several names each descriptor has its own path. */
 static const char *known_path(const struct facts *facts) {
     const struct known *known = place_of_key(&facts->file.key);
     bool has_one = S_ISDIR(facts->file.key.mode) || facts->file.links == 1;
@@ -146,11 +146,11 @@ const char *shown_path(int file, const struct facts *facts, char *path) {
     if (known) return strcpy(path, known);
     const char *below = below_root(path_of(file, whole));
     const char *slash = below ? strrchr(below, '/') : NULL, *name = slash ? slash + 1 : below;
-    /* Of O_TMPFILE: a number that isn't the same each time. */
+    /* A file of O_TMPFILE has a number in place of a name, which isn't the same each time. */
     bool is_deleted = below && strstr(name, " (deleted)");
     if (is_deleted && name[0] == '#') below = "(no name)";
     if (below && !is_deleted) know_path(facts, below);
-    if (!below) below = place_of_key(&facts->file.key)->path; /* where a mount or a name elsewhere shows it, its name before */
+    if (!below) below = place_of_key(&facts->file.key)->path; /* if it is seen through a mount or a name elsewhere, the path that it had before */
     return strcpy(path, below ? below : whole);
 }
 
@@ -164,7 +164,7 @@ static void set_moved(const struct facts *facts, bool inside) {
 
 bool has_left(const struct key *key) { return place_of_key(key)->where == LEFT; }
 
-/* Takes over the descriptor. `path` leads to the folder, below the root, or is null for one that left. */
+/* Takes over the descriptor. `path` leads from the root to the folder, or is null if the folder left the root. */
 static void know_folder(int folder, const char *path) {
     struct facts facts;
     char below[PATH_MAX];
@@ -191,7 +191,7 @@ void moved(int folder, const char *name, const char *path) {
     if (itself >= 0) know_folder(itself, path);
 }
 
-/* A file of an overlay changes its device, number or time of birth as it is written to: then it isn't known again. */
+/* A file of an overlay changes its device, number or time of birth when it is written to, and then isn't known any more. */
 static bool is_on_overlay(int folder) {
     struct statfs told;
     return !fstatfs(folder, &told) && told.f_type == OVERLAYFS_SUPER_MAGIC;
@@ -204,8 +204,8 @@ void know_root(void) {
     int names = open(root, O_RDONLY | O_DIRECTORY | O_CLOEXEC);
     if (root_folder < 0 || names < 0 || !look_at(root_folder, "", AT_EMPTY_PATH, &facts)) refuse("FAULTS_ROOT", strerror(errno));
     if (statx(root_folder, "", AT_EMPTY_PATH, STATX_BTIME, &told) || !(told.stx_mask & STATX_BTIME))
-        refuse("FAULTS_ROOT", "the file system tells no time of birth");
-    if (is_on_overlay(root_folder)) refuse("FAULTS_ROOT is on an overlay, whose files don't stay the same", root);
+        refuse("FAULTS_ROOT", "the file system records no times of birth");
+    if (is_on_overlay(root_folder)) refuse("FAULTS_ROOT is on an overlay file system, whose files can change their identity", root);
     root_device = facts.device;
     make_room();
     set_inside(&facts.file.key, true);

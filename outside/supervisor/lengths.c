@@ -6,11 +6,11 @@
 
 enum { CLEARS = FALLOC_FL_PUNCH_HOLE | FALLOC_FL_ZERO_RANGE, MOVES = FALLOC_FL_COLLAPSE_RANGE | FALLOC_FL_INSERT_RANGE };
 
-/* What a call changes of a file, and by which path the file is reached. */
+/* What a call changes in a file, and the path by which the file is reached. */
 struct resizing {
     const char *path;
     const struct facts *before;
-    uint64_t keeps; /* so many bytes at its beginning */
+    uint64_t keeps; /* so many bytes at its beginning stay */
 };
 
 static void begin_resize(const struct resizing *resizing) {
@@ -55,7 +55,7 @@ void serve_resize(struct call *call) {
     finish(call, result);
 }
 
-/* What a fallocate did besides the length: zeros at its range, or all that is behind it anew. */
+/* Notes what a fallocate did besides the length: it cleared its range, or changed all bytes from there on. */
 static void note_allocated(const struct resizing *resizing, int mode, uint64_t at, uint64_t length) {
     struct facts after;
     const struct key *key = &resizing->before->file.key;

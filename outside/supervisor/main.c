@@ -1,6 +1,6 @@
-/* faults [--] COMMAND..: runs a command, and all that it starts, under the scenario in FAILPOINTS. It stands outside of them: the
-   system asks it about each call of table.c, by seccomp's user notification, and it does those that are under FAULTS_ROOT itself,
-   or lets them fail. What it shares with a power cut is the run's folder, FAULTS_RUN. README.md says what is seen. */
+/* faults [--] COMMAND..: runs a command, and all that it starts, under the scenario in FAILPOINTS. It works from outside: the system asks it about
+   each call of table.c, by seccomp's user notification. It makes the calls under FAULTS_ROOT itself, or lets them fail. It shares the run's folder,
+   FAULTS_RUN, with the power cut. README.md says what is seen. */
 #define _GNU_SOURCE
 #include "../run/help.h"
 #include "../run/whole.h"
@@ -26,7 +26,7 @@
 #define SECCOMP_USER_NOTIF_FD_SYNC_WAKE_UP 1ul
 #endif
 
-enum { TICK = 50000 }; /* microseconds: a signal just before the wait for a call isn't slept over for longer */
+enum { TICK = 50000 }; /* microseconds: a signal just before the wait for a call is seen after at most this time */
 
 static int listener = -1;
 
@@ -71,7 +71,7 @@ _Noreturn void lose(const char *what, const char *name) {
     end_run(REFUSED);
 }
 
-/* Ends as the command did, by a signal too. */
+/* Ends as the command did, also if that was by a signal. */
 static _Noreturn void end_as(int status) {
     if (WIFEXITED(status)) _exit(WEXITSTATUS(status));
     setrlimit(RLIMIT_CORE, &(struct rlimit){0, 0});
@@ -104,7 +104,7 @@ void unseen(const char *what, const char *name) {
 
 /* ---- answers */
 
-/* A signal for the supervisor may cut short what it asks of the listener. */
+/* Makes a request to the listener again if a signal for the supervisor cut it short. */
 static int ask(unsigned long request, void *with) {
     int answered;
     do answered = ioctl(listener, request, with);
@@ -112,7 +112,7 @@ static int ask(unsigned long request, void *with) {
     return answered;
 }
 
-/* Before the thread goes on: it may want a file that nobody has open, or a lock that goes with the last descriptor. */
+/* Closes descriptors before the thread goes on: it may need a file that nobody has open, or a lock that ends with the last descriptor. */
 static void let_go(struct call *call) {
     while (call->held_count > 0) {
         int file = call->held[--call->held_count];
@@ -125,7 +125,7 @@ static void send_answer(struct call *call, long result, unsigned flags) {
     struct seccomp_notif_resp answer = {.id = call->told.id, .flags = flags};
     if (result < 0) answer.error = (int)result;
     else answer.val = result;
-    ask(SECCOMP_IOCTL_NOTIF_SEND, &answer); /* whose thread is gone needs none */
+    ask(SECCOMP_IOCTL_NOTIF_SEND, &answer); /* if the thread is gone, no answer is needed */
     call->is_answered = true;
 }
 
@@ -164,7 +164,7 @@ void interrupt(struct call *call) {
     send_answer(call, -MADE_AGAIN, 0);
 }
 
-/* A call that is made again after a signal has had its hit. */
+/* A call that is made again after a signal has had its hit already. */
 static void resume(struct call *call) {
     struct thread *thread = call->thread;
     if (!thread->interrupted.is_there || memcmp(&call->told.data, &thread->interrupted.data, sizeof call->told.data)) return;
@@ -175,7 +175,7 @@ static void resume(struct call *call) {
 
 int hold(struct call *call, int file) {
     if (file < 0) return file;
-    if (call->held_count == MOST_HELD) lose("too many descriptors of a call", "");
+    if (call->held_count == MOST_HELD) lose("can't follow a call with more than 100 descriptors of", program_of(call->thread));
     return call->held[call->held_count++] = file;
 }
 
@@ -206,9 +206,9 @@ void serve(struct call *call) {
 
 static void begin_call(const struct seccomp_notif *told) {
     struct call call = {.told = *told, .row = row_of(told->data.nr), .waits_for = -1};
-    if (!told->pid) lose("not followed, a process of another namespace", "");
+    if (!told->pid) lose("can't follow the run", "a process is in another PID namespace");
     call.thread = thread_of((int)told->pid);
-    if (is_foreign(told->data.arch, told->data.nr)) lose("not followed, calls of 32 bits", program_of(call.thread));
+    if (is_foreign(told->data.arch, told->data.nr)) lose("can't follow a program with 32-bit calls", program_of(call.thread));
     bool begins_another = call.row && call.row->serve == serve_program;
     if (call.thread->number == call.thread->process && !call.thread->program && !begins_another) begin_program(call.thread);
     if (call.row && call.thread->interrupted.is_there) resume(&call);
@@ -219,11 +219,11 @@ static void begin_call(const struct seccomp_notif *told) {
 static bool receive(void) {
     static union {
         struct seccomp_notif told;
-        char room[1024]; /* a newer system may tell more */
+        char room[1024]; /* a newer system may write more */
     } next;
     memset(&next, 0, sizeof next);
     if (ioctl(listener, SECCOMP_IOCTL_NOTIF_RECV, &next.told)) {
-        if (errno != EINTR && errno != ENOENT && errno != ENOTCONN) refuse("no calls", strerror(errno));
+        if (errno != EINTR && errno != ENOENT && errno != ENOTCONN) refuse("can't receive calls", strerror(errno));
         return false;
     }
     begin_call(&next.told);
@@ -234,7 +234,8 @@ static bool receive(void) {
 
 static volatile sig_atomic_t ended_by;
 
-/* A signal that somebody sent goes to the command, and where that has ended, ends what it left; one of the terminal has come to all. */
+/* Passes a signal that somebody sent on to the command, or if that has ended, ends what it left. A signal of the terminal has come to all
+   processes. */
 static void on_signal(int number, siginfo_t *told, void *unused) {
     int before = errno;
     (void)unused;
@@ -261,10 +262,10 @@ void let_signals(void) {
     errno = before;
 }
 
-/* The state is a file without all of its room: where the disk is full, a new part of it can't be had. */
+/* The file of the state doesn't have all of its room on the disk yet. If the disk is full, a new part of it can't be had. */
 static void on_full(int unused) {
     (void)unused;
-    refuse("can't keep", strerror(ENOSPC));
+    refuse("can't record a change", strerror(ENOSPC));
 }
 
 static void set_signals(void) {
@@ -282,7 +283,7 @@ static void take_more_descriptors(void) {
     if (!getrlimit(RLIMIT_NOFILE, &limit)) setrlimit(RLIMIT_NOFILE, &(struct rlimit){limit.rlim_max, limit.rlim_max});
 }
 
-/* Whether a call comes before a wait is over; it has to be asked for only where others wait meanwhile. */
+/* Whether a call has come before a wait is over. This is only asked if other calls wait meanwhile. */
 static bool has_come(void) { return !waits_at_all() || poll(&(struct pollfd){listener, POLLIN, 0}, 1, 0) > 0; }
 
 /* Whether no thread of the run is left. */
@@ -304,7 +305,7 @@ static _Noreturn void watch(const char *name) {
 
 static const char usage[] = "faults [--order settled|next] [--pin] [--] COMMAND.., or faults --help";
 
-/* Answers the number of the command's first word. */
+/* Returns the number of the command's first word. */
 static int read_options(int count, char **words) {
     int at = 1;
     for (; at < count && words[at][0] == '-'; at++) {

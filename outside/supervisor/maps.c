@@ -1,5 +1,5 @@
-/* Shared mappings. What is stored through one is no call. It is seen by the file's own bytes: at each sync of the file, where a
-   mapping of it goes, and at the end, they are compared with what they were by the calls. */
+/* Shared mappings. A store through a mapping is no call. It is seen in the file's own bytes: they are compared with those that the calls left at
+   each sync of the file, when a mapping of it goes, and at the end. */
 #define _GNU_SOURCE
 #include "supervisor.h"
 
@@ -13,7 +13,7 @@ enum { PAGE = 4096, AT_ONCE = 1 << 20, MOST_MAPPED = 256 };
 static struct mapped {
     struct key key;
     int file;
-    bool is_written; /* else its memory can't be stored to by now */
+    bool is_written; /* whether a mapping of it could be written to */
     char *before;
     size_t length, room;
 } mapped[MOST_MAPPED];
@@ -45,7 +45,7 @@ static void make_room(struct mapped *file, size_t length) {
     file->length = length;
 }
 
-/* Holes are left as they are: zeros. */
+/* Holes are not read: they stay zeros. */
 static void read_before(struct mapped *file) {
     for (off_t at = 0; (at = lseek(file->file, at, SEEK_DATA)) >= 0 && (size_t)at < file->length;) {
         off_t hole = lseek(file->file, at, SEEK_HOLE);
@@ -58,7 +58,7 @@ static void read_before(struct mapped *file) {
 
 /* ---- what was stored */
 
-/* The last page ends where the file does: what is stored behind that is nowhere. */
+/* Notes a page. The last one ends where the file does, since bytes that are stored behind the file's end are kept nowhere. */
 static void note_page(struct mapped *file, size_t at, const char *bytes) {
     size_t length = file->length - at < PAGE ? file->length - at : PAGE;
     struct iovec page = {(void *)bytes, length};
@@ -113,7 +113,7 @@ void mapped_was_resized(const struct key *key) {
     if (file) make_room(file, length_of(file));
 }
 
-/* A hole may be by now where there were bytes, so holes are read too. */
+/* There may be a hole now where there were bytes, so holes are read too. */
 bool mapped_was_changed(const struct key *key) {
     struct mapped *file = written_mapped(key);
     if (!file) return false;
@@ -168,7 +168,7 @@ static struct mapped *add_mapped(const struct opened *opened) {
     return file;
 }
 
-/* A mapping that is to be read alone may be made writable later. */
+/* A mapping that can only be read may be made writable later. */
 void serve_map(struct call *call) {
     struct opened opened;
     bool is_mapped = is_kept && open_of(call, call->row->file, &opened) && S_ISREG(opened.facts.file.key.mode)
@@ -181,11 +181,11 @@ void serve_map(struct call *call) {
 /* ---- which file is at a place of a thread's memory */
 
 struct area {
-    uint64_t from, to, at; /* in memory, and where in the file */
+    uint64_t from, to, at; /* the range in memory, and its place in the file */
     struct mapped *file;
 };
 
-/* The next shared mapping of a file that is known which reaches into that memory; false where there is none. */
+/* Finds the next shared mapping of a known file in that range of memory. Returns false if there is none. */
 static bool next_area(FILE *maps, uint64_t from, uint64_t to, struct area *area) {
     char line[PATH_MAX + 256], flags[8];
     unsigned long first, last, at, number;
@@ -227,7 +227,7 @@ void serve_unmap(struct call *call) {
     go_on(call);
 }
 
-/* ---- msync: a sync of the part of the file */
+/* ---- msync, which syncs a part of a file */
 
 static bool find_area(const struct call *call, struct area *area) {
     uint64_t from = argument(call, call->row->bytes);
@@ -237,7 +237,7 @@ static bool find_area(const struct call *call, struct area *area) {
     return found;
 }
 
-/* The length of the part is that of whole pages. */
+/* The part is made of whole pages. */
 void serve_map_sync(struct call *call) {
     struct area area;
     struct facts facts;

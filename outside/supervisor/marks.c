@@ -1,4 +1,4 @@
-/* Where the notes and the output of a run stand at each hit. */
+/* Marks how long the notes and the output of a run are at each hit. */
 #define _GNU_SOURCE
 #include "marks.h"
 
@@ -10,7 +10,7 @@
 #include <sys/stat.h>
 #include <unistd.h>
 
-/* Both are kept open: the file of the output may be another by the time that the run ends. */
+/* The marks and the output are kept open, since standard output may be another file by the time that the run ends. */
 static int open_marks(void) {
     char name[LONG_PATH];
     snprintf(name, sizeof name, "%s/marks", run_folder);
@@ -28,5 +28,5 @@ void mark_hit(uint64_t number) {
     struct stat told;
     long long said = output < 0 || fstat(output, &told) ? 0 : (long long)told.st_size;
     int length = snprintf(line, sizeof line, "%llu\t%llu\t%lld\n", (unsigned long long)number, (unsigned long long)state->noted, said);
-    if (write(marks, line, (size_t)length) != length) refuse("no marks", "");
+    if (write(marks, line, (size_t)length) != length) refuse("can't write the marks", run_folder);
 }

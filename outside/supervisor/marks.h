@@ -1,5 +1,6 @@
-/* Marks of a run, for `rewind`: at each hit, before its call is done, how long the notes and the standard output are. They go to the file `marks` of the
-   run's folder, where that is there: a line for each hit, its number, bytes of notes, bytes of output. It is called under the run's lock. */
+/* Marks of a run, for `rewind`: how long the notes and the standard output are at each hit, before its call is made. They are written to the file
+   `marks` in the run's folder, if it is there: a line for each hit, with its number, the bytes of the notes and those of the output. Call it under
+   the lock. */
 #ifndef MARKS_H
 #define MARKS_H
 

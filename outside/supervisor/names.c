@@ -10,7 +10,7 @@
 #define RENAME_EXCHANGE 2
 #endif
 
-/* ---- what all have */
+/* ---- what all these calls share */
 
 enum { SLASHED = NAME_MAX + 3 };
 
@@ -20,7 +20,7 @@ static const char *slashed(const struct found *found, char *name) {
     return name;
 }
 
-/* A file that a call is about to take away: its last name goes, or it leaves the root. */
+/* Copies the bytes of a file that a call is about to take away: its last name goes, or it leaves the root. */
 static void before_it_goes(const struct found *found, bool leaves) {
     char path[FOUND_PATH];
     const struct file_facts *file = &found->facts.file;
@@ -28,7 +28,7 @@ static void before_it_goes(const struct found *found, bool leaves) {
     if (leaves || file->links == 1) copy_later(&file->key, path_to(found, path), 0, UINT64_MAX);
 }
 
-/* A name for a file from elsewhere: what it holds was written unseen, and is a write now; where a link leads nobody has noted. */
+/* Notes a new name of a file from elsewhere. Its contents were written unseen, so they are a write now. Nobody noted where a symbolic link leads. */
 static void note_stranger(const struct found *found, const struct file_facts *file) {
     struct place place;
     char path[FOUND_PATH], target[PATH_MAX] = "";
@@ -40,7 +40,7 @@ static void note_stranger(const struct found *found, const struct file_facts *fi
     if (S_ISDIR(file->key.mode)) unseen("what is in the folder that came from elsewhere:", found->path);
 }
 
-/* What a call made, under a name of the root. */
+/* Notes what a call made under the root. */
 static void note_made(const struct found *found, const char *target) {
     struct facts facts;
     struct place place;
@@ -59,18 +59,18 @@ struct renaming {
 
 static bool is_exchange(const struct renaming *renaming) { return renaming->flags & RENAME_EXCHANGE; }
 
-/* Of two names of one file none changes. */
+/* A rename between two names of one file changes nothing. */
 static bool changes_nothing(const struct renaming *renaming) {
     return renaming->to.exists && same_key(&renaming->from.facts.file.key, &renaming->to.facts.file.key);
 }
 
-/* A name of the root and one of elsewhere. */
+/* Notes a rename between a name under the root and one elsewhere. */
 static void note_over_border(const struct renaming *renaming) {
     const struct found *own = renaming->from.folder_is_inside ? &renaming->from : &renaming->to;
     const struct found *other = own == &renaming->from ? &renaming->to : &renaming->from;
     struct place place;
     place_of(own, &place);
-    /* An exchange is one change of the name, which leads to the file of elsewhere then. */
+    /* An exchange is one change of the name, which then leads to the file from elsewhere. */
     if (own == &renaming->from && !is_exchange(renaming)) note_names(UNLINKED, &own->facts.file.key, &place, NULL);
     else note_stranger(own, &other->facts.file);
 }
@@ -121,7 +121,7 @@ void serve_rename(struct call *call) {
 
 /* ---- link and symlink */
 
-/* The file of a link's first name, which may be a descriptor alone. */
+/* Finds the file of a link's first name, for which there may be only a descriptor. */
 static bool find_linked(struct call *call, int flags, struct found *found, bool *is_bare) {
     char text[2] = "";
     const struct row *row = call->row;

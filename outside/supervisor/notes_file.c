@@ -1,5 +1,5 @@
-/* Where notes go. Short records go to a part of the file that is in memory, so that one costs no call; its room on the disk is taken before, so
-   that a disk without any is told. A long one is a call, which costs less than the faults of fresh pages would. */
+/* The file of notes. Short records are written to a part of it that is mapped, so that they cost no call. Its room on the disk is taken beforehand,
+   so that a full disk is seen. A long record is written by a call, which costs less than the page faults of fresh pages would. */
 #define _GNU_SOURCE
 #include "notes_file.h"
 
@@ -21,11 +21,11 @@ static int notes_file(void) {
     if (notes >= 0) return notes;
     snprintf(name, sizeof name, "%s/changes", run_folder);
     notes = open(name, O_RDWR | O_CLOEXEC);
-    if (notes < 0) refuse("can't keep", strerror(errno));
+    if (notes < 0) refuse("can't record a change", strerror(errno));
     return notes;
 }
 
-/* False where the file system takes no room beforehand: then each record is a call. */
+/* Returns false if the file system can't take room beforehand. Then each record is a call. */
 static bool move_window(void) {
     uint64_t from = state->noted / WINDOW * WINDOW;
     if (window && from == window_from) return true;
@@ -34,7 +34,7 @@ static bool move_window(void) {
     hold_signals();
     has_windows = !fallocate(notes_file(), 0, (off_t)from, 2 * WINDOW);
     let_signals();
-    if (!has_windows && errno != EOPNOTSUPP) refuse("can't keep", strerror(errno));
+    if (!has_windows && errno != EOPNOTSUPP) refuse("can't record a change", strerror(errno));
     char *memory = has_windows ? mmap(NULL, 2 * WINDOW, PROT_READ | PROT_WRITE, MAP_SHARED, notes_file(), (off_t)from) : MAP_FAILED;
     if (memory == MAP_FAILED) return false;
     window = memory;

@@ -1,4 +1,4 @@
-/* The file of notes, and how a record gets into it. */
+/* The file of notes, and how records are written to it. */
 #ifndef NOTES_FILE_H
 #define NOTES_FILE_H
 
@@ -6,10 +6,10 @@
 #include <stdint.h>
 #include <sys/uio.h>
 
-/* Puts a record of that size behind the last one; parts that are used up may change. */
+/* Writes a record of that size behind the last one. It may change `parts`. */
 bool append_note(struct iovec *parts, int count, uint64_t size);
 
-/* For a record that is written part by part: all parts at that place of the file. */
+/* Writes all parts at that place of the file, for a record that is written part by part. */
 bool write_parts_at(struct iovec *parts, int count, uint64_t at);
 
 #endif

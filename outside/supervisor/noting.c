@@ -1,4 +1,4 @@
-/* Notes of what is done to the files: records of the file `changes`, each under the lock and after the call that it tells of. */
+/* Notes what is done to the files: records in the file `changes`, each written under the lock, after the call that it describes. */
 #define _GNU_SOURCE
 #include "noting.h"
 
@@ -12,7 +12,7 @@ enum { MOST_PARTS = IOV_MAX + 8 };
 
 /* ---- a record */
 
-/* A record and what follows it. What a killed supervisor left behind the last whole record is written over. */
+/* Writes a record and what follows it, over anything that a killed supervisor left behind the last whole record. */
 static void write_note(struct note *note, const char *name, const char *other_name, const struct iovec *first, int count,
     uint64_t length) {
     struct iovec parts[MOST_PARTS];
@@ -28,12 +28,12 @@ static void write_note(struct note *note, const char *name, const char *other_na
         if (parts[used].iov_len > length) parts[used].iov_len = length;
         length -= parts[used].iov_len;
     }
-    if (!append_note(parts, used, note->size)) refuse("can't keep", strerror(errno));
+    if (!append_note(parts, used, note->size)) refuse("can't record a change", strerror(errno));
     state->noted += note->size;
     errno = before;
 }
 
-/* ---- bytes that come later */
+/* ---- bytes that are copied later */
 
 static struct later *later_of(const struct key *file) {
     struct later *free = NULL;
@@ -56,14 +56,14 @@ bool may_come_later(const struct file_facts *before, uint64_t at, uint64_t lengt
     return true;
 }
 
-/* So many bytes of a file; zeros where it was cut short meanwhile. */
+/* Reads so many bytes of a file. If it was cut short meanwhile, the rest is zeros. */
 static void read_whole_at(int in, char *bytes, size_t length, uint64_t at) {
     size_t done = 0;
     for (ssize_t got; done < length && (got = pread(in, bytes + done, length - done, (off_t)(at + done))) > 0;) done += (size_t)got;
     memset(bytes + done, 0, length - done);
 }
 
-/* The first part is written with the record's head, and a short record is that part alone. */
+/* Writes a record with bytes of a file. The first part is written with the record's head; a short record has only that part. */
 static void copy_bytes(enum kind kind, const struct key *file, int in, uint64_t at, uint64_t length) {
     static char bytes[65536];
     struct note note = {.kind = kind, .file = *file, .at = at, .length = length, .size = sizeof note + length};
@@ -77,7 +77,7 @@ static void copy_bytes(enum kind kind, const struct key *file, int in, uint64_t 
         else written = written && append_note(parts, 2, note.size);
         copied += some;
     } while (copied < length);
-    if (!written) refuse("can't keep", strerror(errno));
+    if (!written) refuse("can't record a change", strerror(errno));
     state->noted += note.size;
 }
 

@@ -1,4 +1,4 @@
-/* What is noted of a run: records of the file `changes`. Each under the lock, and each keeps errno. */
+/* What is noted of a run: records in the file `changes`. Call these functions under the lock. They keep errno. */
 #ifndef NOTING_H
 #define NOTING_H
 
@@ -7,7 +7,7 @@
 
 #include <sys/uio.h>
 
-/* One name of a call: whether it is under the root, its folder and its last part. */
+/* A name in a call: whether it is under the root, its folder and its last part. */
 struct place {
     bool seen;
     char path[PATH_MAX];
@@ -26,11 +26,10 @@ void note_sync(enum kind kind, const struct key *file, uint64_t noted, uint64_t 
 /* Notes bytes that are in the file already, as a copy inside the system left them. */
 void note_from_file(const struct key *file, const char *path, uint64_t at, uint64_t length);
 
-/* Whether a write, of a file that was so, needs no copy now: what is written behind a file's end stays there until something is
-   written over it. */
+/* Whether a write to a file that was so needs no copy now. Bytes behind the file's end stay there until something is written over them. */
 bool may_come_later(const struct file_facts *before, uint64_t at, uint64_t length);
 
-/* Copies what was noted without its bytes, before something changes them or takes the file away. */
+/* Copies bytes that were noted without a copy, before something changes them or deletes the file. */
 void copy_later(const struct key *file, const char *path, uint64_t from, uint64_t to);
 void copy_later_always(const struct key *file, const char *path);
 

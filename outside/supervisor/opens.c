@@ -6,7 +6,7 @@
 #include <linux/openat2.h>
 #include <stdio.h>
 
-/* What is asked, as openat2 has it, where the call's row has bytes; creat has no flags. */
+/* Reads what is asked for, in the form of openat2. creat has no flags. */
 static bool read_how(const struct call *call, struct open_how *how) {
     const struct row *row = call->row;
     uint64_t size = argument(call, row->length);
@@ -19,7 +19,7 @@ static bool read_how(const struct call *call, struct open_how *how) {
 
 static bool is_nameless(uint64_t flags) { return (flags & O_TMPFILE) == O_TMPFILE; }
 
-/* The name as the call's own way of looking for it has it. */
+/* Finds the name in the way in which the call itself looks for it. */
 static bool find_asked(struct call *call, const struct open_how *how, struct found *found) {
     char text[PATH_MAX];
     const char *name = text;
@@ -32,7 +32,7 @@ static bool find_asked(struct call *call, const struct open_how *how, struct fou
     return *name && find_text(call, folder, name, follows, found);
 }
 
-/* An open with rules for its way is done by its own words, so that they are kept. */
+/* An open with rules about its path is made with its own arguments, so that the rules are kept. */
 static int open_by_rules(struct call *call, const struct open_how *how) {
     char text[PATH_MAX];
     int folder = (int)argument(call, call->row->folder);
@@ -55,7 +55,7 @@ static int open_found(struct call *call, const struct open_how *how, const struc
     return hold(call, file);
 }
 
-/* A file that was made, or cut short. */
+/* Notes a file that was made or cut short. */
 static void note_opened(int file, const struct found *found, uint64_t flags) {
     struct facts facts;
     struct place place;
@@ -72,7 +72,7 @@ static void note_opened(int file, const struct found *found, uint64_t flags) {
     }
 }
 
-/* An open of a pipe or a device may wait: it goes on, and what it comes to isn't known. */
+/* Whether an open may wait, as that of a pipe or a device. Then it goes on by itself, and its result isn't known. */
 static bool may_wait(const struct found *found) {
     mode_t mode = found->facts.file.key.mode;
     return found->exists && !S_ISREG(mode) && !S_ISDIR(mode) && !S_ISLNK(mode);
@@ -90,7 +90,7 @@ void serve_open(struct call *call) {
         copy_later(&found.facts.file.key, path_to(&found, path), 0, UINT64_MAX);
     int file = open_found(call, &how, &found);
     if (file < 0) return finish(call, -errno);
-    if (how.flags & O_PATH) return go_on(call); /* such a descriptor can't be given; it changes nothing */
+    if (how.flags & O_PATH) return go_on(call); /* such a descriptor can't be given to the thread, and it changes nothing */
     note_opened(file, &found, how.flags);
     give(call, file, how.flags & O_CLOEXEC);
 }

@@ -12,7 +12,7 @@
 
 enum { MOST_THREADS = 4096, MOST_PIDS = 4194304, TRIES_AT_ONCE = 4 };
 
-static const uint64_t LONGEST = 2000000000; /* nanoseconds, until a thread that doesn't rest is given up */
+static const uint64_t LONGEST = 2000000000; /* nanoseconds, after which a thread that doesn't rest isn't waited for any more */
 
 static enum order how;
 
@@ -29,7 +29,7 @@ bool may_go(struct call *call) {
 
 static struct looked {
     int number, stat, turns;
-    bool is_restless; /* it was given up */
+    bool is_restless; /* it isn't waited for */
 } all[MOST_THREADS];
 static int count;
 
@@ -69,12 +69,12 @@ static bool list_once(void) {
     return same;
 }
 
-/* Until it is the same twice: of one whose parent ends meanwhile the parent is another. */
+/* Lists all threads until two lists are the same. If the parent of a process ends meanwhile, that process gets another parent. */
 static void list_all(void) {
     for (int i = 0; i < 5 && !list_once(); i++) continue;
 }
 
-/* ---- what was begun */
+/* ---- threads that were begun */
 
 static bool read_text_of(int file, char *text, size_t room) {
     ssize_t length = pread(file, text, room - 1, 0);
@@ -82,8 +82,8 @@ static bool read_text_of(int file, char *text, size_t room) {
     return length > 0;
 }
 
-/* The number that the system gave last, to a thread of this run or of another: no call that begins one has to be looked at, so that a signal
-   doesn't end one with EINTR. Zero where that isn't told. */
+/* The number that the system gave last, to a thread of this run or of another. So calls that begin a thread need not be looked at, and a signal
+   doesn't end them with EINTR. It is 0 if the system doesn't say. */
 static int last_number(void) {
     static int file = -1;
     char text[128];
@@ -92,7 +92,7 @@ static int last_number(void) {
     return last ? atoi(last) : 0;
 }
 
-/* In some containers that file is made up: then who is there is listed each time. */
+/* Whether that number can be trusted. In some containers the file is made up, and then all threads are listed each time. */
 static bool tells_numbers(void) {
     static int tells = -1;
     if (tells >= 0) return tells;
@@ -109,7 +109,7 @@ static bool tells_numbers(void) {
 static bool (*has_call)(int thread);
 static struct looked *unsettled; /* the first that isn't at rest */
 
-/* Who waits for a child that has its memory sleeps as one that waits for a disk does. */
+/* Whether a thread waits for a child that uses its memory. It sleeps in the same way as one that waits for a disk. */
 static bool waits_for_child(int thread) {
     char text[128];
     int file = open_proc(thread, "syscall"), number = read_text_of(file, text, sizeof text) ? atoi(text) : -1;
@@ -117,7 +117,7 @@ static bool waits_for_child(int thread) {
     return number == SYS_vfork || number == SYS_clone || number == SYS_clone3;
 }
 
-/* Mixes in how often it had a turn on a processor. False where it isn't at rest. */
+/* Looks at a thread, and adds to `turns` how often it had a turn on a processor. Returns false if it isn't at rest. */
 static bool look(struct looked *thread, uint64_t *turns) {
     char text[512];
     unsigned long long times = 0;
@@ -131,7 +131,7 @@ static bool look(struct looked *thread, uint64_t *turns) {
     return true;
 }
 
-/* Who waits, in two looks, and had no turn between them. What a thread began is there once it rests. */
+/* Whether all threads wait in two looks, without a turn between them. A thread that another one began is there once that one rests. */
 static bool all_rest(void) {
     static int listed_until;
     uint64_t turns[2] = {0};
@@ -153,7 +153,7 @@ static void give_up(void) {
     char text[512] = "";
     const char *name = unsettled && read_text_of(unsettled->stat, text, sizeof text) ? strchr(text, '(') : NULL;
     if (name) text[strcspn(text, ")")] = 0;
-    unseen("late, the order of calls while a thread never rests:", name ? name + 1 : "");
+    unseen("the order of calls, since a thread never rests:", name ? name + 1 : "");
     if (unsettled) unsettled->is_restless = true;
 }
 
@@ -172,22 +172,23 @@ bool is_settled(bool (*waits)(int thread)) {
 
 /* ---- the next */
 
-/* Numbers are given in turn, and begin again. */
+/* The age of a thread by its number. Numbers are given in turn, and begin again after the last one. */
 static int age_of(const struct call *call) { return ((int)call->told.pid - command() + MOST_PIDS) % MOST_PIDS; }
 
-/* Sleeps come behind all calls. */
+/* The order of two calls. Sleeps come after all other calls. */
 static int by_turn(const void *first, const void *second) {
     const struct call *one = *(struct call *const *)first, *other = *(struct call *const *)second;
     if (one->sleeps_until != other->sleeps_until) return one->sleeps_until < other->sleeps_until ? -1 : 1;
     return age_of(one) - age_of(other);
 }
 
-/* Whether the scenario is asked: who wants random bytes, which is no point, gets them, and sleeps wait for all others. */
+/* Whether the choice between two calls is a hit of order::next. A request for random bytes isn't a point, so it goes first, and sleeps wait for all
+   others. */
 static bool is_asked(const struct call *first, const struct call *second) {
     return how == ASKED && first->row->point != POINTS && !second->sleeps_until;
 }
 
-/* Whether the scenario lets a call go that is first of several. */
+/* Whether the scenario lets the first of several calls go first. */
 static bool goes_first(const struct call *call) {
     struct call asked = {.told = call->told, .thread = thread_of((int)call->told.pid), .chosen = true};
     enum answer answer = hit(&asked, NEXT, point_names[call->row->point], NULL);

@@ -29,7 +29,7 @@ int parts_of(const struct call *call, struct parts *parts) {
     return parts->first[0].iov_len <= SSIZE_MAX ? 0 : -EINVAL;
 }
 
-/* So many of the bytes behind the first ones, as parts. */
+/* The parts of `length` bytes that are behind the first `done` ones. */
 static int parts_behind(const struct parts *parts, size_t done, size_t length, struct iovec *some) {
     int count = 0;
     for (int i = 0; i < parts->count && length > 0; i++) {

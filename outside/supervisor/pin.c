@@ -11,7 +11,7 @@ bool is_pinned;
 
 enum { MEMORY = 1, RANDOM = 8, URANDOM = 9, AT_ONCE = 1 << 16 };
 
-/* SplitMix64: one stream for the run, in the order in which it is asked for. */
+/* SplitMix64. All requests of the run share one stream of numbers, in the order in which they come. */
 static uint64_t next_number(void) {
     static uint64_t state_of_it;
     uint64_t mixed = state_of_it += 0x9e3779b97f4a7c15u;

@@ -1,4 +1,4 @@
-/* Random bytes that are the same each time. */
+/* Random bytes that are the same in each run. */
 #ifndef PIN_H
 #define PIN_H
 
@@ -6,7 +6,7 @@
 
 extern bool is_pinned;
 
-/* A read of the system's random bytes, which is answered; false where it is none. */
+/* Serves a read of the system's random bytes. Returns false if it isn't one. */
 bool serve_random_read(struct call *call, const struct opened *opened);
 
 #endif

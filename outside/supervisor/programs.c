@@ -1,11 +1,12 @@
-/* Calls that are no points: who starts a program, whose files are made, and what is answered as if the system lacked it. */
+/* Calls that are no points: those that start programs, that change users, masks, limits and folders, and those that fail as on a system without
+   them. */
 #define _GNU_SOURCE
 #include "supervisor.h"
 
 #include <errno.h>
 #include <sys/statvfs.h>
 
-/* A program's set-id bits don't count: nobody's do who can't gain a right. */
+/* Whether a program has set-id bits. They don't count here, as for any process that may not gain rights. */
 static bool is_set_id(const struct found *found) {
     const struct key *file = &found->facts.file.key;
     bool by_group = (file->mode & (S_ISGID | S_IXGRP)) == (S_ISGID | S_IXGRP);
@@ -50,9 +51,9 @@ void serve_root(struct call *call) {
     go_on(call);
 }
 
-/* Requests in rings are no calls. Programs have another way, for systems without them. */
+/* Asynchronous requests are no calls, so they fail. Programs have another way, for systems without them. */
 static void lack(struct call *call, const char *name) {
-    unseen("requests in rings, answered as by a system without them:", name);
+    unseen("asynchronous requests, which fail as on a system without them:", name);
     finish(call, -ENOSYS);
 }
 

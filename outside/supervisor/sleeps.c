@@ -1,6 +1,7 @@
-/* Sleeps by the clock, where calls have an order. One ends once its time is over and no other call waits; of several the one first whose time
-   would be over first if nothing but sleeps took time. So it is no matter how quickly the machine does what lies between. In a process of several
-   threads one may wait in a loop for what another does once it has slept, as in programs in Go: there they are as long as the system makes them. */
+/* Sleeps, if calls have an order. A sleep ends once its time is over and no other call waits. If there are several, the first to end is the one
+   whose time would be over first if only sleeps took time. So it doesn't matter how quickly the machine does what lies between. In a process with
+   several threads, one may wait in a loop for what another does after its sleep, as programs in Go do. There a sleep is as long as the system makes
+   it. */
 #define _GNU_SOURCE
 #include "supervisor.h"
 
@@ -10,7 +11,7 @@
 
 static const uint64_t A_SECOND = 1000000000, LONGEST = 2000000000;
 
-static uint64_t slept; /* the time in which nothing but sleeps takes time */
+static uint64_t slept; /* the time as it would be if only sleeps took time */
 
 static bool is_common(clockid_t clock) {
     return clock == CLOCK_REALTIME || clock == CLOCK_MONOTONIC || clock == CLOCK_BOOTTIME || clock == CLOCK_TAI;
@@ -18,7 +19,7 @@ static bool is_common(clockid_t clock) {
 
 static uint64_t nanoseconds(const struct timespec *time) { return (uint64_t)time->tv_sec * A_SECOND + (uint64_t)time->tv_nsec; }
 
-/* How long a sleep is to be; false where it is none of those that are held, or one that the system refuses. */
+/* Reads how long a sleep lasts. Returns false for a sleep that isn't held here, or that the system refuses. */
 static bool read_length(const struct call *call, uint64_t *length) {
     const struct row *row = call->row;
     clockid_t clock = row->mode ? (clockid_t)argument(call, row->mode) : CLOCK_REALTIME;
@@ -32,7 +33,7 @@ static bool read_length(const struct call *call, uint64_t *length) {
     return true;
 }
 
-/* Once others were there they may be again. */
+/* Whether the process has, or had, several threads. If it had, it may have them again. */
 static bool has_company(struct thread *thread) {
     const char *count = thread->has_company ? NULL : status_of(thread, "Threads:");
     if (count && atoi(count) > 1) thread->has_company = true;
@@ -42,7 +43,7 @@ static bool has_company(struct thread *thread) {
 void serve_sleep(struct call *call) {
     uint64_t length;
     if (call->sleeps_until) {
-        if (!call->chosen) unseen("late, a sleep before which other calls went for two seconds:", program_of(call->thread));
+        if (!call->chosen) unseen("the order of a sleep, since other calls went on for two seconds:", program_of(call->thread));
         if (call->sleeps_until > slept) slept = call->sleeps_until;
         return finish(call, 0);
     }
@@ -56,7 +57,7 @@ bool has_slept(const struct call *call) { return call->hit.wakes <= now(); }
 
 bool is_overdue(const struct call *call) { return call->sleeps_until && call->hit.wakes + LONGEST <= now(); }
 
-/* Where the call says so, it is told how much of the time is left. */
+/* Ends a sleep early, and writes how much of its time is left if the call asks for that. */
 void end_sleep(struct call *call) {
     const struct row *row = call->row;
     uint64_t time = now(), left = call->hit.wakes > time ? call->hit.wakes - time : 0, to = argument(call, row->other_at);

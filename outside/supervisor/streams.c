@@ -7,23 +7,23 @@
 #include <signal.h>
 #include <sys/socket.h>
 
-/* A transfer to or from a pipe or a socket. What would make the supervisor wait makes the call wait, until there is more. */
+/* A transfer to or from a pipe or a socket. The supervisor never waits in it: the call waits instead, until it can go on. */
 struct transfer {
     struct call *call;
     const struct opened *opened;
     bool sends, is_socket;
-    int flags;               /* of a message */
+    int flags;               /* the flags of a message */
     struct parts parts;
     size_t length;
-    uint64_t address;        /* of the other end, in the thread's memory, or 0 */
+    uint64_t address;        /* where the thread's memory has the address of the other end, or 0 */
     unsigned address_length;
     struct sockaddr_storage other;
-    int told_flags;          /* of what was received */
+    int told_flags;          /* the flags of a message that was received */
 };
 
 bool is_socket(const struct opened *opened) { return opened->file >= 0 && S_ISSOCK(opened->facts.file.key.mode); }
 
-/* ---- one step: as much as is there, or fits */
+/* ---- one step, which moves as much as is there or fits */
 
 static long move_message(struct transfer *transfer, char *bytes, size_t length) {
     struct iovec part = {bytes, length};
@@ -40,7 +40,7 @@ static long move_message(struct transfer *transfer, char *bytes, size_t length) 
     return result;
 }
 
-/* A pipe that can be written to has room for this many bytes. */
+/* A pipe that can be written to has room for PIPE_BUF bytes. */
 static long move_in_pipe(const struct transfer *transfer, char *bytes, size_t length) {
     int file = transfer->opened->file;
     struct pollfd ready = {file, transfer->sends ? POLLOUT : POLLIN, 0};
@@ -56,7 +56,7 @@ static long move_some(struct transfer *transfer) {
     if (transfer->sends && left && !(left = gather(call, &transfer->parts, call->moved, left, bytes))) return -EFAULT;
     long result = transfer->is_socket ? move_message(transfer, bytes, left) : move_in_pipe(transfer, bytes, left);
     if (transfer->sends || result <= 0) return result;
-    size_t kept = (size_t)result < left ? (size_t)result : left; /* of a message that is cut off its whole length may be told */
+    size_t kept = (size_t)result < left ? (size_t)result : left; /* for a message that was cut off, the result may be its whole length */
     return scatter(call, &transfer->parts, call->moved, kept, bytes) == kept ? result : -EFAULT;
 }
 
@@ -81,7 +81,7 @@ static void signal_broken(const struct transfer *transfer, long result) {
         syscall(SYS_tgkill, thread->process, thread->number, SIGPIPE);
 }
 
-/* The bytes that were moved, an error, or -EAGAIN where it waits: then the call is served again. */
+/* Whether the call is over. Then the result is the number of bytes that were moved, or an error. If not, the call waits and is served again. */
 static bool is_over(struct transfer *transfer, long *result) {
     struct call *call = transfer->call;
     for (;;) {
@@ -168,7 +168,7 @@ static bool read_message(const struct call *call, uint64_t at, struct message *m
     return read_memory(call->thread, transfer->address, &transfer->other, transfer->address_length) == transfer->address_length;
 }
 
-/* What is told of a message that was received, beside its bytes. */
+/* Writes what a thread is told about a message that it received, except for the bytes. */
 static void write_message(struct transfer *transfer, struct message *message) {
     const struct thread *thread = transfer->call->thread;
     if (transfer->sends) return;
@@ -181,7 +181,7 @@ static void write_message(struct transfer *transfer, struct message *message) {
     write_memory(thread, message->at, &message->head, sizeof message->head);
 }
 
-/* A message with descriptors or the like goes on whole, since those are the thread's; what it comes to isn't known. */
+/* A message with descriptors or other such data goes on by itself, since these belong to the thread. Its result isn't known. */
 static void serve_message(struct call *call, const struct opened *opened, enum point point) {
     static struct transfer transfer;
     struct message message;
@@ -208,7 +208,7 @@ static void set_length(const struct call *call, uint64_t at, size_t length) {
     write_memory(call->thread, at + offsetof(struct mmsghdr, msg_len), &told, sizeof told);
 }
 
-/* So many of them, as long as they don't wait; of those that are dropped the length alone. */
+/* Moves so many messages, as long as none has to wait. For those that are dropped only the length is written. */
 static long move_messages(struct transfer *transfer, uint64_t count, bool drops) {
     struct call *call = transfer->call;
     for (uint64_t i = 0; i < count; i++) {
@@ -261,7 +261,7 @@ void serve_receive(struct call *call) { serve_on_socket(call, serve_bytes); }
 void serve_one_message(struct call *call) { serve_on_socket(call, serve_message); }
 void serve_all_messages(struct call *call) { serve_on_socket(call, serve_messages); }
 
-/* Who connects is known to the other end, so the thread does it itself. */
+/* The other end can see who connects, so the thread makes this call itself. */
 void serve_connect(struct call *call) {
     struct opened opened;
     if (!open_socket(call, &opened)) return go_on(call);

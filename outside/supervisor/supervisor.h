@@ -1,9 +1,10 @@
-/* What the files of the supervisor share. main.c begins, receives calls, answers and ends; waiting.c has the calls that are answered
-   later, order.c says which of them goes next; table.c says what each system call's arguments are; filter.c and keeper.c start the
-   command; thread.c reaches into a thread, parts.c into its memory; known.c and find.c say which files are under the root; hit.c
-   counts, traces and answers, by lines of trace.c; noting.c says what is noted, notes_file.c where; variables.c reads what was
-   given. What a power cut shares is in ../run. The others are the calls: opens.c, bytes.c, copies.c, lengths.c, syncs.c, names.c
-   and maps.c of files, streams.c of pipes and sockets, pin.c of random bytes, sleeps.c of time, programs.c of what is no point. */
+/* What the files of the supervisor share. main.c begins, receives calls, answers them and ends. waiting.c has the calls that are answered later,
+   and order.c says which of them goes next. table.c says what each system call's arguments are. filter.c and keeper.c start the command. thread.c
+   looks into a thread, and parts.c into its memory. known.c and find.c say which files are under the root. hit.c counts and traces hits and says
+   what the scenario does there; trace.c writes the lines. noting.c says what is noted, and notes_file.c writes it. variables.c reads the
+   environment. ../run has what the power cut shares with it. The other files serve the calls: opens.c, bytes.c, copies.c, lengths.c, syncs.c,
+   names.c and maps.c those on files, streams.c those on pipes and sockets, pin.c random bytes, sleeps.c sleeps, and programs.c calls that are no
+   points. */
 #ifndef SUPERVISOR_H
 #define SUPERVISOR_H
 
@@ -23,9 +24,9 @@ enum answer { GO, FAIL, HALF, DROP, NOT_YET };
 struct hit {
     bool seen;
     enum answer answer;
-    int error;        /* of FAIL */
-    long result_at;   /* where the trace takes what it came to; negative while its line isn't written */
-    uint64_t wakes;   /* after which time it goes on, in nanoseconds */
+    int error;        /* the error of FAIL */
+    long result_at;   /* where its result is in the trace; negative until its line is written */
+    uint64_t wakes;   /* the time at which it goes on, in nanoseconds */
 };
 
 enum { MOST_HELD = 100 };
@@ -36,43 +37,43 @@ struct call {
     struct thread *thread;
     struct hit hit;
     bool is_answered;
-    bool waits_turn, chosen; /* by the order */
-    int waits_for;    /* a descriptor that it needs to be ready, or -1 */
+    bool waits_turn, chosen; /* whether it waits for its turn, and whether it has its turn */
+    int waits_for;    /* a descriptor that must be ready before it goes on, or -1 */
     short events;
-    size_t moved;     /* bytes of a transfer that is under way */
-    uint64_t gives_up; /* when a wait for more is over, or 0 */
-    uint64_t sleeps_until; /* of a sleep, in the time of sleeps alone; else 0 */
-    int held[MOST_HELD], held_count; /* descriptors that are closed once it is served */
+    size_t moved;     /* the bytes that were moved in a transfer that isn't over */
+    uint64_t gives_up; /* the time at which a wait for more ends, or 0 */
+    uint64_t sleeps_until; /* when a sleep ends, in the time as it would be if only sleeps took time; otherwise 0 */
+    int held[MOST_HELD], held_count; /* descriptors that are closed when it has been served */
 };
 
-/* The argument of that number, from 1; 0 where the call has none. */
+/* The argument of that number, counted from 1. It is 0 if the call has none. */
 static inline uint64_t argument(const struct call *call, unsigned number) {
     return number ? call->told.data.args[number - 1] : 0;
 }
 
-/* Keeps a descriptor until the call is served, and answers it. */
+/* Keeps a descriptor until the call has been served, and returns it. */
 int hold(struct call *call, int file);
 
-/* What a system call answered, or the error as a negative number. */
+/* The result of a system call, or its error as a negative number. */
 long result_of(long answered);
 
-/* Each call ends by one of these: with its result; by going on as it is, with a result that nobody knows or that is sure; or
-   with a descriptor of its own for that file. */
+/* Each call ends by one of these: with a result; by going on as it is, with a result that isn't known or one that is certain; or with a descriptor
+   for that file. */
 void finish(struct call *call, long result);
 void go_on(struct call *call);
 void go_on_with(struct call *call, long result);
 void give(struct call *call, int file, bool closes_at_exec);
 
-/* Whether its thread is there still. A call of none is over. */
+/* Whether the thread of a call is still there. Otherwise the call is over. */
 bool still_waits(struct call *call);
 
 /* A signal has come for its thread: the system runs its handler, and then ends the call or makes it again. */
 void interrupt(struct call *call);
 
-/* Or it waits: until that descriptor is ready. */
+/* Or the call waits until that descriptor is ready. */
 void wait_for(struct call *call, int file, short events);
 
-/* Whether a sleep's time is over, and was so long ago; and what a signal does to it. */
+/* Whether the time of a sleep is over, and whether it was over long ago. A signal ends a sleep early. */
 bool has_slept(const struct call *call);
 bool is_overdue(const struct call *call);
 void end_sleep(struct call *call);
@@ -82,12 +83,12 @@ void end_sleep(struct call *call);
 /* Ends every process of the run, and this one with that status. */
 _Noreturn void end_run(int status);
 
-/* What can't be followed: the run is unresolved. */
+/* Ends a run that can't be followed, and so is unresolved. */
 _Noreturn void lose(const char *what, const char *name);
 
 uint64_t now(void);
 
-/* Signals for the supervisor wait while a call is done that one would cut short. */
+/* Lets signals for the supervisor wait while it makes a call that a signal would cut short. */
 void hold_signals(void);
 void let_signals(void);
 
@@ -99,18 +100,18 @@ struct facts {
 /* ---- threads of the run */
 
 struct thread {
-    int number;      /* as the system counts threads; 0 where it is free */
+    int number;      /* its number in the system; 0 if this slot is free */
     int process;
     int handle;      /* a pidfd */
-    uint64_t seen;   /* when it was known to be alive */
-    int mask;        /* its umask, or -1 where that has to be asked */
-    bool is_elsewhere; /* its root or its mounts aren't ours */
-    bool has_company;  /* its process had other threads */
-    int folder;      /* where its names begin, or -1; `moves` is the count of changes of that by which it is known */
+    uint64_t seen;   /* the last time at which it was alive */
+    int mask;        /* its umask, or -1 if it isn't known */
+    bool is_elsewhere; /* its root or its mounts aren't those of the supervisor */
+    bool has_company;  /* whether its process has had other threads */
+    int folder;      /* its current folder, or -1; it is known as of `moves` changes of such folders */
     struct facts of_folder;
     uint64_t moves;
-    uint64_t program; /* the number of its program's file, once that is noted */
-    struct {          /* the call that a signal interrupted: the same again is no other hit */
+    uint64_t program; /* the number of its program's file, once it was noted */
+    struct {          /* the call that a signal interrupted; if the same call comes again, it is no other hit */
         bool is_there;
         struct seccomp_data data;
         struct hit hit;
@@ -120,36 +121,36 @@ struct thread {
 
 struct thread *thread_of(int number);
 
-/* The folder where its names begin: a descriptor that isn't to be closed, or -1. Who changes it is told, and again once that is done. */
+/* The thread's current folder: a descriptor that must not be closed, or -1. folder_changes says that the thread is about to change it. */
 int folder_of(struct thread *thread);
 void folder_changes(struct thread *thread);
 
-/* Its descriptor, as one of ours. */
+/* A copy of the thread's descriptor. */
 int fetch(const struct thread *thread, int file);
 
 /* The path of its program. */
 const char *program_of(const struct thread *thread);
 
-/* Memory: how many bytes were read or written, of parts as well. */
+/* Read and write the thread's memory. They return how many bytes were read or written, which may be a part. */
 size_t read_memory(const struct thread *thread, uint64_t at, void *to, size_t length);
 size_t write_memory(const struct thread *thread, uint64_t at, const void *from, size_t length);
 
-/* A text with its end; false where there is none. */
+/* Reads a text up to its end. Returns false if it has none there. */
 bool read_text(const struct thread *thread, uint64_t at, char *text, size_t room);
 
-/* Whether a signal has come that it looks at. */
+/* Whether a signal has come for it that it doesn't block. */
 bool has_signal(const struct thread *thread);
 
-/* A line of its status, as "Umask:", or null. */
+/* What is behind a word of its status, such as "Umask:", or null. */
 const char *status_of(const struct thread *thread, const char *line);
 
-/* Looks for names as its user, where that isn't ours, and makes them with its umask too; `act_as_self` ends that. */
+/* From here on, names are looked for as the thread's user, and with make_as also made with its umask. act_as_self ends that. */
 void act_as(const struct thread *thread);
 void make_as(struct thread *thread);
 void act_as_self(void);
 void ids_changed(void);
 void limits_changed(void);
-bool has_limits(void); /* on the length of files, perhaps */
+bool has_limits(void); /* whether there may be limits on the length of files */
 void mask_changed(const struct thread *thread);
 void root_changed(void);
 
@@ -159,70 +160,69 @@ bool look_at(int folder, const char *name, int flags, struct facts *facts);
 
 void know_root(void);
 
-/* Whether an open file or folder is under the root, by what it is. */
+/* Whether an open file or folder is under the root. It is known by its identity. */
 bool is_inside(int file, const struct facts *facts);
 void set_inside(const struct key *key, bool inside);
 
-/* A file or folder that came to the root, to that path, or left it, with null; with all that is below it. */
+/* Says that a file or folder, with all that is below it, came under the root, to that path, or left it, if `path` is null. */
 void moved(int folder, const char *name, const char *path);
 
-/* The path of a file that was made. */
+/* Says what the path of a file is. */
 void know_path(const struct facts *facts, const char *path);
 
-/* After a rename or an unlink of that: its path isn't known any more. */
+/* Forgets a path, after a rename or an unlink. */
 void name_changed(const struct facts *facts);
 
-/* Whether a file was under the root before, and changed since unseen. */
+/* Whether a file was under the root before. It may have changed unseen since it left. */
 bool has_left(const struct key *key);
 
 /* The path below the root that leads to an open file, for the trace. */
 const char *shown_path(int file, const struct facts *facts, char *path);
 
-/* A name of a call: the folder in which it is, and what it leads to. */
+/* A name in a call: the folder in which it is, and what it leads to. */
 struct found {
     int folder;                 /* a descriptor */
     int error;                  /* why nothing was found */
     char name[NAME_MAX + 2];    /* "." for the folder itself */
     bool ends_in_slash, exists, is_inside, folder_is_inside;
     struct facts facts, of_folder;
-    char path[PATH_MAX];        /* below the root, where it is inside */
+    char path[PATH_MAX];        /* the path below the root, if it is inside */
 };
 
-/* False where the system refuses the name, or where it leads to nothing that can be known: then the call goes on. `follows`: a
-   symbolic link at its end is followed. */
+/* Finds a name. Returns false if the system refuses it, or if it leads to something that can't be known: then the call goes on. `follows` says
+   whether a symbolic link at its end is followed. */
 bool find_text(struct call *call, int folder, const char *text, bool follows, struct found *found);
 
-/* The same of the call's first and second name, by its row. */
+/* Find the call's first and second name in the same way. The call's row says which arguments they are. */
 bool find_name(struct call *call, bool follows, struct found *found);
 bool find_other(struct call *call, bool follows, struct found *found);
 
-/* Ends a call of names that aren't under the root: it goes on; or, where a name leads nowhere, it is refused, since by the time
-   it went on the name might lead to the root. */
+/* Ends a call whose names aren't under the root: it goes on by itself. If a name leads nowhere, the call fails, since the name might lead to the
+   root by the time that it went on. */
 void pass_by(struct call *call, const struct found *found);
 
-/* Fetches the descriptor of a call, its argument of that number; false where it has none, or one of another file system. */
+/* Fetches the descriptor that is the call's argument of that number. Returns false if it isn't a file under the root. */
 struct opened {
     int file;
     struct facts facts;
-    int flags; /* but for a read, which needs none */
+    int flags; /* not set for a read, which doesn't need them */
     char path[PATH_MAX];
 };
 bool open_of(struct call *call, unsigned number, struct opened *opened);
 
-/* A path of the supervisor's that leads to what was found, for calls that take no descriptor. */
+/* A path by which the supervisor itself reaches what was found, for calls that take no descriptor. */
 enum { FOUND_PATH = NAME_MAX + 64 };
 const char *path_to(const struct found *found, char *path);
 
-/* For the notes. */
+/* The place of a name, as notes have it. */
 void place_of(const struct found *found, struct place *place);
 
 /* ---- hits */
 
-/* Counts a hit and answers what the call is to do; NOT_YET where it has to wait: it is served again later. A return is answered
-   already, as FAIL. */
+/* Counts a hit and returns what the call does. With NOT_YET it has to wait, and is served again later. With FAIL it has been answered already. */
 enum answer hit(struct call *call, enum point point, const char *path, const char *flags);
 
-/* The counts, the trace and the notes, for one supervisor of the run at a time. */
+/* The lock of the counts, the trace and the notes. One supervisor of a run at a time has it. */
 void lock_run(void);
 void unlock_run(void);
 
@@ -231,12 +231,12 @@ void flush_hit(struct call *call);
 
 /* ---- mappings */
 
-/* Notes what was stored through mappings of that file since that was done before. */
+/* Notes what was stored through mappings of that file since the last time. */
 void note_stores(const struct key *file);
 void note_all_stores(void);
 
-/* What a call changed of a file isn't what was stored: bytes, or zeros where they are null; its length; or something inside the system,
-   which is then noted as stores are, with an answer of true. */
+/* Say that a call changed a mapped file, so that this isn't taken for a store: that it wrote bytes (zeros if they are null), changed the length, or
+   changed something inside the system. The last is noted as stores are, and mapped_was_changed returns true. */
 void mapped_was_written(const struct key *file, uint64_t at, const char *bytes, uint64_t length);
 void mapped_was_resized(const struct key *file);
 bool mapped_was_changed(const struct key *file);

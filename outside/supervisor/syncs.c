@@ -1,4 +1,4 @@
-/* Syncs. What was noted as one begins is what it promises. Nothing is asked of the disk: a power cut goes by the notes. */
+/* Syncs. A sync promises what was noted before it began. The disk itself isn't synced, since a power cut goes by the notes. */
 #define _GNU_SOURCE
 #include "supervisor.h"
 
@@ -9,7 +9,7 @@ static bool can_be_synced(const struct opened *opened) {
     return S_ISREG(mode) || S_ISDIR(mode);
 }
 
-/* A sync that fails by the scenario. */
+/* Notes a sync that the scenario lets fail. */
 static void note_failed(const struct key *file) {
     if (!is_kept || !forgets) return;
     lock_run();
@@ -31,7 +31,7 @@ void serve_sync(struct call *call) {
     finish(call, 0);
 }
 
-/* Its manual promises nothing of what is on the disk then, so nothing lasts by it. */
+/* The manual of sync_file_range promises nothing about the disk, so nothing lasts by it. */
 void serve_sync_range(struct call *call) {
     struct opened opened;
     if (!open_of(call, call->row->file, &opened)) return go_on(call);
@@ -40,7 +40,7 @@ void serve_sync_range(struct call *call) {
         (unsigned)argument(call, call->row->flags))));
 }
 
-/* All files of the run; a point of the root itself. One of another file system than the root's is no point. */
+/* A sync of all files is a hit with the root as its file. A syncfs of another file system than the root's is no point. */
 void serve_sync_all(struct call *call) {
     struct opened opened;
     struct stat of_root;

@@ -96,7 +96,7 @@ const size_t table_length = sizeof table / sizeof *table;
 enum { MOST_NUMBERS = 512 };
 
 const struct row *row_of(int number) {
-    static unsigned char rows[MOST_NUMBERS]; /* one more than the row's number */
+    static unsigned char rows[MOST_NUMBERS]; /* the row's number plus one */
     if (!rows[table[0].number])
         for (size_t i = 0; i < table_length; i++) rows[table[i].number] = (unsigned char)(i + 1);
     return number >= 0 && number < MOST_NUMBERS && rows[number] ? &table[rows[number] - 1] : NULL;

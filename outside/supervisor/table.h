@@ -1,4 +1,4 @@
-/* The system calls that are looked at: what each argument is, which point it is, and who serves it. */
+/* The system calls that are looked at: what each argument is, which point the call is, and which function serves it. */
 #ifndef TABLE_H
 #define TABLE_H
 
@@ -8,28 +8,28 @@
 
 struct call;
 
-/* Where a call is looked at. */
+/* When a call is looked at. */
 enum where {
     ALWAYS,
     SHARED_FILES,  /* a mapping of a file that others see */
     WRITABLE,      /* memory that becomes writable */
     NEW_LIMITS,    /* limits that are set, and not only asked for */
-    CLONED_FILES,  /* of an ioctl */
-    ON_SOCKETS,    /* where sockets are points */
-    PINNED,        /* where random bytes are the same each time */
-    ORDERED,       /* where calls have an order */
+    CLONED_FILES,  /* an ioctl that clones files */
+    ON_SOCKETS,    /* if sockets are points */
+    PINNED,        /* if random bytes are the same in each run */
+    ORDERED,       /* if calls have an order */
 };
 
-/* Numbers of arguments, from 1; 0 where the call has no such argument. */
+/* Numbers of arguments, counted from 1. A number is 0 if the call has no such argument. */
 struct row {
     int number;
-    enum point point; /* POINTS where it is none */
+    enum point point; /* POINTS if it is none */
     void (*serve)(struct call *call);
     enum where where;
     unsigned char folder, path, other_folder, other_path, file, other_file, bytes, length, at, other_at, flags, mode, parts;
 };
 
-/* In no order. `parts`: the bytes are in parts, of which this is the count. */
+/* The rows have no order. `parts` is set if the bytes are in parts: it is the argument with their count. */
 extern const struct row table[];
 extern const size_t table_length;
 

@@ -1,4 +1,4 @@
-/* Threads of the run: their descriptors, memory, umask and user. */
+/* The threads of the run: their descriptors, memory, umask and user. */
 #define _GNU_SOURCE
 #include "supervisor.h"
 
@@ -10,7 +10,7 @@
 #include <sys/fsuid.h>
 #include <sys/resource.h>
 
-/* A number isn't used again in so short a time. */
+/* The system doesn't use a thread's number again in so short a time. */
 static const uint64_t RECENT = 50000000;
 
 enum { SLOTS = 1024, MOST_STATUS = 8192, PAGE = 4096, SHORT_TEXT = 128 };
@@ -34,7 +34,7 @@ static void read_status(const struct thread *thread) {
     status[length < 0 ? 0 : length] = 0;
 }
 
-/* Of what was read last. */
+/* Finds a line in the status that was read last. */
 static const char *line_of_status(const char *line) {
     const char *found = strstr(status, line);
     return found ? found + strlen(line) : NULL;
@@ -55,7 +55,7 @@ bool has_signal(const struct thread *thread) {
     return come & ~signals_of(thread, "SigBlk:");
 }
 
-/* The supervisor's own stay the same. */
+/* Whether a thread has the same root or mounts as the supervisor, whose own don't change. */
 static bool is_same_by(const struct thread *thread, const char *what, const char *ours, struct stat *own) {
     char path[64];
     struct stat its;
@@ -73,9 +73,9 @@ static bool looks_elsewhere(const struct thread *thread) {
 
 void root_changed(void) { roots_change = true; }
 
-/* ---- the folder of names */
+/* ---- the current folder */
 
-/* A call that changes it goes on by itself, and is over when its thread makes another: until then nothing is remembered. */
+/* A call that changes the folder goes on by itself. It is over when its thread makes another call, and until then no folder is remembered. */
 static uint64_t moves = 1;
 static int mover;
 
@@ -106,8 +106,8 @@ int folder_of(struct thread *thread) {
 
 static bool knows_threads = true;
 
-/* A handle is that of one thread, so that a number which is used again is found out; where the system knows no such handles
-   nothing is remembered. */
+/* Whether a thread is still the same. A handle belongs to one thread, so it shows when a number is used again. If the system has no such handles,
+   no thread is remembered. */
 static bool is_alive(struct thread *thread) {
     uint64_t time = now();
     if (!knows_threads) return false;
@@ -144,7 +144,7 @@ struct thread *thread_of(int number) {
     return thread;
 }
 
-/* Of one that may not be looked into its short name. */
+/* The path of a thread's program, or its short name if it may not be looked into. */
 const char *program_of(const struct thread *thread) {
     static char program[PATH_MAX];
     char link[64];
@@ -156,9 +156,9 @@ const char *program_of(const struct thread *thread) {
     return name ? strcpy(program, strndupa(name, strcspn(name, "\n"))) : "";
 }
 
-/* What the system forbids to look into would go on unseen. */
+/* Ends the run if the system forbids to look into a thread, since its calls would go on unseen. */
 static void must_be_allowed(const struct thread *thread) {
-    if (errno == EPERM) lose("not followed, the system lets nobody look into", program_of(thread));
+    if (errno == EPERM) lose("can't follow a process into which the system lets nobody look", program_of(thread));
 }
 
 int fetch(const struct thread *thread, int file) {
@@ -207,7 +207,7 @@ void mask_changed(const struct thread *thread) {
 
 void ids_changed(void) { ids_change = true; }
 
-/* Threads have the supervisor's own limits until one sets others. */
+/* Threads have the supervisor's own limits until one of them sets others. */
 static bool limits_change;
 
 void limits_changed(void) { limits_change = true; }
@@ -227,7 +227,7 @@ static void take_mask(struct thread *thread) {
     if (own_mask != (mode_t)thread->mask) umask(own_mask = (mode_t)thread->mask);
 }
 
-/* The last of the four numbers of a line is the one by which files are looked for. */
+/* The user or group as which a thread uses files: the last of the four numbers of a line. */
 static unsigned file_id(const struct thread *thread, const char *line) {
     unsigned ids[4] = {0};
     const char *text = status_of(thread, line);

@@ -17,7 +17,7 @@ const char *link_of(int file, char *link) {
     return link;
 }
 
-/* An open's flags as strace has them. */
+/* The flags of an open, as strace shows them. */
 const char *flag_names(int flags, char *text) {
     static const struct { int flag; const char *name; } names[] = {
         {O_CREAT, "O_CREAT"},         {O_EXCL, "O_EXCL"},     {O_TRUNC, "O_TRUNC"},       {O_APPEND, "O_APPEND"},
@@ -35,7 +35,7 @@ const char *flag_names(int flags, char *text) {
     return text;
 }
 
-/* The name of a file as part of a point's: without what a scenario or settings can't hold. */
+/* The name of a point, with its file if points are named by file. Bytes that scenarios or settings can't have are replaced. */
 const char *point_name(const struct scenario *scenario, enum point point, const char *file, char *name) {
     if (!scenario->by_file || point == NEXT) return point_names[point];
     char *end = stpcpy(stpcpy(name, point_names[point]), "@");

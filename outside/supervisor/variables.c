@@ -1,4 +1,4 @@
-/* The scenario and the run that the variables name. */
+/* Reads the variables of the environment. */
 #define _GNU_SOURCE
 #include "variables.h"
 
@@ -19,7 +19,7 @@ bool is_kept, forgets, sees_sockets;
 
 static void read_failpoints(void) {
     const char *text = getenv("FAILPOINTS");
-    if (!text || !strcmp(text, "none")) return; /* as the empty scenario is written in lists */
+    if (!text || !strcmp(text, "none")) return; /* lists of scenarios write the empty one so */
     char *copy = strdup(text), what[64];
     if (!copy) refuse("FAILPOINTS", "no memory");
     if (!read_scenario(&scenario, copy)) {
@@ -32,22 +32,22 @@ static void read_failpoints(void) {
     }
 }
 
-/* Which of its words a variable has, or -1: it may be left out. */
+/* Which of these words a variable has, or -1 if it isn't set. */
 static int word_of(const char *name, const char *const *words) {
-    char what[128], *end = stpcpy(stpcpy(what, name), " is ");
+    char what[128], *end = stpcpy(stpcpy(what, name), " must be ");
     const char *value = getenv(name);
     if (!value) return -1;
     for (int i = 0; words[i]; i++) {
         if (!strcmp(value, words[i])) return i;
         end = stpcpy(stpcpy(end, words[i]), " or ");
     }
-    strcpy(end, "isn't set");
+    strcpy(end, "unset");
     refuse(what, value);
 }
 
 static bool is_word(const char *name, const char *word) { return word_of(name, (const char *const[]){word, NULL}) == 0; }
 
-/* A file's own sync makes its names last too, or a sync of anything does. */
+/* Which syncs make names last: only those of the folder, also the file's own (names), or a sync of anything (journal). */
 static enum names_last read_sync(void) {
     static const char *const words[] = {[WITH_FOLDER] = "strict", [WITH_FILE] = "names", [WITH_ANY] = "journal", NULL};
     int word = word_of("FAULTS_SYNC", words);
@@ -59,11 +59,11 @@ static uint64_t read_block(void) {
     char *end;
     if (!text) return 4096;
     unsigned long value = strtoul(text, &end, 10);
-    if (*text < '1' || *text > '9' || *end || value > 1 << 30) refuse("FAULTS_BLOCK is a number of bytes up to 1073741824", text);
+    if (*text < '1' || *text > '9' || *end || value > 1 << 30) refuse("FAULTS_BLOCK must be a number of bytes from 1 to 1073741824", text);
     return value;
 }
 
-/* Once in a run, by the first of its processes. */
+/* Warns about a name that never acts, once in a run. */
 static void tell_stranger(void) {
     if (scenario.stranger && !__atomic_exchange_n(&state->told, 1, __ATOMIC_SEQ_CST))
         dprintf(2, "faults: never acts: %s\n", scenario.stranger);
@@ -74,13 +74,13 @@ static void map_state(void) {
     struct stat told;
     snprintf(name, sizeof name, "%s/state", run_folder);
     int file = open(name, O_RDWR | O_CLOEXEC);
-    if (file < 0 || fstat(file, &told) || told.st_size != sizeof *state) refuse("FAULTS_RUN isn't a run's folder", run_folder);
+    if (file < 0 || fstat(file, &told) || told.st_size != sizeof *state) refuse("FAULTS_RUN isn't a folder that powercut begin made", run_folder);
     state = mmap(NULL, sizeof *state, PROT_READ | PROT_WRITE, MAP_SHARED, file, 0);
     if (state == MAP_FAILED) refuse("FAULTS_RUN", strerror(errno));
     close(file);
 }
 
-/* Whether `begin` noted another folder: of that one the notes would say nothing. */
+/* Whether `begin` noted another folder. Then the notes would say nothing about this one. */
 static bool is_other_root(void) {
     char name[LONG_PATH], noted[PATH_MAX];
     snprintf(name, sizeof name, "%s/root", run_folder);
@@ -90,8 +90,8 @@ static bool is_other_root(void) {
 
 static void set_root(const char *where) {
     if (!realpath(where, root)) refuse("FAULTS_ROOT isn't a folder", where);
-    if (!root[1]) refuse("FAULTS_ROOT is too much", root);
-    if (is_other_root()) refuse("FAULTS_ROOT isn't the folder that begin noted", root);
+    if (!root[1]) refuse("FAULTS_ROOT can't be the whole file system", root);
+    if (is_other_root()) refuse("FAULTS_ROOT isn't the folder that powercut begin was given", root);
 }
 
 void read_variables(void) {
@@ -100,9 +100,9 @@ void read_variables(void) {
     scenario.by_file = is_word("FAULTS_POINTS", "file");
     sees_sockets = is_word("FAULTS_SOCKETS", "1");
     read_failpoints();
-    if (!where || !in) refuse("isn't set", where ? "FAULTS_RUN" : "FAULTS_ROOT");
+    if (!where || !in) refuse(where ? "FAULTS_RUN" : "FAULTS_ROOT", "this variable isn't set");
     forgets = word_of("FAULTS_FSYNC", (const char *const[]){"again", "once", NULL}) != 0;
-    if (!realpath(in, run_folder)) refuse("FAULTS_RUN isn't a run's folder", in);
+    if (!realpath(in, run_folder)) refuse("FAULTS_RUN isn't a folder that powercut begin made", in);
     enum names_last names_last = read_sync();
     uint64_t block = read_block();
     map_state();

@@ -1,4 +1,4 @@
-/* The scenario and the run that the variables name. */
+/* The variables of the environment: the scenario, the run and the root. */
 #ifndef VARIABLES_H
 #define VARIABLES_H
 
@@ -7,15 +7,15 @@
 extern struct scenario scenario;
 extern struct state *state;
 extern char root[PATH_MAX], run_folder[PATH_MAX];
-extern bool is_kept, forgets, sees_sockets; /* what lasts is noted; blocks of a failed sync are lost; sockets are points */
+extern bool is_kept, forgets, sees_sockets; /* whether changes are noted, whether blocks of a failed sync are lost, and whether sockets are points */
 
-/* Reads them all, or refuses. */
+/* Reads all variables. If one can't be used, it refuses the run. */
 void read_variables(void);
 
-/* A program that runs under the supervisor: a line in the run's folder, and a count. */
+/* Notes a program that runs under the supervisor: a line in the run's folder, and a count. */
 void say_loaded(int process, const char *program);
 
-/* Tells what is wrong, and ends the run. */
+/* Prints what is wrong, and ends the run with REFUSED. */
 _Noreturn void refuse(const char *what, const char *why);
 
 #endif

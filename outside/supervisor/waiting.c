@@ -7,7 +7,7 @@
 #include <poll.h>
 #include <stdlib.h>
 
-enum { LONGEST_WAIT = 10 }; /* milliseconds, between looks at whether those that wait are there still */
+enum { LONGEST_WAIT = 10 }; /* milliseconds between two checks of whether the threads that wait are still there */
 
 static struct call *list;
 static size_t length, room;
@@ -28,7 +28,7 @@ void wait_for(struct call *call, int file, short events) {
     call->events = events;
 }
 
-/* ---- which may go on */
+/* ---- which calls may go on */
 
 static void sooner(uint64_t *least, uint64_t time, uint64_t then) {
     if (then > time && then - time < *least) *least = then - time;
@@ -56,7 +56,7 @@ static void take(size_t which, struct call *call) {
     call->waits_for = -1;
 }
 
-/* Takes a call out of the list and serves it; it may come to wait again. */
+/* Takes a call out of the list and serves it. It may have to wait again. */
 static void serve_again(size_t which) {
     struct call call;
     take(which, &call);
@@ -65,7 +65,7 @@ static void serve_again(size_t which) {
     serve(&call);
 }
 
-/* One that waits for a descriptor, or sleeps, may be interrupted, as in the system. */
+/* A signal may interrupt a call that waits for a descriptor, or that sleeps, as in the system itself. */
 static void interrupt_one(size_t which) {
     struct call call;
     bool may_be = list[which].waits_for >= 0 || list[which].sleeps_until;
@@ -91,7 +91,7 @@ static size_t all_turns(struct call **calls) {
     return count;
 }
 
-/* Where sleeps alone wait, the first one's time has to be over. */
+/* Whether a call may get its turn. If only sleeps wait, the time of the first one must be over. */
 static bool turn_may_come(void) {
     const struct call *first = NULL;
     for (size_t i = 0; i < length; i++)
@@ -99,7 +99,7 @@ static bool turn_may_come(void) {
     return first && (!first->sleeps_until || has_slept(first));
 }
 
-/* Once all rest, and no call has come meanwhile, one goes. */
+/* Gives a call its turn, once all threads rest and no call has come meanwhile. */
 static void take_turn(int listener) {
     struct call *calls[length + 1];
     size_t count = all_turns(calls);

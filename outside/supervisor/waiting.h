@@ -1,16 +1,16 @@
-/* Calls that wait before they are answered: a time, for a descriptor to be ready, or for their turn. */
+/* Calls that wait before they are answered: for some time, until a descriptor is ready, or for their turn. */
 #ifndef WAITING_H
 #define WAITING_H
 
 #include "supervisor.h"
 
-/* Serves a call, first or again; main.c. */
+/* Serves a call, for the first time or again. It is in main.c. */
 void serve(struct call *call);
 
 void keep_waiting(const struct call *call);
 bool waits_at_all(void);
 
-/* Waits until another call comes or one that waits may go on, and serves that. */
+/* Waits until another call comes, or until one that waits may go on, and serves the latter. */
 void wait_for_any(int listener);
 
 #endif

@@ -74,7 +74,7 @@ for word in again once; do
 done
 FAULTS_FSYNC=twice
 try none open old
-is 'FAULTS_FSYNC is again or once' '98 faults: FAULTS_FSYNC is again or once or isn'"'"'t set: twice' "$status $faults"
+is 'FAULTS_FSYNC is again or once' '98 faults: FAULTS_FSYNC must be again or once or unset: twice' "$status $faults"
 unset FAULTS_FSYNC
 
 try 'sys::fsync=1*off->panic' create a write b fsync folder . fsync
@@ -119,9 +119,9 @@ is 'many files, and a sync for each' '0 20000' "$status $(prlimit --cpu=1 out/po
 # What is refused, with nothing changed.
 try none open old
 mkdir -p "$here/other"
-is 'cut of another folder' "powercut: $here/other: not the folder that begin noted" "$(out/powercut cut "$here/run" "$here/other" 2>&1)"
-is 'cut to an unknown state' 'powercut: never: no such state' "$(out/powercut cut "$here/run" "$here/data" never 2>&1)"
-is 'cut without a run' "powercut: $here/other: no folder of a run that noted a root" "$(out/powercut cut "$here/other" "$here/data" 2>&1)"
+is 'cut of another folder' "powercut: $here/other: this isn't the folder that powercut begin was given" "$(out/powercut cut "$here/run" "$here/other" 2>&1)"
+is 'cut to an unknown state' 'powercut: never: no such state; the states are lasting, live, names, contents, keep and tear' "$(out/powercut cut "$here/run" "$here/data" never 2>&1)"
+is 'cut without a run' "powercut: $here/other: this isn't a folder that powercut begin made for a ROOT" "$(out/powercut cut "$here/other" "$here/data" 2>&1)"
 is 'begin where there is something' "powercut: $here/run: File exists" "$(out/powercut begin "$here/run" "$here/data" 2>&1)"
 is 'begin under the root' "powercut: $here/data/run: a run's folder can't be under ROOT" "$(out/powercut begin "$here/data/run" "$here/data" 2>&1)"
 is 'begin of a file' "powercut: $here/data/old: not a folder" "$(out/powercut begin "$here/file" "$here/data/old" 2>&1)"
@@ -129,6 +129,6 @@ rm -rf "$here/run"
 out/powercut begin "$here/run"
 go 'sys::open=1*return' open old open old
 is 'a run without a power cut' 'open EIO,open 0' "$said"
-is 'and none can be cut' "powercut: $here/run: no folder of a run that noted a root" "$(out/powercut cut "$here/run" "$here/data" 2>&1)"
+is 'and none can be cut' "powercut: $here/run: this isn't a folder that powercut begin made for a ROOT" "$(out/powercut cut "$here/run" "$here/data" 2>&1)"
 out/powercut > "$here/said" 2>&1
 is 'a refusal ends with 2' 2 $?

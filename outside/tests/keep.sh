@@ -128,7 +128,7 @@ is 'a torn write' 'old=0123ef6789 ' "$(kept "$(only 2)")"
 for wrong in 0 4k -1 1073741825; do
     FAULTS_BLOCK=$wrong
     try none open old
-    is "FAULTS_BLOCK=$wrong" "98 faults: FAULTS_BLOCK is a number of bytes up to 1073741824: $wrong" "$status $faults"
+    is "FAULTS_BLOCK=$wrong" "98 faults: FAULTS_BLOCK must be a number of bytes from 1 to 1073741824: $wrong" "$status $faults"
 done
 unset FAULTS_BLOCK
 
@@ -164,7 +164,7 @@ try none create a write b fsync
 is 'strict is what it is where nothing is set' '1 create a -:old=0123456789 ' "$(pending):$(kept none)"
 FAULTS_SYNC=name
 try none open old
-is 'FAULTS_SYNC is one of three' "98 faults: FAULTS_SYNC is strict or names or journal or isn't set: name" "$status $faults"
+is 'FAULTS_SYNC is one of three' "98 faults: FAULTS_SYNC must be strict or names or journal or unset: name" "$status $faults"
 unset FAULTS_SYNC
 
 # A failed sync, whose blocks the system takes for clean.

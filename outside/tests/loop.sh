@@ -48,11 +48,11 @@ loop() {
 told() { grep -v -e ' time left ' -e ' once more$' "$here/told"; }
 
 is 'the loop goes on until nothing is asked' "$all" "$(loop answers 2> "$here/faults")"
-is 'and tells how far it is' 'loop: answered 0, asked 3, failing 0, time left unknown
-loop: answered 3, asked 3, failing 0, time left 0:00:00
-loop: answered 6, asked 1, failing 0, time left 0:00:00
-loop: answered 7, asked 0, failing 0, time left 0:00:00' "$(sed 's/, [0-9.]* a second, /, /' "$here/told")"
-is 'and how fast' 3 "$(grep -c '^loop: answered [367], [0-9]*[.][0-9] a second, ' "$here/told")"
+is 'and tells how far it is' 'loop: 0 answered, 3 still to answer, 0 failing, time left unknown
+loop: 3 answered, 3 still to answer, 0 failing, time left 0:00:00
+loop: 6 answered, 1 still to answer, 0 failing, time left 0:00:00
+loop: 7 answered, 0 still to answer, 0 failing, time left 0:00:00' "$(sed 's/ ([0-9.]* a second), /, /' "$here/told")"
+is 'and how fast' 3 "$(grep -c '^loop: [367] answered ([0-9]*[.][0-9] a second), ' "$here/told")"
 head -n 4 "$here/answers" > "$here/part" && mv "$here/part" "$here/answers"
 is 'and on where it was stopped' "$all" "$(loop answers 2> "$here/faults")"
 is 'with each asked once' 7 "$(wc -l < "$here/answers")"
@@ -67,9 +67,9 @@ is 'once, as each note' 'a note,strict: no hits without faults' "$(paste -s -d ,
 unset options NOTE
 rm "$here/answers"
 loop tells_nothing > "$here/said" 2>&1
-is 'it stops where no answer comes' "2 loop: no answer came from $here/bin/tells_nothing, asked first: none" "$? $(tail -n 1 "$here/said")"
+is 'it stops where no answer comes' "2 loop: $here/bin/tells_nothing printed no answer: run it by hand with the first scenario that it was given: none" "$? $(tail -n 1 "$here/said")"
 loop tells_another > "$here/said" 2>&1
-is 'or answers to what nobody asked' "2 loop: $here/bin/tells_another answers nothing that is asked" "$? $(tail -n 1 "$here/said")"
+is 'or answers to what nobody asked' "2 loop: $here/bin/tells_another answers other scenarios than those that it was given, the first of which is: none" "$? $(tail -n 1 "$here/said")"
 rm "$here/answers"
 REFUSES=yes
 export REFUSES
@@ -86,7 +86,7 @@ head -n 3 "$here/list" > "$here/three"
 is 'a run that takes too long' 'a=off b=print( x ) none' \
     "$(PATH="$here/bin:$PATH" ./loop --seconds 1 "$here/three" "$here/answers" "$here/bin/hangs" 2> "$here/told")"
 is 'is unresolved' '3 unresolved' "$(cut -f 1 "$here/answers" | sort | uniq -c | sed 's/^ *//')"
-is 'and told' 'loop: ended after 1 seconds: a=off' "$(LC_ALL=C sort "$here/told" | head -n 1)"
+is 'and told' 'loop: the run was ended after 1 seconds (--seconds): a=off' "$(LC_ALL=C sort "$here/told" | head -n 1)"
 # running PROGRAM: which processes that it noted are; one that has ended may still be listed
 running() { for pid in "$here/bin/$1".*.pid; do grep -hs '^State:.[^ZX]' "/proc/$(cat "$pid")/status"; done 2> "$here/ended"; }
 going() { running hangs; }
@@ -104,7 +104,7 @@ is 'what has a session of its own is ended' '3 3 unresolved ' "$(ls "$here"/bin/
 rm "$here/answers"
 PATH="$here/bin:$PATH" ./loop "$here/three" "$here/answers" "$here/bin/leaves" > "$here/said" 2> "$here/told"
 is 'and what a run leaves' '3 3 pass ' "$(ls "$here"/bin/leaves.*.pid | wc -l) $(cut -f 1 "$here/answers" | sort | uniq -c | sed 's/^ *//') $(running leaves)"
-is 'which is told' 'within: ended what was left running: sleep: a=off' "$(LC_ALL=C sort "$here/told" | head -n 1)"
+is 'which is told' 'within: killed a process that was left running: sleep: a=off' "$(LC_ALL=C sort "$here/told" | head -n 1)"
 rm "$here/answers"
 PATH="$here/bin:$PATH" ./loop "$here/three" "$here/answers" "$here/bin/leaves_ending" > "$here/said" 2> "$here/told"
 is 'but not what ends by itself' '3 ' "$(wc -l < "$here/answers") $(cat "$here/told")"
@@ -126,7 +126,7 @@ is 'nor its own words' '125 within: 9s: Invalid argument' "$(within 9s 99 true)"
 mkdir "$here/unbuilt" && cp -R loop harness "$here/unbuilt"
 PATH="$here/bin:$PATH" "$here/unbuilt/loop" --seconds 1 "$here/three" "$here/answers" "$here/bin/hangs" > "$here/said" 2> "$here/told"
 is 'where it is not built' '3 unresolved ' "$(cut -f 1 "$here/answers" | sort | uniq -c | sed 's/^ *//') $(going)"
-is 'which is told too' "loop: not built: $here/unbuilt/out/within (make -C outside): what a run leaves running lives on" "$(head -n 1 "$here/told")"
+is 'which is told too' "loop: $here/unbuilt/out/within isn't built, so processes that a run leaves behind aren't ended: call make -C $here/unbuilt" "$(head -n 1 "$here/told")"
 rm "$here/answers" "$here"/bin/hangs.*.pid
 
 # stopped NAME SIGNAL GROUP OPTION..: a loop of two runs at once that gets the signal, with its group where GROUP is `-`: its status, how many
@@ -174,7 +174,7 @@ tries=0
 until [ -n "$(going)" ] || [ "$tries" -ge 300 ]; do sleep 0.1; tries=$((tries + 1)); done
 options=--brief
 loop answers > "$here/said" 2>&1
-is 'a second loop over the same answers' "2 loop: another loop writes to $here/answers" "$? $(cat "$here/said")"
+is 'a second loop over the same answers' "2 loop: another loop is writing to $here/answers: wait until it has ended, or stop it" "$? $(cat "$here/said")"
 unset options
 kill "$first"
 { wait "$first"; } 2> "$here/said"
@@ -217,29 +217,29 @@ PATH="$here/bin:$PATH" ./loop "$here/one" "$here/answers" "$here/bin/answers_muc
 is 'an answer of 1048576 bytes' '0 1048576' "$? $(wc -c < "$here/answers")"
 rm "$here/answers"
 PATH="$here/bin:$PATH" MORE=1 ./loop "$here/one" "$here/answers" "$here/bin/answers_much" > "$here/said" 2>&1
-is 'is the longest' '2 0 loop: an answer with more than 1048576 bytes: none' "$? $(wc -c < "$here/answers") $(cat "$here/said")"
+is 'is the longest' "2 0 loop: $here/bin/answers_much printed more than 1048576 bytes for the scenario none" "$? $(wc -c < "$here/answers") $(cat "$here/said")"
 rm "$here/answers"
 PATH="$here/bin:$PATH" timeout 30 ./loop --seconds 20 "$here/one" "$here/answers" "$here/bin/answers_on" > "$here/said" 2>&1
-is 'and one that goes on is cut' '2 0 loop: an answer with more than 1048576 bytes: none' "$? $(wc -c < "$here/answers") $(cat "$here/said")"
+is 'and one that goes on is cut' "2 0 loop: $here/bin/answers_on printed more than 1048576 bytes for the scenario none" "$? $(wc -c < "$here/answers") $(cat "$here/said")"
 rm "$here/answers"
 PATH="$here/bin:$PATH" ./loop "$here/one" "$here/answers" "$here/bin/ends_no_line" > "$here/said" 2>&1
-is 'an answer without its end' '2 0 loop: an answer with no end of its line: none' "$? $(wc -c < "$here/answers") $(cat "$here/said")"
+is 'an answer without its end' "2 0 loop: $here/bin/ends_no_line printed no line feed at the end of its answer to the scenario none" "$? $(wc -c < "$here/answers") $(cat "$here/said")"
 rm -f "$here/answers"
 
 # No room: a file may have 512 bytes, so of the answers of 406 the first fits.
 long=$(head -c 400 /dev/zero | tr '\0' x)
 printf '%s\n' "1$long" "2$long" "3$long" "4$long" > "$here/wide"
 (trap '' XFSZ; ulimit -f 1; PATH="$here/bin:$PATH" exec ./loop -j 1 "$here/wide" "$here/answers" "$here/bin/answers") > "$here/said" 2>&1
-is 'where nothing more can be written the loop ends' "2 loop: an answer can't be written to $here/answers" "$? $(grep '^loop: ' "$here/said")"
+is 'where nothing more can be written the loop ends' "2 loop: $here/answers: an answer can't be written: File too large" "$? $(grep '^loop: ' "$here/said")"
 is 'and what was torn is taken back' "pass	1$long" "$(cat "$here/answers")"
 is 'so that it can go on' "1$long 2$long 3$long 4$long" "$(PATH="$here/bin:$PATH" ./loop "$here/wide" "$here/answers" "$here/bin/answers" 2>&1)"
 rm "$here/answers"
 
 # What fails is run once more.
 loop fails > "$here/said" 2>&1
-is 'a plan that fails but once' '5 loop: told otherwise: fail lost of all, then pass: e=off' "$? $(told)"
+is 'a plan that fails but once' '5 loop: the verdict changed from fail lost of all to pass: e=off' "$? $(told)"
 is 'after the report' 'reduced e=off' "$(grep -v '^loop' "$here/said" | tail -n 1)"
-is 'which a line of progress says' 'loop: 2 that fail run once more' "$(grep 'once more$' "$here/said")"
+is 'which a line of progress says' 'loop: 2 failing plans are run once more' "$(grep 'once more$' "$here/said")"
 is 'which may be the brief one' 'fail lost of all e=off' \
     "$(PATH="$here/bin:$PATH" ./loop --brief --no-recheck "$here/list" "$here/answers" "$here/bin/fails" | sed -n 's/^verdict [0-9]* \(fail lost\)/\1/p')"
 options=--no-recheck
@@ -300,7 +300,7 @@ is 'and then nothing else is told' '' "$(grep ended "$here/told")"
 rm "$here/answers"
 printf '%s\n' d=off e=off 'depth = 2' > "$here/deep"
 PATH="$here/bin:$PATH" ./loop "$here/deep" "$here/answers" "$here/bin/drifts" > "$here/said" 2> "$here/told"
-is 'a second run with other hits is told' '5 loop: other hits: 2*a, then a: e=off' "$? $(cat "$here/told")"
+is 'a second run with other hits is told' '5 loop: the hits changed from 2*a to a: e=off' "$? $(cat "$here/told")"
 rm "$here/answers"
 
 # No control byte of an answer is shown.
@@ -308,7 +308,7 @@ printf '%s\n' '#!/bin/sh' 'mkdir "$0.once" 2> "$0.said" && printf "fail lost of 
 chmod +x "$here/bin/colours"
 echo e=off > "$here/one"
 PATH="$here/bin:$PATH" ./loop "$here/one" "$here/answers" "$here/bin/colours" > "$here/said" 2> "$here/told"
-is 'an answer is shown without its control bytes' '5 loop: told otherwise: fail lost of all, then pass\x1b[2J: e=off' "$? $(cat "$here/told")"
+is 'an answer is shown without its control bytes' '5 loop: the verdict changed from fail lost of all to pass\x1b[2J: e=off' "$? $(cat "$here/told")"
 rm "$here/answers"
 
 # Lines that no single write takes stay whole.

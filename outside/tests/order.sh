@@ -38,7 +38,7 @@ else
 fi
 new
 run none --order settled sh -c 'while :; do :; done & p=$!; echo x > a; echo y >> a; kill $p'
-is 'a thread that never rests is given up once, and told' '0 xy faults: not seen: late, the order of calls while a thread never rests: sh' \
+is 'a thread that never rests is given up once, and told' '0 xy faults: not seen: the order of calls, since a thread never rests: sh' \
     "$status $(tr -d '\n' < "$here/data/a") $faults"
 
 # A record that is lost only where a thread is overtaken between two calls. What is judged is what the program left.
@@ -85,7 +85,7 @@ new
 run none --order settled sh -c '(while [ ! -e ../slept ]; do : > a; done) & sleep 0.01; : > ../slept; wait'
 rm -f "$here/slept"
 is 'where calls never end it ends all the same, which is told' \
-    "0 faults: not seen: late, a sleep before which other calls went for two seconds: $(readlink -f "$(command -v sleep)")" "$status $faults"
+    "0 faults: not seen: the order of a sleep, since other calls went on for two seconds: $(readlink -f "$(command -v sleep)")" "$status $faults"
 
 # Random bytes.
 draws='import os, tempfile; tempfile.mkstemp(dir="."); print(hash("a"), os.urandom(4), open("/dev/urandom", "rb").read(4), id(os))'

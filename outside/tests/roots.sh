@@ -21,18 +21,18 @@ refused_root() {
 data_with_other
 mv "$here/data" "$here/data.old"
 cp -R "$here/other" "$here/data"
-refused_root 'an exchanged folder' "$here/data: not the folder that begin noted"
+refused_root 'an exchanged folder' "$here/data: this isn't the folder that powercut begin was given"
 is 'the folder itself, by its new path' '0 old=0123456789 sub/ sub/in=inside ' \
     "$(out/powercut cut "$here/run" "$here/data.old"; echo "$? $(cd "$here" && rm -r data && mv data.old data && cd "$outside" && files)")"
 data_with_other
 rm -r "$here/data"
 cp -R "$here/other" "$here/data"
-refused_root 'a folder made anew' "$here/data: not the folder that begin noted"
+refused_root 'a folder made anew' "$here/data: this isn't the folder that powercut begin was given"
 data_with_other
 mv "$here/data" "$here/data.old"
 ln -s other "$here/data"
 refused_root 'a symbolic link' "$here/data: a symbolic link, and not a folder itself"
-is 'and with a slash behind it' "2 powercut: $here/data/: not the folder that begin noted precious" \
+is 'and with a slash behind it' "2 powercut: $here/data/: this isn't the folder that powercut begin was given precious" \
     "$(out/powercut cut "$here/run" "$here/data/" > "$here/said" 2>&1; echo "$? $(cat "$here/said" "$here/other/precious" | paste -s -d ' ')")"
 rm "$here/data"
 ln -s data.old "$here/data"
@@ -60,7 +60,7 @@ fi
 # A system that doesn't tell mounts: the mask of what it told is that of everything else.
 if strace -o "$here/calls" -e inject=statx:poke_exit=@arg5=ff0f0000 true > "$here/said" 2>&1; then
     data_with_other
-    is 'a system that tells no mounts' "2 powercut: $here/data: the system doesn't tell what is mounted below: Linux does from 5.8 on" \
+    is 'a system that tells no mounts' "2 powercut: $here/data: the system can't say what is mounted below it; Linux can since 5.8" \
         "$(strace -qq -o "$here/calls" -e trace=statx -e inject=statx:poke_exit=@arg5=ff0f0000 out/powercut cut "$here/run" "$here/data" > "$here/said" 2>&1
         echo "$? $(cat "$here/said")")"
     is 'is left alone' 'a=b old=0123456789 sub/ sub/in=inside sub/mnt/ ' "$(files)"
@@ -93,7 +93,7 @@ if [ -n "$alone" ]; then
         out/powercut cut \"\$here/run\" \"\$here/data\"") $(cat "$here/other/precious")"
     is 'begin with a mount' "2 powercut: $here/data/sub/mnt: $mounted" "$(mounting 'mount --bind "$here/other" "$here/data/sub/mnt"
         out/powercut begin "$here/mounting" "$here/data"')$([ ! -e "$here/mounting" ] || echo made)"
-    is 'a mount on the folder itself' "2 powercut: $here/data: not the folder that begin noted precious" "$(mounting 'mount --bind "$here/other" "$here/data"
+    is 'a mount on the folder itself' "2 powercut: $here/data: this isn't the folder that powercut begin was given precious" "$(mounting 'mount --bind "$here/other" "$here/data"
         out/powercut cut "$here/run" "$here/data"') $(cat "$here/other/precious")"
     is 'without one it goes on' 'old=0123456789 sub/ sub/in=inside ' "$(left lasting)"
 else

@@ -69,13 +69,13 @@ is '65536 bytes' 'create 0 0' "$said $status"
 
 # The variables beside FAILPOINTS.
 bare() { (cd "$here/data" && env "$@" "$supervisor" "$component" create a) 2>&1; }
-is 'no FAULTS_ROOT' "faults: isn't set: FAULTS_ROOT" "$(bare)"
-is 'no FAULTS_RUN' "faults: isn't set: FAULTS_RUN" "$(bare FAULTS_ROOT="$here/data")"
-is 'FAULTS_RUN of no run' "faults: FAULTS_RUN isn't a run's folder: $here/data" "$(bare FAULTS_ROOT="$here/data" FAULTS_RUN="$here/data")"
+is 'no FAULTS_ROOT' "faults: FAULTS_ROOT: this variable isn't set" "$(bare)"
+is 'no FAULTS_RUN' "faults: FAULTS_RUN: this variable isn't set" "$(bare FAULTS_ROOT="$here/data")"
+is 'FAULTS_RUN of no run' "faults: FAULTS_RUN isn't a folder that powercut begin made: $here/data" "$(bare FAULTS_ROOT="$here/data" FAULTS_RUN="$here/data")"
 new
 is 'FAULTS_ROOT of nothing' "faults: FAULTS_ROOT isn't a folder: $here/none" "$(bare FAULTS_ROOT="$here/none" FAULTS_RUN="$here/run")"
 for other in "$here" "$here/data/sub"; do
-    is "FAULTS_ROOT is not the folder that is cut: $other" "faults: FAULTS_ROOT isn't the folder that begin noted: $(realpath "$other")" \
+    is "FAULTS_ROOT is not the folder that is cut: $other" "faults: FAULTS_ROOT isn't the folder that powercut begin was given: $(realpath "$other")" \
         "$(bare FAULTS_ROOT="$other" FAULTS_RUN="$here/run")"
 done
 is 'but it may have another name' 'create 0' "$(ln -s "$here/data" "$here/way" && bare FAULTS_ROOT="$here/way" FAULTS_RUN="$here/run"; rm "$here/way")"
@@ -86,9 +86,9 @@ is 'a census' 'points = ["sys::open", "sys::write", "sys::fsync", "sys::rename",
 hits = [2, 2, 2, 1, 1]' "$(./census "$here/run/trace")"
 try 'sys::write=1*off->1*return(ENOSPC)' create a write b write c
 ./census "$here/run/trace" > "$here/said" 2>&1
-is 'no census of a run with faults' '2 census: line 3 has a fault: return(ENOSPC)' "$? $(cat "$here/said")"
+is 'no census of a run with faults' "2 census: $here/run/trace line 3: a fault acts here (return(ENOSPC)); use the trace of a run without faults" "$? $(cat "$here/said")"
 printf '' > "$here/nothing"
-is 'no census of nothing' 'census: nothing was hit' "$(./census "$here/nothing" 2>&1)"
+is 'no census of nothing' "census: $here/nothing: this trace has no hits" "$(./census "$here/nothing" 2>&1)"
 printf '1\tstore::flush\t1\tgo\tx\n2\tsys::read\t1\tgo\tx\n3\tstore::flush\t2\tgo\tx\n' > "$here/mixed"
 is 'points of others come last' 'points = ["sys::read", "store::flush"]
 hits = [1, 2]' "$(./census "$here/mixed")"
@@ -119,11 +119,11 @@ for name in 'a;b' 'a=b' '2*b' '30*' '' ' a' 'a ' "$long"; do
     printf '1\tb\t1\tgo\tx\n2\t%s\t1\tgo\tx\n' "$name" > "$here/named"
     for option in '' --points --kinds --hits; do
         ./census $option "$here/named" > "$here/said" 2>&1
-        is "no census $option of '$name'" "2 census: line 2 has a point that no settings or answers can name: $name" "$? $(cat "$here/said")"
+        is "no census $option of '$name'" "2 census: $here/named line 2: neither settings nor answers can name this point: $name" "$? $(cat "$here/said")"
     done
 done
 printf '1\ta\033[2J\t1\tgo\tx\n' > "$here/named"
-is 'no control byte is shown' 'census: line 1 has a point that no settings or answers can name: a\u001B[2J' "$(./census --hits "$here/named" 2>&1)"
+is 'no control byte is shown' "census: $here/named line 1: neither settings nor answers can name this point: a\\u001B[2J" "$(./census --hits "$here/named" 2>&1)"
 
 # What is tried at the points of a trace.
 try none mkdir b create a write b write c fsync rename a sub/b folder . fsync
@@ -150,7 +150,7 @@ is 'of messages' "points = [$files, \"sys::connect\", \"sys::accept\", \"sys::se
 \"sys::recv\" = [\"return\", \"return(HALF)\", \"panic\"]" "$(FAULTS_SOCKETS=1 ./census --kinds "$here/messages")"
 is 'no table where nothing is in it' "points = [$files, \"store::flush\"]" "$(./census --kinds "$here/mixed")"
 try 'sys::write=1*off->1*return(ENOSPC)' create a write b write c
-is 'no kinds of a run with faults' 'census: line 3 has a fault: return(ENOSPC)' "$(./census --kinds "$here/run/trace" 2>&1)"
+is 'no kinds of a run with faults' "census: $here/run/trace line 3: a fault acts here (return(ENOSPC)); use the trace of a run without faults" "$(./census --kinds "$here/run/trace" 2>&1)"
 
 # The hits of a run, as an answer tells them.
 try none mkdir b create a write b write c fsync rename a sub/b folder . fsync
@@ -162,4 +162,4 @@ is 'the hits of a run with faults' '2*a;b;a' "$(./census --hits "$here/faulty")"
 is 'the hits of a run without any' '' "$(./census --hits "$here/nothing")"
 printf '1\ta\t1\tgo\tx\n3\ta\t2\tgo\tx\n' > "$here/gap"
 ./census --hits "$here/gap" > "$here/said" 2>&1
-is 'no hits of what is no trace' '2 census: line 2 is no line of a trace' "$? $(cat "$here/said")"
+is 'no hits of what is no trace' "2 census: $here/gap line 2: this is no line of a trace" "$? $(cat "$here/said")"

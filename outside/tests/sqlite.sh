@@ -21,10 +21,10 @@ if version sqlite 3.40.1 sqlite3 --version; then
     never='sys::open=2*off->return'
     shown sqlite "$never" 'pass: the 3rd sys::open (.) and each later sys::open fails'
     shown sqlite "$never;power::keep=1*return" \
-        'fail lost: the 3rd sys::open (.) and each later sys::open fails, of what is pending 1 (create db-journal) is kept'
+        'fail lost: the 3rd sys::open (.) and each later sys::open fails, pending change 1 (create db-journal) is kept'
     # Recovery under faults: a write of the roll-back fails, or SQLite dies once more; the next one rolls back again.
     shown sqlite 'sys::write=9*off->1*panic->1*off->1*return' 'pass: the 10th sys::write (db) ends the run, the 12th sys::write (db) fails' RECOVER=yes
     shown sqlite 'sys::write=9*off->1*panic->1*off->1*panic;power::keep=return' "pass: the 10th sys::write (db) ends the run, \
-of what is pending 1 (write db) and each later one is kept, the 12th sys::write (db) ends the run" RECOVER=yes
+pending change 1 (write db) and each later one is kept, the 12th sys::write (db) ends the run" RECOVER=yes
     shown sqlite 'sys::open=7*off->1*return' 'fail lost: the 8th sys::open (.) fails' RECOVER=yes
 fi

@@ -56,9 +56,9 @@ is 'a program by its descriptor' '0 open;write;fsync' "$status $(hits)"
 oddly leaves
 is 'what goes on when the command has ended' '0 open;write;fsync 0123456789late' "$status $(hits) $(cat "$here/data/old")"
 oddly rings
-is 'rings of requests' '0 faults: not seen: requests in rings, answered as by a system without them: io_uring_setup' "$status $faults"
+is 'rings of requests' '0 faults: not seen: asynchronous requests, which fail as on a system without them: io_uring_setup' "$status $faults"
 oddly short_call
-is 'calls of 32 bits' "98 faults: not followed, calls of 32 bits: $oddities" "$status $faults"
+is 'calls of 32 bits' "98 faults: can't follow a program with 32-bit calls: $oddities" "$status $faults"
 new
 run none "$here/nowhere"
 is 'a command that is not there' "98 faults: $here/nowhere: No such file or directory,faults: not seen: any call under FAULTS_ROOT of $here/nowhere" \
@@ -182,7 +182,7 @@ if [ "$(id -u)" = 0 ] && unshare -m true 2> "$here/faults"; then
         head -c 500000 /dev/zero > "$1/small/filling" 2> "$1/said"
         truncate -s -4096 "$1/small/filling" # room for one page: that of the programs, and none for the counts
         FAULTS_ROOT="$1/data" FAULTS_RUN="$1/small/run" "$3" cat old; echo $?' full "$here" "$outside/out/powercut" "$supervisor" 2>&1)
-    is 'also one that was full before' "faults: can't keep: No space left on device 98" "$(printf '%s' "$full" | paste -s -d ' ')"
+    is 'also one that was full before' "faults: can't record a change: No space left on device 98" "$(printf '%s' "$full" | paste -s -d ' ')"
 
     unshare -m sh -c 'mkdir -p "$1/upper" "$1/work" && mount -t overlay overlay -o "lowerdir=$1/data,upperdir=$1/upper,workdir=$1/work" \
         "$1/other" || { echo none; exit; }; "$2" begin "$1/over" "$1/other"; FAULTS_ROOT="$1/other" FAULTS_RUN="$1/over" "$3" ls "$1/other"; echo $?' \
@@ -190,7 +190,7 @@ if [ "$(id -u)" = 0 ] && unshare -m true 2> "$here/faults"; then
     if [ "$(tail -n 1 "$here/said")" = none ]; then
         echo 'skipped a root on an overlay: none can be had'
     else
-        is 'a root on an overlay' "faults: FAULTS_ROOT is on an overlay, whose files don't stay the same: $here/other 98" "$(paste -s -d ' ' "$here/said")"
+        is 'a root on an overlay' "faults: FAULTS_ROOT is on an overlay file system, whose files can change their identity: $here/other 98" "$(paste -s -d ' ' "$here/said")"
     fi
 
     new
@@ -225,7 +225,7 @@ if [ "$(id -u)" = 0 ] && unshare -m true 2> "$here/faults"; then
         # shellcheck disable=SC2086
         is "in a container of his: unshare $container" '0 V123456789' "$(by_user unshare $container -- in_vfork)"
     done
-    is 'who may not look into a process' 'faults: not followed, the system lets nobody look into: odd_of_all 98' \
+    is 'who may not look into a process' "faults: can't follow a process into which the system lets nobody look: odd_of_all 98" \
         "$(by_user -- closed_process | sed 's/ 98 .*/ 98/')"
     new
     cp "$oddities" "$here/set_id" && chown 65534 "$here/set_id" && chmod 4755 "$here/set_id"

@@ -16,7 +16,7 @@ is 'its hits behind those of the run' '1 sys::open 1 go old,2 sys::write 1 go ol
     "$(cut -f 1-5 "$here/run/trace" | tr '\t' ' ' | paste -s -d ,)"
 is 'of eight columns' '8 8' "$(tail -n 2 "$here/run/trace" | awk -F '\t' '{ print NF }' | paste -s -d ' ')"
 is 'a cut in turn is whole again' 'old=abcdefg789 keep 1 return' "$(kept power::keep=return)$(cut_hits)"
-is 'which never tears, and says so' "powercut: never acts: power::tear: \`keep\` doesn't ask it, \`tear\` does old=abcdefg789 keep 1 return" \
+is 'which never tears, and says so' "powercut: never acts: power::tear: the state \`keep\` has no hits of it, \`tear\` has old=abcdefg789 keep 1 return" \
     "$(kept "$all" 2>&1 | paste -s -d ' ')$(cut_hits)"
 try none open old write ab
 is 'half of two bytes' 'old=a123456789 keep 1 return,tear 1 return' "$(torn "$all")$(cut_hits)"
@@ -86,7 +86,7 @@ printf live > "$here/data/old"
 left tear 'power::keep=return;power::tear=pause' > "$here/said" 2>&1
 is 'a pause stops the run, and nothing is laid' '97 live keep 1 return,tear 1 pause' "$? $(cat "$here/data/old") $(cut_hits)"
 is 'a scenario that cannot be read' 'powercut: scenario: NoShares entry 1 term 1 2' "$( (left tear 'power::tear=50%return' 2>&1 || echo $?) | paste -s -d ' ')"
-is 'a state without one' 'powercut: tear: no such state' "$(left tear 2>&1)"
+is 'a state without one' 'powercut: tear: this state needs a SCENARIO behind it' "$(left tear 2>&1)"
 go 'power::tear=50%return' open old
 is 'nor does one run by it' '98 faults: scenario: NoShares entry 1 term 1' "$status $faults"
 

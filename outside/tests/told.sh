@@ -23,7 +23,7 @@ printf y > "$here/data/more"
 no_cut 'changes that nothing saw are refused' "powercut: changed, and nobody saw how: more, sub/in$advice"
 no_cut 'each time' "powercut: changed, and nobody saw how: more, sub/in$advice"
 is 'with nothing changed' 'more=y old=ab23456789 sub/ sub/in=insidex ' "$(files)"
-is 'no name under the root' '2 powercut: /old: a name under ROOT is wanted, as `pending` tells it' \
+is 'no name under the root' '2 powercut: /old: give a name below ROOT, as `pending` prints it' \
     "$(out/powercut expect "$here/run" /old > "$here/said" 2>&1; echo "$? $(cat "$here/said")")"
 out/powercut expect "$here/run" mor more
 no_cut 'but for those that the script names' "powercut: changed, and nobody saw how: sub/in$advice"
@@ -89,7 +89,7 @@ try 'sys::write=return' create a write b
 is 'a point without a file never acts' 'create 0,write 1 faults: never acts: sys::write' "$said $faults"
 FAULTS_POINTS=files
 try none open old
-is 'FAULTS_POINTS is file' "98 faults: FAULTS_POINTS is file or isn't set: files" "$status $faults"
+is 'FAULTS_POINTS is file' "98 faults: FAULTS_POINTS must be file or unset: files" "$status $faults"
 unset FAULTS_POINTS
 try 'sys::write@a=return' create a write b
 is 'nor one with a file where points have none' 'create 0,write 1 faults: never acts: sys::write@a' "$said $faults"

@@ -21,7 +21,7 @@ use Rattle.action_eval.proofs.Machine.{Step, step, Same}
 use Rattle.action_eval.proofs.Chains.{same_did, same_next, same_left, same_then, same_by}
 use Rattle.action_eval.proofs.Kept.{left_chain, once_at, task_from, same_left_chain, whole_chain, Agrees, agrees}
 
--- what a hit tells
+-- What a hit's meaning rests on: its point, what was done there, and how many words were drawn.
 pub record Tells : Type 0 where
   pub point : ℕ
   pub did : Task
@@ -30,7 +30,7 @@ pub record Tells : Type 0 where
 abbrev pub tells : Hit → Tells
 tells h = record { point = h.point; did = h.did; words = h.words }
 
--- ---- what a run means, by what its hits tell
+-- ---- what a run means, by these facts of its hits
 
 fold_tells : (f : Tells → ℕ) (a : ℕ) (h : List Hit) → fold (λ a x. a + f x) a (map tells h) ≡ fold (λ a x. a + f (tells x)) a h
 fold_tells f a [] = refl
@@ -88,7 +88,7 @@ meaning_told r =
     ∙ ap (λ x. made p o (map (λ (h : Hit). reply_of h.did) h) (stopped_by h) (notes_of h) x (told_words ts)) (millis_told h)
     ∙ ap (λ x. made p o (map (λ (h : Hit). reply_of h.did) h) (stopped_by h) (notes_of h) (total_millis h) x) (words_told h)
 
--- where the hits of two runs tell the same, the runs mean the same
+-- Two runs mean the same if these facts of their hits are the same.
 pub same_meaning : (q r : Run) → asked q ≡ asked r → is_over q ≡ is_over r → map tells (history_of q) ≡ map tells (history_of r) → meaning q ≡ meaning r
 same_meaning q r p o e =
     sym (meaning_told q) ∙ ap (λ l. meant l (is_over q) (map tells (history_of q))) p ∙ ap (λ b. meant (asked r) b (map tells (history_of q))) o ∙ ap (meant (asked r) (is_over r)) e ∙ meaning_told r
@@ -200,7 +200,7 @@ alike_after g s h k (p ∷ ps) a =
       chains = λ other. chains_more g s h k p a other (bytes_eq (name_of g p) other) refl;
     })
 
--- where the chains of each name do the same, the scenarios mean the same
+-- If the chains of each name do the same, the scenarios mean the same.
 pub mean_same : (s t : Entries) (catalogue : List (List ℕ)) (seed stream limit : ℕ) (hits : List ℕ) → ((name : List ℕ) → Same (word seed stream) (chain_of s name) (chain_of t name))
     → meaning_of s catalogue seed stream limit hits ≡ meaning_of t catalogue seed stream limit hits
 mean_same s t catalogue seed stream limit hits same =

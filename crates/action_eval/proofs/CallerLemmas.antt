@@ -1,4 +1,4 @@
--- For those who hit points: the answers after one more hit, and that the run goes on where the answer is no halt.
+-- For callers that hit points: the answers after one more hit, and that the run goes on if the answer is no halt.
 use Rattle.std.proofs.Common.{◌≡◌, ℕ, ◌<◌, ◌≤◌, Bool, true, false, cond, List, [], ◌∷◌, ◌++◌, length, Option, Some, None, map, refl, ap, sym, ◌∙◌, arith, length-append, nat_lt, inl, inr, subst}
 use Rattle.std.proofs.lemmas.List.{append-nil, map-append}
 use Rattle.std.proofs.lemmas.Bool.{cases_lt}
@@ -77,7 +77,7 @@ goes_on r p running =
       | inr h ↦ subst P (ap (λ b. cond b (reply_of (next r.given (history_of r) p).did) Halt) (sym (not_below r.given.limit (length r.hits) h))) tt
     ]
 
--- the same, of equal runs
+-- The same for equal runs.
 told_open : (r now : Run) (p : ℕ) (hits : List ℕ) (a : Reply) → r ≡ now → is_over now ≡ false → hits ≡ r.hits ++ p ∷ [] → a ≡ reply_to now p → replies (record { given = r.given; hits = hits }) ≡ replies now ++ a ∷ []
 told_open r now p hits a same here more said =
     ap (λ (l : List ℕ). replies (record { given = r.given; hits = l })) more ∙ ap (λ (r : Run). replies (hit r p)) same ∙ replies_open now p here ∙ ap (λ (a : Reply). replies now ++ a ∷ []) (sym said)

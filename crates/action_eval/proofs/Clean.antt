@@ -1,4 +1,4 @@
--- Where no fault acts, and every share is full, a run is the run of the empty scenario.
+-- If no fault acts and every share is full, a run is the run of the empty scenario.
 use Rattle.std.proofs.Common.{◌≡◌, ℕ, ◌+◌, ◌%◌, Bool, true, false, cond, eqb, List, [], ◌∷◌, ◌++◌, Some, refl, ap, sym, ◌∙◌, arith, nat_lt, map}
 use Rattle.std.specs.List.{AllByRecursion}
 use Rattle.std.specs.Str.{bytes_eq}

@@ -16,7 +16,7 @@ use Rattle.action_eval.proofs.Steps.{Finds, finds_none, finds_off, found_within,
 
 -- ---- the heads of points
 
--- where the chain of a point is another one
+-- The heads after the chain of one point is replaced.
 pub heads_with : (found : List (Option (List Term × ℕ))) (heads : List Head) (p : ℕ) (f : Option (List Term × ℕ)) → heads ≡ map head_of found → slice_set heads p (head_of f) ≡ map head_of (slice_set found p f)
 heads_with found heads p f e = ap (λ (l : List Head). slice_set l p (head_of f)) e ∙ sym (map-set head_of found p f)
 

@@ -55,7 +55,7 @@ used_left : (o : Option ℕ) (n : ℕ) → is_used (option_map (λ c. c - n) o) 
 used_left None n = refl
 used_left (Some c) n = zero_test c n
 
--- by equal numbers what is left is equal
+-- Equal counts leave the same of a chain.
 pub same_left_chain : (a b : ℕ → ℕ) (i : ℕ) (ts : List Term) → ((k : ℕ) → i ≤ k → b k ≡ a k) → left_chain b i ts ≡ left_chain a i ts
 same_left_chain a b i [] h = refl
 same_left_chain a b i (t ∷ ts) h = ap (λ n. left_term n t ∷ left_chain b (i + 1) ts) (h i (omega arith)) ∙ ap (λ l. left_term (a i) t ∷ l) (same_left_chain a b (i + 1) ts (λ k le. h k (omega arith)))

@@ -101,7 +101,7 @@ sizes_many [] sizes terms h = omega arith
 sizes_many (name ∷ names) [] terms h = absurd h
 sizes_many (name ∷ names) (size ∷ sizes) terms h = omega (arith, sizes_many names sizes (drop size terms) h.1)
 
--- ---- where a name's chain is found among laid ones
+-- ---- the place of a name's chain among laid ones
 
 abbrev pub moved : ℕ → Option (List Term × ℕ) → Option (List Term × ℕ)
 moved k o = option_map {U = List Term × ℕ} (λ f. (f.0, k + f.1)) o
@@ -145,7 +145,7 @@ laid_new n (name ∷ names) [] terms h = tt
 laid_new n (name ∷ names) (size ∷ sizes) terms h =
     all_both (λ e. bytes_eq e.0 n ≡ false) (entry name (take size terms)) (laid names sizes (drop size terms)) (entry_all (λ e. bytes_eq e.0 n ≡ false) name (take size terms) (λ _. h.0)) (laid_new n names sizes (drop size terms) h.1)
 
--- the chains of points, where the counts of their terms begin at k
+-- The chains of points, if the counts of their terms begin at k.
 abbrev pub all_found : ℕ → List (List ℕ) → Entries → List (Option (List Term × ℕ))
 all_found k names s = map (λ m. moved k (found_of s m)) names
 
@@ -219,7 +219,7 @@ heads_push {A} f found new heads heads' here head h e is g =
 pub counted : (left new : List ℕ) (c : List Term) → new ≡ left ++ left_row (λ _. 0) 0 c → length new ≡ length left + length c
 counted left new c e = ap length e ∙ length-append left (left_row (λ _. 0) 0 c) ∙ ap (λ n. length left + n) (length-left_row (λ _. 0) 0 c)
 
--- where a point is left, so is a size
+-- If a point is left, so is a size.
 pub many_left : (i : ℕ) (catalogue : List (Bor (List ℕ))) (sizes : List ℕ) (terms : List Term) → i < length catalogue → AreSizes (texts (drop i catalogue)) (drop i sizes) terms → i < length sizes
 many_left i catalogue sizes terms h are =
     omega (arith, sizes_many (texts (drop i catalogue)) (drop i sizes) terms are, texts_length (drop i catalogue), length-drop i catalogue, length-drop i sizes, h)
@@ -241,6 +241,6 @@ pub sizes_next : (n count size : ℕ) (rs : List Rig) (old new whole : List ℕ)
 sizes_next n count size rs old new whole h e g is =
     goes_on old new (length (chain_from n 0 rs) ∷ []) (sizes_of (n + 1) (count - (n + 1)) rs) whole (ap (λ l. old ++ l) (sym (sizes_more n count rs h)) ∙ e) (g ∙ ap (λ k. old ++ k ∷ []) is)
 
--- the entries that are laid, of one point more
+-- The entries that are laid, with one more point.
 pub laid_next : (names rest : List (List ℕ)) (n : List ℕ) (sizes more : List ℕ) (size : ℕ) (terms : List Term) → names ≡ n ∷ rest → sizes ≡ size ∷ more → laid names sizes terms ≡ entry n (take size terms) ++ laid rest more (drop size terms)
 laid_next names rest n sizes more size terms e f = ap (λ (l : List (List ℕ)). laid l sizes terms) e ∙ ap (λ (s : List ℕ). laid (n ∷ rest) s terms) f

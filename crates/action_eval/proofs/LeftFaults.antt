@@ -1,4 +1,4 @@
--- Of the faults of a scenario, tidying leaves those whose terms it leaves, and the others never act.
+-- Tidying leaves those faults of a scenario whose terms it leaves, and the others never act.
 use Rattle.std.proofs.Common.{◌≡◌, ℕ, zero, suc, ◌+◌, ◌-◌, ◌<◌, ◌≤◌, List, [], ◌∷◌, ◌++◌, Bool, true, false, cond, not, eqb, ◌&&◌, ◌||◌, length, Option, Some, None, refl, ap, sym, ◌∙◌, arith, ◌⊎◌, inl, inr}
 use Rattle.std.specs.Prelude.{slice_get}
 use Rattle.std.specs.List.{AllByRecursion}
@@ -37,7 +37,7 @@ holds_append : (xs ys : List ℕ) (k : ℕ) → holds (xs ++ ys) k ≡ (holds xs
 holds_append [] ys k = refl
 holds_append (x ∷ xs) ys k = ap (λ b. eqb x k || b) (holds_append xs ys k) ∙ sym (or_assoc (eqb x k) (holds xs k) (holds ys k))
 
--- the numbers of a chain, where its first term has count 0, acts at each hit, or is off
+-- The numbers of a chain whose first term has count 0, acts at each hit, or is off.
 abbrev led : Bool → Bool → Bool → ℕ → (ℕ → List ℕ) → List ℕ
 led used endless off n more = cond used (more (cond off n (n + 1))) (cond off [] (n ∷ []) ++ cond endless [] (more (cond off n (n + 1))))
 
@@ -75,7 +75,7 @@ all_low k n (e ∷ es) l =
 
 -- ---- a chain
 
--- a fault of a chain, from term j on: its number is among these just where its term is left
+-- A fault of a chain, from term j on: its number is among these exactly if its term is left.
 record Told (e j : ℕ) (ts : List Term) (numbers : List ℕ) (k : ℕ) (p : Place) : Type 0 where
   pub entry : p.entry ≡ e
   pub term : j ≤ p.term

@@ -20,7 +20,7 @@ passed t s = record { did = s.did; next = s.next; left = t ∷ s.left }
 abbrev pub acts : Term → List Term → ℕ → Step
 acts t ts n = record { did = t.task; next = n; left = spent_once t ∷ ts }
 
--- a hit of a chain, where n is the number of the next word
+-- A hit of a chain, if n is the number of the next word.
 abbrev pub step : (ℕ → ℕ) → List Term → ℕ → Step
 step word [] n = record { did = Off; next = n; left = [] }
 step word (t ∷ ts) n =
@@ -29,7 +29,7 @@ step word (t ∷ ts) n =
     else if nat_lt (word n % 1000000) t.share then acts t ts (n + 1)
     else passed t (step word ts (n + 1))
 
--- what hits of a chain do, where the next words have these numbers
+-- What hits of a chain do, if the next words have these numbers.
 abbrev pub done : (ℕ → ℕ) → List Term → List ℕ → List (Task × ℕ)
 done word c [] = []
 done word c (n ∷ ns) = ((step word c n).did, (step word c n).next) ∷ done word (step word c n).left ns

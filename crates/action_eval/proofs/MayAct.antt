@@ -1,4 +1,4 @@
--- Where a point's hits come to nothing no more, something may come of the next one.
+-- If no more of a point's hits come to nothing, the next one may act.
 use Rattle.std.proofs.Common.{◌≡◌, ℕ, zero, suc, ◌+◌, ◌-◌, ◌*◌, ◌<◌, ◌≤◌, ◌&&◌, cond, not, eqb, leb, Bool, true, false, List, [], ◌∷◌, ◌++◌, length, map, take, slice_index, get_or, Option, Some, None, is_some, refl, ap, sym, ◌∙◌, arith, subst, zero-add, add-zero, length-append}
 use Rattle.std.specs.Option.{option_map_or}
 use Rattle.std.proofs.Math.Seq.{get_or-append_seam}
@@ -139,7 +139,7 @@ may_act r now points left taken notes millis halt k same p h few heads e read is
     (may_act_at r points left taken notes millis halt k (subst (λ (x : Run). length x.hits < 4294967295) (sym same) few) p o (point_found r now points left taken notes millis halt k same p h None o refl)
     (ap (quiet_of left) (at ∙ ap (λ (l : List Head). head_at l p) (sym is)) ∙ quiet))
 
--- where as many hits of a point came to nothing as can, none more does
+-- If as many hits of a point came to nothing as can, none more does.
 pub none_more : (heads : List Head) (p n : ℕ) (before after : List ℕ) → Spent heads (p ∷ []) n before after → n ≡ quiet_of before (head_at heads p) → n < 4294967295 → quiet_of after (head_at heads p) ≡ 0
 none_more heads p n before after s is few = by_head (head_at heads p) s.each is
   where

@@ -1,4 +1,4 @@
--- Counts by entry keep what the history says by name, where names are distinct.
+-- Counts by entry keep what the history says by name, if names are distinct.
 use Rattle.std.proofs.Common.{◌≡◌, ℕ, zero, suc, ◌+◌, ◌-◌, ◌≤◌, ◌<◌, Bool, true, false, cond, eqb, List, [], ◌∷◌, ◌++◌, length, ◌&&◌, slice_index, slice_set, take, drop, length-append, Option, Some, None, option_map, refl, ap, sym, ◌∙◌, arith, add-zero, zero-add, subst, leb}
 use Rattle.std.specs.Option.{option_map_or}
 use Rattle.std.specs.List.{AllByRecursion}
@@ -139,7 +139,7 @@ trial_by_counts g h left name e left_is at =
     same_trial w mine (acted h name) 0 c (words_of h) (λ k. ap (slice_index mine) (zero-add k) ∙ ap (λ r. slice_index r k) row)
     ∙ ap (λ c. tried w (λ i t. option_map_or (λ count. leb count (acted h name i)) t.count false) 0 c (words_of h)) f.chain
 
--- ---- one is taken off where a term acted
+-- ---- one is taken off if a term acted
 
 other_name : (name other : List ℕ) (i k : ℕ) → bytes_eq name other ≡ false → once (is_term other k (Some (name, i))) ≡ 0
 other_name name other i k e = ap (λ b. once (b && eqb i k)) e
@@ -210,16 +210,16 @@ pub counts_spent : (h : List Hit) (x : Hit) (name : List ℕ) (i : ℕ) (s : Ent
 counts_spent h x name i [] e t d m few = absurd (cc)
 counts_spent h x name i (y ∷ ys) e t d m few = spent_case h x name i y ys e t d.0 (λ k g j. counts_spent h x name i ys k t d.1 g j) (entry_of ys name) refl (bytes_eq name y.0) refl m few
 
--- where no term acts the counts stay
+-- If no term acts, the counts stay.
 pub counts_stay : (h : List Hit) (x : Hit) (s : Entries) → x.term ≡ None → left_counts (h ++ x ∷ []) s ≡ left_counts h s
 counts_stay h x [] t = refl
 counts_stay h x (y ∷ ys) t =
     ap (λ r. r ++ left_counts (h ++ x ∷ []) ys) (same_row (acted h y.0) (acted (h ++ x ∷ []) y.0) 0 y.1 (λ k le. acted_by h x _ t y.0 k ∙ add-zero (acted h y.0 k)))
     ∙ ap (λ l. left_row (acted h y.0) 0 y.1 ++ l) (counts_stay h x ys t)
 
--- ---- where the chain of a point stands
+-- ---- the place of a point's chain
 
--- the entry of a name, by where its chain was found
+-- The entry of a name, by the place at which its chain was found.
 pub record Stands (s : Entries) (name : List ℕ) (f : List Term × ℕ) : Type 0 where
   pub number : ℕ
   pub entry : entry_of s name ≡ Some number

@@ -235,7 +235,7 @@ within_limit r running = elim (cases_lt r.given.limit (length r.hits)) [ inl h �
     over true e s n = cc
     over false e s n = cc
 
--- the fields of a session after these rounds of hits, and what callers are told of them
+-- The fields of a session after these rounds of hits, and what the session returns to callers about them.
 pub record After (r now : Run) (found : List (Option (List Term × ℕ))) (left : List ℕ) (taken : ℕ) (notes : List Note) (millis : ℕ) (halt : Option Stop) (hits ps : List ℕ) : Type 0 where
   pub keeps : Keeps (record { given = r.given; hits = hits }) found left taken notes millis halt
   pub ok : (let x : Run = record { given = r.given; hits = hits } in x) ≡ hits_of now ps

@@ -82,7 +82,7 @@ trial_parts word left before chain start n h =
     let from : 0 + k ≡ k + 0 = omega arith in
     passed word (is_spent row) 0 before chain n spent ∙ ap (λ (i : ℕ). tried word (is_spent row) i chain n) from ∙ tried_further word (is_spent row) (is_spent there) k 0 chain n same
 
--- the rest is tried as the whole is, but for the places
+-- The rest is tried as the whole is, except for the places.
 pub trial_of_rest : (word : ℕ → ℕ) (left : List ℕ) (whole rest : List Term × ℕ) (r : Rest left whole rest) (n : ℕ)
     → tried word (is_spent (slice_range left whole.1 (whole.1 + length whole.0))) 0 whole.0 n ≡ moved (length r.before) (tried word (is_spent (slice_range left rest.1 (rest.1 + length rest.0))) 0 rest.0 n)
 trial_of_rest word left whole rest r n =

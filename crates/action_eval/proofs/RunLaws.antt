@@ -31,7 +31,7 @@ tidied_means s d = record {
       mean_same (tidied s) s catalogue seed stream limit hits (λ name. same_then w _ _ _ (same_by w _ _ (tidied_of s name d)) (tidied_same w (chain_of s name)));
 }
 
--- where a set holds the faults of the scenario whose numbers in the tidied one another set holds
+-- Keeping a set of a scenario's faults, and keeping the same faults of the tidied scenario by their numbers there, mean the same.
 pub kept_means : (s : Entries) (set own : List ℕ) → DistinctNames s → SameFaults set own 0 (origins s) → MeansTheSame (kept set s) (kept own (tidied s))
 kept_means s set own d f = record {
   at = λ catalogue seed stream limit hits.

@@ -1,4 +1,4 @@
--- Where chains stand among the terms of all entries.
+-- The places of chains among the terms of all entries.
 use Rattle.std.proofs.Common.{◌≡◌, ℕ, zero, suc, ◌+◌, ◌-◌, ◌*◌, ◌<◌, ◌≤◌, Bool, true, false, cond, eqb, not, List, [], ◌∷◌, ◌++◌, length, map, take, drop, get_or, slice_set, slice_range, Option, Some, None, IfSome, option_map, refl, ap, sym, subst, ◌∙◌, arith, append_assoc, length-append}
 use mir.Val.{bool_byte}
 use Rattle.std.proofs.Math.ListN.{get_or-map}
@@ -51,7 +51,7 @@ span_within s p is = omega (arith, is.ends, ends_by s p.entry is.within)
 
 -- ---- parts of a list
 
--- a part of a part that ends where that does
+-- A part of a part that ends at the same place.
 part_of : (xs : List Term) (a k b : ℕ) → a + k ≤ b → drop k (slice_range xs a b) ≡ slice_range xs (a + k) b
 part_of xs a k b h =
     let size : b - a ≡ k + (b - (a + k)) = omega arith in
@@ -144,7 +144,7 @@ pub spans_push : (s : Entries) (spans : List (Option Span)) (o : Option Span) �
 spans_push s [] o are is = (is, tt)
 spans_push s (x ∷ xs) o are is = (are.0, spans_push s xs o are.1 is)
 
--- the chain of a point, and that of a point where another span is set
+-- The chain of a point, and the chains after the span of one point is replaced.
 pub seen_at : (s : Entries) (spans : List (Option Span)) (p : ℕ) (d o : Option Span) → o ≡ get_or spans p d → seen_in s o ≡ get_or (map (seen_in s) spans) p (seen_in s d)
 seen_at s spans p d o e = ap (seen_in s) e ∙ sym (get_or-map (seen_in s) spans p d)
 
@@ -198,7 +198,7 @@ abbrev pub entries_of : List Term → ℕ
 entries_of [] = 0
 entries_of (t ∷ ts) = 1
 
--- that is one where it has a term
+-- That is one if the chain has a term.
 pub entries_is : (c : List Term) (b : Bool) (n : ℕ) → b ≡ eqb (length c) 0 → n ≡ bool_byte (not b) → n ≡ entries_of c
 entries_is [] b n e h = h ∙ ap (λ (x : Bool). bool_byte (not x)) e
 entries_is (t ∷ ts) b n e h = let some : eqb (length (t ∷ ts)) 0 ≡ false = grind (arith, nat_tests) in h ∙ ap (λ (x : Bool). bool_byte (not x)) (e ∙ some)

@@ -164,7 +164,7 @@ keeps_hit r p found left taken notes millis halt k room left' did taken' f small
       few_millis = omega (arith, millis_after, k.millis_are, k.few_millis, small, longer);
     }
 
--- the same run, of equal fields
+-- The same run, if its fields are equal.
 pub keeps_same : (scenario : Entries) (catalogue : List (List ℕ)) (limit : ℕ) (found : List (Option (List Term × ℕ))) (hits hits' : List ℕ) (left left' : List ℕ) (drawn drawn' : Drawn) (notes notes' : List Note) (millis millis' : ℕ) (halt halt' : Option Stop)
     → hits ≡ hits' → left ≡ left' → drawn ≡ drawn' → notes ≡ notes' → millis ≡ millis' → halt ≡ halt'
     → Keeps (record { given = given_of scenario catalogue drawn.seed drawn.stream limit; hits = hits }) found left drawn.taken notes millis halt
@@ -232,7 +232,7 @@ pub point_some : (r now : Run) (found : List (Option (List Term × ℕ))) (left 
 point_some r now found left taken notes millis halt k same p h d o e f is =
     subst (λ (x : Option (List Term × ℕ)). IsRest left (found_of r.given.scenario (name_of r.given p)) x) is (point_found r now found left taken notes millis halt k same p h d o e)
 
--- the rests, where that of a point is another one
+-- The rests after that of one point was replaced.
 rests_after : (r now : Run) (found : List (Option (List Term × ℕ))) (left : List ℕ) (taken : ℕ) (notes : List Note) (millis : ℕ) (halt : Option Stop) → Keeps r found left taken notes millis halt
     → r ≡ now → (p : ℕ) → p < length now.given.catalogue → (f : Option (List Term × ℕ)) → IsRest left (found_of r.given.scenario (name_of r.given p)) f
     → AreRests left (map (found_of r.given.scenario) r.given.catalogue) (slice_set found p f)
@@ -241,7 +241,7 @@ rests_after r now found left taken notes millis halt k same p h f at =
     rests_set left (map (found_of s) r.given.catalogue) found p None f k.found_is
     (subst (λ (o : Option (List Term × ℕ)). IsRest left o f) (sym (entry_at s r.given.catalogue p None (known_by r now p same h))) at)
 
--- the fields after a hit of a point, where terms that are spent then are left out of what is left of its chain
+-- The fields after a hit of a point, if terms that are spent by then are left out of what is left of its chain.
 pub keeps_rest : (r : Run) (p : ℕ) (found : List (Option (List Term × ℕ))) (left : List ℕ) (taken : ℕ) (notes : List Note) (millis : ℕ) (halt : Option Stop) → Keeps r found left taken notes millis halt
     → p < length r.given.catalogue → (f g : List Term × ℕ) → IsRest left (found_of r.given.scenario (name_of r.given p)) (Some f) → (read : List ℕ) → read ≡ left → Rest read f g
     → Keeps r (slice_set found p (Some g)) left taken notes millis halt
@@ -300,7 +300,7 @@ keeps_idle r p found left taken notes millis halt k room at hits more =
     keeps_same r.given.scenario r.given.catalogue r.given.limit found _ hits left left (record { seed = r.given.seed; stream = r.given.stream; taken = taken }) (record { seed = r.given.seed; stream = r.given.stream; taken = taken })
     _ notes _ millis halt halt (sym more) refl refl (append-nil notes) (add-zero millis) refl kept
 
--- a hit of a point with one, where these counts were read
+-- A hit of a point with a chain, if these counts were read.
 pub finds_some : (r : Run) (p : ℕ) (found : List (Option (List Term × ℕ))) (left : List ℕ) (drawn : Drawn) (notes : List Note) (millis : ℕ) (halt : Option Stop) → Keeps r found left drawn.taken notes millis halt
     → drawn.seed ≡ r.given.seed → drawn.stream ≡ r.given.stream → (read : List ℕ) → read ≡ left
     → (chain : List Term) (start : ℕ) → IsRest left (found_of r.given.scenario (name_of r.given p)) (Some (chain, start)) → (place : Option ℕ) (did : Task) (drawn' : Drawn)
@@ -318,7 +318,7 @@ finds_some r p found left drawn notes millis halt k seed stream read read_is cha
     in
     finds_rest r p left k.scenario k.left_is chain start at place did drawn'.taken (place_is ∙ ap (λ (t : Trial). t.place) same) (ap (λ (d : Drawn). d.taken) drawn_is ∙ ap (λ (t : Trial). t.next) same) within did_is
 
--- a hit of a point with one that comes to nothing, where these counts were read
+-- A hit of a point with a chain that comes to nothing, if these counts were read.
 pub finds_off : (r : Run) (p : ℕ) (found : List (Option (List Term × ℕ))) (left : List ℕ) (taken : ℕ) (notes : List Note) (millis : ℕ) (halt : Option Stop) → Keeps r found left taken notes millis halt
     → (read : List ℕ) → read ≡ left → (chain : List Term) (start : ℕ) → IsRest left (found_of r.given.scenario (name_of r.given p)) (Some (chain, start)) → StartsUnspent (is_spent read) start chain → (place : Option ℕ)
     → ((word : ℕ → ℕ) (spent : ℕ → Term → Bool) (n : ℕ) → StartsUnspent spent 0 chain → tried word spent 0 chain n ≡ record { place = place; next = n })

@@ -4,13 +4,13 @@ use Rattle.std.specs.List.{AllByRecursion}
 use Rattle.std.specs.Str.{bytes_eq}
 use Rattle.scenario_values.specs.Scenario.{is_name}
 
--- no name is one of those before it
+-- No name occurs twice.
 abbrev pub HasDistinct : List (List ℕ) → Type 0
 HasDistinct [] = Unit {0}
 HasDistinct (name ∷ names) = AllByRecursion (λ other. bytes_eq other name ≡ false) names × HasDistinct names
 
--- 1 to 64 distinct names of at most 200 bytes, each of which may stand in a scenario: so a plan of faults at any of the points is a
--- scenario, and its text is short
+-- There are 1 to 64 distinct names of at most 200 bytes, each of which may stand in a scenario. So a plan of faults
+-- at any of the points is a scenario, and its text is short.
 pub record IsCatalogue (names : List (List ℕ)) : Type 0 where
   pub some : 0 < length names
   pub few : length names ≤ 64

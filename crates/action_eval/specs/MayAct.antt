@@ -1,15 +1,15 @@
--- Where something may come of a hit of a point.
+-- Points at which the next hit may have an effect.
 use Rattle.std.specs.Prelude.{◌≡◌, ℕ, ◌<◌, ◌==◌, ◌&&◌, not, Bool, true, false, length, slice_index_or}
 use Rattle.scenario_values.specs.declared.term.Term.{Term}
 use Rattle.scenario_values.specs.Scenario.{chain_of, is_off}
 use Rattle.action_eval.specs.Answers.{Run, acted, history_of, is_used_up, name_of}
 
--- nothing comes of a hit that reaches the term: it is an `off` that acts at each hit, and isn't used up
+-- A hit that reaches this term has no effect: the term is an `off` of full share that isn't used up.
 abbrev pub is_quiet : (ℕ → ℕ) → ℕ → Term → Bool
 is_quiet times i t = (is_off t.task && (t.share == 1000000)) && not (is_used_up times i t)
 
--- the point has a chain, in which a term stands behind terms that are used up, and of a hit that reaches it something may come; or it is an
--- `off` that is used up too, and the hit goes on to the next term
+-- The point's chain has a term that isn't quiet, and all terms before it are used up. So a hit reaches this term, and either it may act, or it is an
+-- `off` that is used up too, and the hit goes on to the next term.
 pub record MayAct (r : Run) (p : ℕ) : Type 0 where
   pub place : ℕ
   pub within : place < length (chain_of r.given.scenario (name_of r.given p))

@@ -2,13 +2,13 @@
 use Rattle.std.specs.Prelude.{ℕ, ◌+◌, ◌%◌, ◌==◌, nat_lt, if◌then◌else◌, Bool, List, [], ◌∷◌, Option, Some, None, is_some, slice_index, ◌&&◌}
 use Rattle.scenario_values.specs.declared.term.Term.{Term}
 
--- the place of the term that acts, if one does, and the number of the next word
+-- The place of the term that acts, if one does, and the number of the next random word.
 pub record Trial : Type 0 where
   pub place : Option ℕ
   pub next : ℕ
 
--- The terms from place i on are tried in order, where n is the number of the next word. A term that is spent is passed over, and takes
--- no word. One of full share acts. Another takes the next word, and acts where that is below its share, modulo a million.
+-- Tries the terms in order, from place i on. The number of the next random word is n. A spent term is skipped and takes no word. A term of full share
+-- acts. Any other term takes the next word, and acts if the word modulo a million is below its share.
 abbrev pub tried : (ℕ → ℕ) → (ℕ → Term → Bool) → ℕ → List Term → ℕ → Trial
 tried word spent i [] n = record { place = None; next = n }
 tried word spent i (t ∷ ts) n =
@@ -17,6 +17,6 @@ tried word spent i (t ∷ ts) n =
     else if nat_lt (word n % 1000000) t.share then record { place = Some i; next = n + 1 }
     else tried word spent (i + 1) ts (n + 1)
 
--- whether a term is spent, by what is left of each count
+-- Whether a term is spent, by what is left of each count.
 abbrev pub is_spent : List ℕ → ℕ → Term → Bool
 is_spent left i t = is_some t.count && (slice_index left i == 0)

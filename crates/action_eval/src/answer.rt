@@ -1,4 +1,4 @@
-//! What hits are answered, and what the tasks of terms do.
+//! How hits are answered, and what the tasks of terms do.
 ghost use Rattle.std.specs.Prelude.{◌≡◌, ◌++◌, OnOk, OnErr};
 ghost use Rattle.scenario_values.specs.declared.term.Task.TheVariants as task;
 ghost use Rattle.action_eval.specs.Answers.{did, reply_of, reply_of_answer, millis_of, stop_of, notes_of_task};
@@ -6,12 +6,12 @@ ghost use Rattle.action_eval.specs.Answers.{did, reply_of, reply_of_answer, mill
 use scenario_values::{Task, Text};
 use std::alloc::AllocError;
 
-/// What a hit is answered.
+/// The answer to a hit.
 #[derive(Clone, Copy, Debug)]
 pub enum Answer<'a> {
     /// The operation goes on.
     Go,
-    /// The operation fails, with the term's argument where it has one.
+    /// The operation fails, with the term's argument if it has one.
     Return(Option<&'a str>),
     /// The component stops here.
     Halt,
@@ -33,23 +33,23 @@ pub enum Stop {
 pub struct Note {
     /// The number of the point in the catalogue.
     pub point: u32,
-    /// The term's argument, where it has one.
+    /// The term's argument, if it has one.
     pub text: Option<Text>,
 }
 
-/// What a hit comes to where a task acts.
+/// What a task does to the hit at which it acts.
 #[derive(Clone, Copy, Debug)]
 pub struct Effect<'a> {
-    /// What the hit is answered.
+    /// How the hit is answered.
     pub answer: Answer<'a>,
-    /// What it stops, if anything.
+    /// Why the run stops, if it does.
     pub stop: Option<Stop>,
-    /// How many simulated milliseconds it takes.
+    /// How many simulated milliseconds the hit takes.
     pub millis: u32,
 }
 
-/// What a task does where it acts; without one, nothing.
-// One look at the task tells all three.
+/// What a task does to the hit at which it acts. Without a task that is nothing.
+// All three are found by one look at the task.
 pub fn effect_of(task: Option<&Task>) -> Effect<'_>
     ensures answer { reply_of_answer result.answer ≡ reply_of (did task.entry) }
     ensures stop { result.stop ≡ stop_of (did task.entry) }
@@ -71,7 +71,7 @@ pub fn effect_of(task: Option<&Task>) -> Effect<'_>
 }
 
 /// Adds the note of a `print`.
-// Few tasks print. That this is a call keeps what a copy of a text needs out of the way of all others.
+// Few tasks print. It is a call, so that the other tasks don't pay for what a copy of a text needs.
 #[cold]
 #[inline(never)]
 fn push_print(notes: &mut Vec<Note>, point: u32, text: &Option<Text>) -> Result<(), AllocError>

@@ -1,4 +1,4 @@
-//! The arguments of faults that are rigged.
+//! The arguments of rigged faults.
 ghost use Rattle.std.specs.Prelude.{◌≡◌, ◌≤◌, ◌↔◌, true, None, length, option_map, IfSome, IsSome};
 ghost use Rattle.scenario_values.specs.Scenario.{is_argument};
 ghost use Rattle.action_eval.specs.RiggedScenario.{is_same_text, most_text};
@@ -6,11 +6,11 @@ ghost use Rattle.action_eval.specs.RiggedScenario.{is_same_text, most_text};
 use std::marker::Model;
 use std::str;
 
-/// How many bytes a text has at most.
+/// The most bytes that a text has.
 const MOST_TEXT: usize = 32;
 
-/// With which text a rigged hit fails, if with one. A text is a lawful argument of at most 32 bytes, which lie in the value itself, so that faults
-/// are plain values. Contracts see the text's bytes, or that there is none.
+/// The text with which a rigged hit fails, or none. A text is a lawful argument of at most 32 bytes. They lie in the value itself, so that faults are
+/// plain values. Contracts see the text's bytes, or that there is none.
 #[derive(Clone, Copy, Debug)]
 pub struct Argument {
     is_some: bool,
@@ -54,7 +54,7 @@ impl Argument {
         }
     }
 
-    /// This text, which is a lawful argument; `None` where it has more than 32 bytes.
+    /// This text, which has to be a lawful argument; `None` if it has more than 32 bytes.
     pub fn of(text: &str) -> Option<Self>
         requires { is_argument text.now ≡ true }
         ensures fits { IsSome result ↔ (length text.now ≤ most_text) }
@@ -88,7 +88,7 @@ impl Argument {
 }
 
 impl Argument {
-    /// Whether the text may stand in a scenario, if there is one. It may.
+    /// Whether the text, if there is one, may stand in a scenario. It always may.
     pub(crate) fn is_lawful(&self) -> bool
         ensures { IfSome self.now (λ text. (is_argument text ≡ true) × (length text ≤ most_text)) }
     {

@@ -8,7 +8,8 @@ use crate::found::start_of;
 use scenario_values::{Scenario, Term};
 use std::alloc::AllocError;
 
-/// Adds the counts of a chain, for which there is room; a term without one has more than a session answers hits.
+/// Adds the counts of a chain, for which there has to be room. A term without a count gets one that is greater than the number of hits that a session
+/// answers.
 pub fn push_counts(left: &mut Vec<u32>, terms: &[Term])
     requires { vec_len left.old + length terms.now ≤ vec_capacity left.old }
     ensures counts { left.new.items ≡ left.old.items ++ left_row (λ _. 0) 0 terms.now }
@@ -20,7 +21,7 @@ pub fn push_counts(left: &mut Vec<u32>, terms: &[Term])
     }
 }
 
-/// The counts of all chains, in place of those that stood there. Want of memory leaves these.
+/// Puts the counts of all chains in place of those that stood there. If memory is refused, the old counts stay.
 pub fn fill_counts(left: &mut Vec<u32>, scenario: &Scenario) -> Result<(), AllocError>
     ensures counts { OnOk result (left.new.items ≡ left_counts [] scenario.now) }
     ensures limits { IsScenario scenario.now }
@@ -36,7 +37,7 @@ pub fn fill_counts(left: &mut Vec<u32>, scenario: &Scenario) -> Result<(), Alloc
     Ok(())
 }
 
-/// Takes one off what is left of the term at a place of a chain whose counts begin at `start`, if anything is.
+/// Takes one off the count of the term at this place of a chain whose counts begin at `start`, unless nothing is left of it.
 pub fn spend(left: &mut Vec<u32>, start: usize, place: Option<usize>)
     requires { ForSome place (λ i. start + i < length left.old.items) }
     ensures { left.new.items ≡ left_after left.old.items start place }

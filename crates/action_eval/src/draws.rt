@@ -8,7 +8,7 @@ use rand_core::utils::NextWord;
 use std::alloc::Global;
 use std::marker::Model;
 
-/// A seed of eight bytes, low byte first, and then zeros.
+/// The seed as a generator takes it: its eight bytes, low byte first, and then zeros.
 fn seed_bytes(seed: u64) -> [u8; 32]
     ensures { result ≡ seed_bytes seed }
 {
@@ -17,7 +17,7 @@ fn seed_bytes(seed: u64) -> [u8; 32]
     bytes
 }
 
-/// The generator of a run, which gives the word of this number next.
+/// A run's generator, which gives the word with this number next.
 #[tactic(auto, unfolding(crate::specs::Words::at_word))]
 #[inline(never)]
 fn generator_at(seed: u64, stream: u64, number: u64) -> ChaCha8Rng
@@ -29,10 +29,10 @@ fn generator_at(seed: u64, stream: u64, number: u64) -> ChaCha8Rng
     generator
 }
 
-/// How many words a generator is made to pass over. Where they are more, a new one costs less.
+/// The most words that a generator is made to pass over: for more, a new generator costs less.
 const FEW_WORDS: u64 = 64;
 
-/// Passes over so many words.
+/// Passes over this many words.
 fn pass_over(generator: &mut ChaCha8Rng, words: u64)
     requires { generator.old.word_pos + words < 2 ^ 68 }
     ensures { generator.new ≡ record generator.old { word_pos = generator.old.word_pos + words } }
@@ -42,15 +42,15 @@ fn pass_over(generator: &mut ChaCha8Rng, words: u64)
     }
 }
 
-/// The words of a run. Most runs look at none, so the generator is made for the first one that is looked at, and stands in memory of its own: it
-/// is larger than all else that a session has.
+/// The random words of a run. Most runs look at none, so the generator is made for the first word that is looked at. It has memory of its own,
+/// because it is larger than everything else in a session.
 #[derive(Drop)]
 pub struct Draws {
     alloc: Global,
     seed: u64,
     stream: u64,
     taken: u64,
-    /// The number of the word that the generator gives next. It lags behind: words that nobody looks at aren't made.
+    /// The number of the word that the generator gives next. It may lag behind, because words at which nobody looks aren't made.
     at: u64,
     generator: Option<Box<ChaCha8Rng>>,
 }
@@ -72,6 +72,7 @@ impl Model for Draws {
 }
 
 impl Draws {
+    /// The words of this seed and stream, none of which is taken.
     pub fn new(alloc: Global, seed: u64, stream: u64) -> Self
         ensures { result ≡ record { seed = seed; stream = stream; taken = 0 } }
     {
@@ -92,7 +93,7 @@ impl Draws {
         self.taken
     }
 
-    /// Takes so many words, at which nobody looks.
+    /// Takes this many words, at which nobody looks.
     pub fn skip(&mut self, words: u64)
         requires { self.old.taken + words < 2 ^ 64 }
         ensures { self.new ≡ record self.old { taken = self.old.taken + words } }
@@ -100,7 +101,8 @@ impl Draws {
         self.taken += words;
     }
 
-    /// Takes the next word. Where memory for the generator is refused, it isn't kept: the next word has one of its own, which gives the same.
+    /// Takes the next word. If memory for the generator is refused, the generator isn't kept: the next word makes one of its own, which gives the
+    /// same.
     #[tactic(auto, unfolding(crate::specs::Words::at_word, crate::specs::Words::word))]
     #[inline(never)]
     pub fn take(&mut self) -> u32
@@ -128,7 +130,7 @@ impl Draws {
         word
     }
 
-    /// Gives back the words from this number on: the next word is the one of this number.
+    /// Gives back the words from this number on, so that the next word has this number.
     pub fn go_back(&mut self, taken: u64)
         ensures { self.new ≡ record self.old { taken = taken } }
     {

@@ -18,7 +18,7 @@ use scenario_values::{Task, Term, Text};
 use std::alloc::{AllocError, Global};
 use std::marker::Model;
 
-/// How many hits the term of a rigged hit answers; without a count, each from then on.
+/// How many hits the term of a rigged hit answers; `None` is each hit from then on.
 fn count_of(kind: &Kind) -> Option<u32>
     ensures { result ≡ (term_of kind.now).count }
 {
@@ -44,7 +44,7 @@ fn plain_term(kind: &Kind) -> Term
     }
 }
 
-/// Adds the term of a return with a text, for which there is room.
+/// Adds the term of a return with a text. There has to be room for it.
 // Few rigged hits have a text: the others are added without a place for one.
 #[cold]
 #[inline(never)]
@@ -61,8 +61,8 @@ fn push_return(terms: &mut Vec<Term>, count: Option<u32>, text: &str) -> Result<
     Ok(())
 }
 
-/// Adds the terms of a rigged hit of this number and kind, after some hits of its point.
-// Most rigged hits that are walked are of other points; those are passed over within the loop.
+/// Adds the terms of a rigged hit with this number and kind, after `done` hits of its point.
+// Most rigged hits that a walk comes to are of other points; the loop passes over those.
 #[inline(never)]
 fn push_rigged(terms: &mut Vec<Term>, done: u32, hit: u32, kind: &Kind) -> Result<(), AllocError>
     ensures { OnOk result (terms.new.items ≡ terms.old.items ++ offs (hit - done - 1) ++ term_of kind.now ∷ []) }
@@ -83,7 +83,7 @@ fn push_rigged(terms: &mut Vec<Term>, done: u32, hit: u32, kind: &Kind) -> Resul
     Ok(())
 }
 
-/// Adds what a rigged hit adds to the chain of a point, and gives the hits of the point after it.
+/// Adds what a rigged hit contributes to the chain of a point, and returns how many hits of the point the chain answers then.
 #[inline(always)]
 fn push_at(terms: &mut Vec<Term>, point: u32, done: u32, rig: &Rig) -> Result<u32, AllocError>
     ensures terms { OnOk result (terms.new.items ≡ terms.old.items ++ terms_at point done rig.now) }
@@ -96,9 +96,9 @@ fn push_at(terms: &mut Vec<Term>, point: u32, done: u32, rig: &Rig) -> Result<u3
     Ok(rig.site.hit)
 }
 
-/// Adds the chain of the point of this number, for rigged hits that ascend.
+/// Adds the chain of the point with this number, for rigged hits in ascending order.
 ///
-/// An error means that memory was refused. A part of the chain may have been added then.
+/// An error means that memory was refused. Then a part of the chain may have been added.
 #[inline(always)]
 pub fn push_chain(terms: &mut Vec<Term>, point: u32, rigs: &[Rig]) -> Result<(), AllocError>
     ensures { OnOk result (terms.new.items ≡ terms.old.items ++ chain_from point 0 rigs.now) }
@@ -110,7 +110,7 @@ pub fn push_chain(terms: &mut Vec<Term>, point: u32, rigs: &[Rig]) -> Result<(),
     Ok(())
 }
 
-/// The terms of so many points and how many each has, in place of what stood there.
+/// Lays out the terms of the first `count` points, and how many terms each point has, in place of what stood there.
 fn lay(
     terms: &mut Vec<Term>,
     sizes: &mut Vec<usize>,
@@ -131,7 +131,8 @@ fn lay(
     Ok(())
 }
 
-/// Where the chains of points stand that have so many of the terms each, and their counts, in the buffers of another layout.
+/// Lays out where each point's chain stands among the terms, by how many terms each point has, and the counts. It writes into the buffers of another
+/// layout.
 #[inline(always)]
 fn layout_of(
     catalogue: &[&str],
@@ -167,10 +168,10 @@ fn layout_of(
     Ok(Layout { spans, heads, left })
 }
 
-/// Hits of points at which faults are rigged, laid out so that a session finds each point's chain by the point's number.
+/// The hits of points at which faults are rigged, laid out so that a session finds a point's chain by the point's number.
 ///
-/// One fault table serves run after run: it keeps the memory that it has taken. Contracts see it as the names of its points and the scenario
-/// of the rigged hits.
+/// A fault table serves run after run, and keeps the memory that it has taken. Contracts see it as the names of its points and the scenario of the
+/// rigged hits.
 #[derive(Drop)]
 pub struct FaultTable<'a> {
     catalogue: &'a [&'a str],
@@ -210,9 +211,9 @@ impl<'a> FaultTable<'a> {
         }
     }
 
-    /// Rigs these hits of the points of a catalogue, in ascending order, in place of those that were rigged.
+    /// Rigs these hits of a catalogue's points, which have to be in ascending order, in place of those that were rigged.
     ///
-    /// An error means that memory was refused. The fault table has no point then, and may be loaded again.
+    /// An error means that memory was refused. Then the fault table has no point, and may be loaded again.
     pub fn load(&mut self, catalogue: &'a [&'a str], rigs: &[Rig]) -> Result<(), AllocError>
         requires lawful { IsCatalogue (texts catalogue.now) }
         requires small { CanBeRigged rigs.now }
@@ -237,7 +238,7 @@ impl<'a> FaultTable<'a> {
         self.catalogue
     }
 
-    /// The terms of which all chains are made, from one place to another.
+    /// The terms from one place to another, among those of all chains.
     pub(crate) fn terms(&self, start: usize, end: usize) -> &[Term]
         requires ordered { start ≤ end }
         requires within { end ≤ length (terms_of self.now.scenario) }
@@ -246,7 +247,7 @@ impl<'a> FaultTable<'a> {
         &self.terms[start..end]
     }
 
-    /// Where the chains of the points stand, and their counts, in the buffers of another layout. An error means that memory was refused.
+    /// Writes the places of the points' chains, and their counts, into the buffers of another layout. An error means that memory was refused.
     #[inline(always)]
     pub(crate) fn layout(&self, buffers: Layout) -> Result<Layout, AllocError>
         ensures { IfOk result (λ layout. IsLayout self.now.scenario self.now.names layout) }

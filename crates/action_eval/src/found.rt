@@ -1,4 +1,4 @@
-//! Where the chains of the points stand.
+//! Finds the chain of each point in a scenario.
 ghost use Rattle.std.specs.Prelude.{◌≡◌, ◌+◌, ◌<◌, ◌≤◌, length, map};
 ghost use Rattle.std.specs.List.{slice_range};
 ghost use Rattle.std.specs.Option.{IfSome};
@@ -10,8 +10,8 @@ ghost use Rattle.action_eval.specs.Trial.{is_spent};
 use crate::terms::FULL_SHARE;
 use scenario_values::{Scenario, Task, Term};
 
-/// Where a chain stands among the terms of all entries, of which there is a count each: its entry, its first term, and what is behind its
-/// last. Terms at its head that are spent may be left out: a count never grows, so they stay spent.
+/// The place of a chain among the terms of all entries: its entry, its first term, and the place after its last. Each term has a count at its place.
+/// Spent terms at the chain's head may be left out: a count never grows, so they stay spent.
 #[derive(Clone, Copy)]
 pub struct Span {
     pub entry: usize,
@@ -19,14 +19,14 @@ pub struct Span {
     pub end: usize,
 }
 
-/// A chain, and where its counts begin among those of all chains.
+/// A chain, and where its counts begin among the counts of all chains.
 #[derive(Clone, Copy)]
 pub struct Found<'a> {
     pub chain: &'a [Term],
     pub start: usize,
 }
 
-/// Where the chain of each point stands, what its next hit meets, and what is left of the counts of all chains.
+/// For each point, where its chain stands and what its next hit meets; and what is left of the counts of all chains.
 #[derive(Drop)]
 pub struct Layout {
     pub spans: Vec<Option<Span>>,
@@ -37,16 +37,16 @@ pub struct Layout {
 /// What the next hit of a point meets.
 #[derive(Clone, Copy)]
 pub enum Head {
-    /// No term: the hit comes to nothing.
+    /// No term: the hit goes on.
     Nothing,
-    /// An `off` that acts wherever it is reached. As long as anything is left of its count, which stands here, the hit comes to nothing.
+    /// An `off` with a full share. The hit goes on as long as anything is left of its count, which stands at this place.
     Off(usize),
     /// Terms that have to be tried.
     Terms,
 }
 
 impl Span {
-    /// Where the terms from one place to another stand, which are those of this entry; of no term, nowhere.
+    /// The span of this entry's terms, from one place to another; `None` if there is no term.
     pub fn of(entry: usize, start: usize, end: usize) -> Option<Self>
         ensures { result ≡ spanned entry start end }
     {
@@ -79,7 +79,7 @@ pub fn chain_in<'a>(scenario: &'a Scenario, span: Span) -> &'a [Term]
     &chain[chain.len() - (span.end - span.start)..]
 }
 
-/// What the next hit of a point meets whose chain stands there; of a point without one, no term.
+/// What the next hit of a point meets, if its chain stands there. The next hit of a point without a chain meets no term.
 fn head_of(scenario: &Scenario, span: Option<Span>) -> Head
     requires { IfSome span (λ p. IsSpan scenario.now p) }
     ensures { result ≡ head_of (seen_in scenario.now span) }
@@ -93,7 +93,7 @@ fn head_of(scenario: &Scenario, span: Option<Span>) -> Head
     })
 }
 
-/// A chain without the terms at its head that are spent.
+/// A chain without the spent terms at its head.
 pub fn without_spent<'a>(found: Found<'a>, left: &[u32]) -> Found<'a>
     requires { found.start + length found.chain.now ≤ length left.now }
     ensures rest { Rest left.now (found.entry.chain.now, found.entry.start) (result.chain.now, result.start) }
@@ -113,7 +113,7 @@ pub fn without_spent<'a>(found: Found<'a>, left: &[u32]) -> Found<'a>
     }
 }
 
-/// How many terms stand in the entries before one; before the end, in all.
+/// How many terms stand in the entries before this one. Before the end that is all terms.
 pub fn start_of(scenario: &Scenario, entry: usize) -> usize
     requires { entry ≤ length scenario.now }
     ensures { result ≡ start_of scenario.now entry }
@@ -126,7 +126,7 @@ pub fn start_of(scenario: &Scenario, entry: usize) -> usize
     start
 }
 
-/// Where the chain of a name stands.
+/// The place of the chain of a name, if the scenario has one.
 pub fn find(scenario: &Scenario, name: &str) -> Option<Span>
     ensures span { IfSome result (λ p. IsSpan scenario.now p) }
     ensures seen { seen_in scenario.now result ≡ found_of scenario.now name.now }
@@ -141,7 +141,7 @@ pub fn find(scenario: &Scenario, name: &str) -> Option<Span>
     })
 }
 
-/// Where the chain of each point stands, and what its next hit meets, in place of what stood there.
+/// Finds where the chain of each point stands, and what its next hit meets, in place of what stood there.
 pub fn find_all(
     spans: &mut Vec<Option<Span>>,
     heads: &mut Vec<Head>,

@@ -23,14 +23,14 @@ pub fn tidy_keeps_meaning(scenario: &Scenario)
     let _ = scenario.entries();
 }
 
-/// A scenario with the faults of a set means what the tidied scenario means with its faults that come from the set.
+/// Keeping a set of faults of a scenario means the same as keeping, in the tidied scenario, the faults that come from the set.
 pub fn keep_then_tidy(scenario: &Scenario, set: &[u32])
     ensures { MeansTheSame (kept set.now scenario.now) (kept (left_from set.now scenario.now) (tidied scenario.now)) }
 {
     let _ = scenario.entries();
 }
 
-/// The tidied scenario with a set of its own faults means what the scenario means with the faults that they come from.
+/// Keeping a set of the tidied scenario's faults means the same as keeping their origins in the scenario.
 pub fn keep_of_tidied(scenario: &Scenario, set: &[u32])
     requires { AllByRecursion (λ i. i < all_faults (tidied scenario.now)) set.now }
     ensures { MeansTheSame (kept set.now (tidied scenario.now)) (kept (members_at (origins scenario.now) set.now) scenario.now) }
@@ -38,7 +38,7 @@ pub fn keep_of_tidied(scenario: &Scenario, set: &[u32])
     let _ = scenario.entries();
 }
 
-/// The tidied scenario without one of its faults means what the scenario means without the fault that this one comes from.
+/// Dropping a fault of the tidied scenario means the same as dropping its origin in the scenario.
 pub fn tidied_without_a_fault(scenario: &Scenario, fault: u32)
     requires { fault < all_faults (tidied scenario.now) }
     ensures origin { slice_index (origins scenario.now) fault < all_faults scenario.now }
@@ -54,13 +54,13 @@ pub fn dropped_terms_never_act(scenario: &Scenario)
         → OnlyLeftActed scenario.now (history_of (run_of scenario.now catalogue seed stream limit hits)) }
 {}
 
-/// Of the faults of a scenario tidying leaves those whose terms it leaves: the number of a fault is among the origins just where its term
-/// has a count other than 0 and stands after none that acts at each hit.
+/// Tidying leaves the faults whose terms it leaves: a fault's number is among the origins exactly if its term has a count other than 0 and stands
+/// after no term that acts at each hit.
 pub fn faults_left_by_tidying()
     ensures { (s : Entries) (k : ℕ) (p : Place) → slice_get (faults s) k ≡ Some p → holds (origins s) k ≡ is_left (chain_at s p.entry) p.term }
 {}
 
-/// A fault that tidying drops, one whose number isn't among the origins, never acts: no hit is answered by its term.
+/// A fault that tidying drops (its number isn't among the origins) never acts: no hit is answered by its term.
 pub fn dropped_faults_never_act(scenario: &Scenario)
     ensures { (k : ℕ) (p : Place) (e : List ℕ × List Term)
         → slice_get (faults scenario.now) k ≡ Some p
@@ -72,8 +72,8 @@ pub fn dropped_faults_never_act(scenario: &Scenario)
     let _ = scenario.entries();
 }
 
-/// Up to the first hit at which a fault acts, a scenario whose shares are all full means what the empty scenario means: the first n hits
-/// do, where at none of them a fault acts.
+/// Up to the first hit at which a fault acts, a scenario with full shares means what the empty scenario means: if no fault acts at the first n hits,
+/// these mean what they mean under the empty scenario.
 pub fn clean_until_a_fault_acts(scenario: &Scenario)
     requires { HasFullShares scenario.now }
     ensures { (catalogue : List (List ℕ)) (seed stream limit : ℕ) (hits : List ℕ) (n : ℕ)
@@ -81,7 +81,7 @@ pub fn clean_until_a_fault_acts(scenario: &Scenario)
         → meaning_of scenario.now catalogue seed stream limit (take n hits) ≡ meaning_of [] catalogue seed stream limit (take n hits) }
 {}
 
-/// The answered hits of a part of a run are that part of its answered hits.
+/// The answered hits of a run's first n hits are the first n of the run's answered hits.
 pub fn history_of_a_part()
     ensures { (r : Run) (n : ℕ) → history_of (record r { hits = take n r.hits }) ≡ take n (history_of r) }
 {}

@@ -1,4 +1,5 @@
-//! How the hits of a run are answered under a scenario.
+//! How the hits of a run are answered under a scenario. A session answers them, a fault table lays out the faults that are rigged for it, and laws
+//! say when two scenarios mean the same. What a component does between its hits is no matter of this crate.
 #![tactic(auto)]
 
 mod answer;

@@ -1,4 +1,4 @@
-//! Hits that surely come to nothing, many at once.
+//! Many hits at once at which surely no fault acts and no word is drawn. Such hits are quiet.
 ghost use Rattle.std.specs.Prelude.{◌≡◌, ℕ, true, false, List, ◌+◌, ◌*◌, ◌^◌, ◌<◌, ◌≤◌, [], slice_index, ◌∷◌, ◌++◌, All, IfOk, OnOk, OnErr, length, min, replicate, vec_len, vec_capacity};
 ghost use Rattle.action_eval.specs.Answers.{rounds};
 ghost use Rattle.action_eval.specs.inside.Quiet.{CountsWithin, IsCounted, Spent, SpentBy, head_at, quiet_of, taken_by};
@@ -7,7 +7,7 @@ use crate::found::Head;
 use std::alloc::AllocError;
 use std::mem;
 
-/// How many of the next hits of a point surely come to nothing, by its head.
+/// How many of the next hits of a point are quiet, by its head.
 #[inline(always)]
 pub fn quiet_of(head: Head, left: &[u32]) -> u32
     requires { CountsWithin (length left.now) head }
@@ -20,7 +20,7 @@ pub fn quiet_of(head: Head, left: &[u32]) -> u32
     }
 }
 
-/// Hits a point while a hit is sure to come to nothing, at most so many times, and gives how many times it did.
+/// Makes up to `most` quiet hits of a point, and returns how many it made.
 #[inline(always)]
 pub fn pass_hits(
     heads: &[Head],
@@ -46,8 +46,7 @@ pub fn pass_hits(
     Ok(count)
 }
 
-/// Takes off the count at a head what so many hits take that come to nothing; or takes nothing, where they don't all surely come to
-/// nothing.
+/// Takes `times` quiet hits off the count at a head, and returns true. If not all of these hits are quiet, it takes nothing, and returns false.
 #[inline(always)]
 fn take_hits(left: &mut Vec<u32>, head: Head, times: u32) -> bool
     requires { CountsWithin (length left.old.items) head }
@@ -64,7 +63,7 @@ fn take_hits(left: &mut Vec<u32>, head: Head, times: u32) -> bool
     }
 }
 
-/// Gives the count at a head back what so many hits took.
+/// Gives back to the count at a head what this many hits took.
 fn give_hits(left: &mut Vec<u32>, head: Head, times: u32)
     requires { CountsWithin (length left.old.items) head }
     ensures size { length left.new.items ≡ length left.old.items }
@@ -76,7 +75,7 @@ fn give_hits(left: &mut Vec<u32>, head: Head, times: u32)
     }
 }
 
-/// Gives the counts back what so many rounds of hits of these points took.
+/// Gives back to the counts what this many rounds of hits of these points took.
 #[cold]
 #[inline(never)]
 fn give_rounds(left: &mut Vec<u32>, heads: &[Head], points: &[u32], times: u32)
@@ -89,8 +88,8 @@ fn give_rounds(left: &mut Vec<u32>, heads: &[Head], points: &[u32], times: u32)
     }
 }
 
-/// Takes off the counts what so many rounds of hits of these points take that come to nothing; or takes nothing, where they don't all
-/// surely come to nothing.
+/// Takes `times` quiet rounds of hits of these points off the counts, and returns true. If not all of these hits are quiet, it takes nothing, and
+/// returns false.
 #[inline(always)]
 fn take_rounds(left: &mut Vec<u32>, heads: &[Head], points: &[u32], times: u32) -> bool
     requires known { All (λ p. p < length heads.now) points.now }
@@ -107,7 +106,7 @@ fn take_rounds(left: &mut Vec<u32>, heads: &[Head], points: &[u32], times: u32) 
     true
 }
 
-/// How many rounds of hits of these points come to nothing by each point's own count.
+/// How many rounds of hits of these points are quiet, looking at each point's own count by itself.
 #[inline(always)]
 fn rounds_left(left: &[u32], heads: &[Head], points: &[u32]) -> u32
     requires known { All (λ p. p < length heads.now) points.now }
@@ -121,9 +120,8 @@ fn rounds_left(left: &[u32], heads: &[Head], points: &[u32]) -> u32
     least
 }
 
-/// Takes off the counts what rounds of hits of these points take that surely come to nothing, at most so many rounds, and gives how many
-/// these are.
-// Mostly all of them do, so that is tried first.
+/// Takes up to `most` quiet rounds of hits of these points off the counts, and returns how many it took.
+// Mostly all rounds are quiet, so that is tried first.
 #[inline(always)]
 fn take_most_rounds(left: &mut Vec<u32>, heads: &[Head], points: &[u32], most: u32) -> u32
     requires known { All (λ p. p < length heads.now) points.now }
@@ -141,7 +139,7 @@ fn take_most_rounds(left: &mut Vec<u32>, heads: &[Head], points: &[u32], most: u
     0
 }
 
-/// Adds a round of hits of these points, for which there is room.
+/// Adds a round of hits of these points. There has to be room for it.
 #[inline(always)]
 fn push_round(hits: &mut Vec<u32>, points: &[u32])
     requires { vec_len hits.old + length points.now ≤ vec_capacity hits.old }
@@ -154,7 +152,7 @@ fn push_round(hits: &mut Vec<u32>, points: &[u32])
     }
 }
 
-/// Adds so many rounds of hits of these points, or nothing where memory is refused.
+/// Adds `times` rounds of hits of these points, or nothing if memory is refused.
 // They are added to a vector of the function's own: what is written into that doesn't change its length, as the compiler knows.
 #[inline(always)]
 fn push_rounds(hits: &mut Vec<u32>, points: &[u32], times: u32) -> Result<(), AllocError>
@@ -172,8 +170,7 @@ fn push_rounds(hits: &mut Vec<u32>, points: &[u32], times: u32) -> Result<(), Al
     Ok(())
 }
 
-/// Hits these points in turn, round after round, while every hit is sure to come to nothing, for at most so many rounds. Gives the number of
-/// rounds.
+/// Makes up to `most` quiet rounds of hits of these points, and returns how many it made.
 #[inline(always)]
 pub fn pass_points(
     heads: &[Head],

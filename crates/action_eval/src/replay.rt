@@ -1,4 +1,4 @@
-//! The hits of a run, each with the term that acted: for who tells of a run after its end.
+//! The hits of a run, each with the term that acted, for an account of a run after its end.
 ghost use Rattle.std.specs.Prelude.{◌≡◌, ◌+◌, ◌<◌, ◌≤◌, ◌^◌, [], length, slice_index_or, IfOk, IfSome};
 ghost use Rattle.action_eval.specs.Answers.{texts, run_of, history_of, hit_by, did, stop_of, is_term};
 ghost use Rattle.action_eval.specs.inside.Session.{found_of, left_after};
@@ -53,14 +53,14 @@ impl<'a> Answered<'a> {
         self.task
     }
 
-    /// What it stopped, if anything.
+    /// Why the run stopped at it, if it did.
     pub fn stop(&self) -> Option<Stop>
         ensures { result ≡ stop_of self.now.did }
     {
         effect_of(self.task).stop
     }
 
-    /// Whether it was the term of this place, from 0, in the chain of this name that acted.
+    /// Whether the term that acted is the one at this place, from 0, in the chain of this name.
     pub fn is_of(&self, name: &str, place: usize) -> bool
         ensures { result ≡ is_term name.now place self.now.term }
     {
@@ -71,7 +71,7 @@ impl<'a> Answered<'a> {
     }
 }
 
-/// The name of a point; of a number that isn't in the catalogue, the empty one, which no entry has.
+/// The name of the point with this number. A number that isn't in the catalogue has the empty name, which no entry has.
 pub fn name_of<'a>(catalogue: &[&'a str], point: u32) -> &'a str
     ensures { result.now ≡ slice_index_or (texts catalogue.now) point [] }
 {
@@ -81,7 +81,7 @@ pub fn name_of<'a>(catalogue: &[&'a str], point: u32) -> &'a str
     }
 }
 
-/// Where the chain of a name stands; without one, no term.
+/// The chain of a name; it has no terms if there is no such entry.
 fn find_or_none<'a>(scenario: &'a Scenario, name: &str) -> Found<'a>
     ensures { (result.chain.now, result.start) ≡ chain_or_none (found_of scenario.now name.now) }
 {
@@ -97,7 +97,7 @@ fn find_or_none<'a>(scenario: &'a Scenario, name: &str) -> Found<'a>
     }
 }
 
-/// The next hit of a point with this chain, by what is left of the counts and of the words.
+/// The next hit of a point with this chain. It takes from the counts and draws words.
 fn answer_again<'a>(
     found: Found<'a>,
     name: &'a str,
@@ -127,8 +127,8 @@ fn answer_again<'a>(
     }
 }
 
-/// The answered hits of a run, in order: of the run under this scenario, seed, stream number and limit in which these points were hit. A
-/// number that isn't in the catalogue is that of a point without terms.
+/// The answered hits, in order, of the run that hits these points under this scenario, seed, stream number and limit. A number that isn't in the
+/// catalogue is that of a point without terms.
 ///
 /// An error means that memory was refused.
 pub fn history<'a>(

@@ -1,4 +1,4 @@
-//! Hits that faults are planned at.
+//! Hits at which faults are planned.
 ghost use Rattle.std.specs.Prelude.{◌≡◌, option_map};
 ghost use Rattle.action_eval.specs.RiggedScenario.{text_of, HasLawfulText, HaveLawfulTexts};
 
@@ -9,16 +9,16 @@ use crate::argument::Argument;
 pub struct Site {
     /// The point's number in the catalogue, from 0.
     pub point: u32,
-    /// Which hit of it, from 1.
+    /// The number of the hit among those of the point, from 1.
     pub hit: u32,
 }
 
 /// What is done at a rigged hit.
 #[derive(Clone, Copy, Debug)]
 pub enum Kind {
-    /// It fails, with this text if there is one, and no other.
+    /// This hit alone fails, with this text if there is one.
     OnceReturn(Argument),
-    /// It fails so, and so does each later hit of the point.
+    /// This hit fails, with this text if there is one, and so does each later hit of the point.
     OnwardReturn(Argument),
     /// The component stops there.
     OncePanic,
@@ -32,7 +32,7 @@ pub struct Rig {
 }
 
 impl Kind {
-    /// With which text it fails, if with one.
+    /// The text with which it fails, if it has one.
     pub fn text(self) -> Argument
         ensures { result ≡ text_of self }
     {
@@ -42,7 +42,7 @@ impl Kind {
         }
     }
 
-    /// The text with which it fails, if with one.
+    /// The text with which it fails, if it has one.
     pub(crate) fn as_str(&self) -> Option<&str>
         ensures { option_map (λ text. text.now) result ≡ text_of self.now }
     {
@@ -52,7 +52,7 @@ impl Kind {
         }
     }
 
-    /// Whether its text may stand in a scenario, if it has one. It may.
+    /// Whether its text, if it has one, may stand in a scenario. It always may.
     fn is_lawful(&self) -> bool
         ensures { HasLawfulText self.now }
     {
@@ -63,7 +63,7 @@ impl Kind {
     }
 }
 
-/// Tells that the texts of rigged hits may stand in a scenario.
+/// Does nothing; its contract says that the texts of rigged hits may stand in a scenario.
 pub fn have_lawful_texts(rigs: &[Rig])
     ensures { HaveLawfulTexts rigs.now }
 {

@@ -22,7 +22,7 @@ fn first_room(max_hits: u32) -> usize {
     (max_hits as usize + 1).min(256)
 }
 
-/// How many hits `hit` answers, by what stopped the run: none more where something did.
+/// How many hits `hit` answers: up to the limit, and no more once something has stopped the run.
 fn answerable_after(stopped: Option<Stop>, answerable: u32) -> u32
     ensures { stopped ≡ None → result ≡ answerable }
 {
@@ -32,8 +32,7 @@ fn answerable_after(stopped: Option<Stop>, answerable: u32) -> u32
     }
 }
 
-/// Where the chains of the points of a catalogue stand in a scenario: each is looked up by its name. An error means that memory was
-/// refused.
+/// Looks up by name where the chain of each point of a catalogue stands in a scenario. An error means that memory was refused.
 fn layout_of(alloc: Global, scenario: &Scenario, catalogue: &[&str]) -> Result<Layout, AllocError>
     ensures { IfOk result (λ layout. IsLayout scenario.now (texts catalogue.now) layout) }
 {
@@ -47,7 +46,7 @@ fn layout_of(alloc: Global, scenario: &Scenario, catalogue: &[&str]) -> Result<L
     Ok(Layout { spans, heads, left })
 }
 
-/// Keeps a hit and its note, or neither.
+/// Keeps a hit and its note; or, if memory is refused, neither.
 fn keep(
     hits: &mut Vec<u32>,
     notes: &mut Vec<Note>,
@@ -70,7 +69,7 @@ fn keep(
     noted
 }
 
-/// What a session writes its hits and its notes into.
+/// The memory into which a session writes its hits and its notes.
 #[derive(Drop)]
 struct Records {
     hits: Vec<u32>,
@@ -79,7 +78,7 @@ struct Records {
 
 /// The buffers that a session leaves for another one: memory, and nothing of its run.
 ///
-/// Contracts see it as how many hits there is room for.
+/// Contracts see the number of hits for which there is room.
 #[derive(Drop)]
 pub struct SessionBuffers {
     records: Records,
@@ -113,7 +112,7 @@ impl SessionBuffers {
     }
 }
 
-/// What a session's hits are answered by.
+/// The faults by which a session's hits are answered.
 #[derive(Clone, Copy)]
 pub enum Faults<'a> {
     Written(&'a Scenario),
@@ -133,9 +132,9 @@ impl<'a> Faults<'a> {
     }
 }
 
-/// One run under a scenario: what it is given, and the hits so far. It borrows the scenario and the names of the points.
+/// One run under a scenario: what the run is given, and its hits so far. It borrows the scenario and the names of the points.
 ///
-/// Contracts see it as what it is given and the list of points that were hit: all else follows from these.
+/// Contracts see what it is given and the list of points that were hit; everything else follows from these.
 #[derive(Drop)]
 pub struct Session<'a> {
     faults: Faults<'a>,
@@ -199,8 +198,8 @@ impl<'a> Session<'a> {
         )
     }
 
-    /// A session with no hit yet of the points of a fault table, whose faults it is answered by: that of its scenario, without a name looked
-    /// up.
+    /// A session with no hit yet over the points of a fault table. The table's faults answer the hits, so it is the session of the table's scenario,
+    /// but no name is looked up.
     pub fn over(
         alloc: Global,
         table: &'a FaultTable<'a>,
@@ -213,7 +212,7 @@ impl<'a> Session<'a> {
         Session::over_in(SessionBuffers::new(alloc), table, seed, stream, max_hits)
     }
 
-    /// The same in the buffers that an earlier session of any run left. Want of memory gives them back to the system.
+    /// The same, in the buffers that an earlier session of any run left. If memory is refused, the buffers are given back to the system.
     // A session has the place of a generator in it: made within its caller, it isn't moved.
     #[inline(always)]
     pub fn over_in(
@@ -237,7 +236,7 @@ impl<'a> Session<'a> {
         )
     }
 
-    /// A session with no hit yet, where the chains of the points are known. It writes into the memory of these records.
+    /// A session with no hit yet, from where the points' chains stand. It writes into the memory of these records.
     #[inline(always)]
     fn begin(
         faults: Faults<'a>,
@@ -274,11 +273,11 @@ impl<'a> Session<'a> {
         })
     }
 
-    /// Hits the point of this number in the catalogue. The answer follows from all the hits before, by the terms of the point's chain
-    /// in order; the hit after `max_hits` answered ones is answered `Halt`, and isn't asked.
+    /// Hits the point with this number in the catalogue. The answer follows from all hits before, by the terms of the point's chain in order. The hit
+    /// after `max_hits` answered ones is answered `Halt`, and doesn't count as asked.
     ///
-    /// Want of memory leaves the session as it was, its stream of words too.
-    // Most hits come to nothing. They are answered within the caller's loop, and only the others by a call.
+    /// An error means that memory was refused. Then the session is as it was, and so is its stream of words.
+    // Most hits are quiet. They are answered within the caller's loop, and only the others by a call.
     #[inline(always)]
     pub fn hit(&mut self, point: u32) -> Result<Answer<'a>, AllocError>
         requires known { point < length self.old.given.catalogue }
@@ -308,8 +307,8 @@ impl<'a> Session<'a> {
         }
     }
 
-    /// Hits a point past the limit; or after the run was stopped, which no proved caller does: such a hit is answered `Halt` too, and leaves
-    /// the run unresolved.
+    /// Hits a point past the limit; or after the run was stopped, which no proved caller does. Such a hit is answered `Halt` too, and leaves the run
+    /// unresolved.
     #[cold]
     fn hit_closed(&mut self, point: u32) -> Result<Answer<'a>, AllocError>
         requires closed { self.old.given.limit ≤ length self.old.hits }
@@ -343,10 +342,9 @@ impl<'a> Session<'a> {
         Ok(Answer::Halt)
     }
 
-    /// Hits the point of this number in the catalogue of a run that isn't cut short: as `hit`, but also after a panic, as the power cut at the
-    /// end of a run does. The hit after `max_hits` ones is answered `Halt`, and isn't asked.
+    /// Does what `hit` does, also after a panic, as the power cut at the end of a run needs it. The run must not be cut short.
     ///
-    /// Want of memory leaves the session as it was, its stream of words too.
+    /// An error means that memory was refused. Then the session is as it was, and so is its stream of words.
     pub fn ask_on(&mut self, point: u32) -> Result<Answer<'a>, AllocError>
         requires known { point < length self.old.given.catalogue }
         requires running { is_cut_short self.old ≡ false }
@@ -362,7 +360,7 @@ impl<'a> Session<'a> {
         }
     }
 
-    /// Hits a point, where nothing is known of what the hit comes to.
+    /// Hits a point if the hit may not be quiet.
     #[inline(never)]
     fn hit_terms(&mut self, point: u32) -> Result<Answer<'a>, AllocError>
         requires room { length self.old.hits < self.old.given.limit }
@@ -381,7 +379,7 @@ impl<'a> Session<'a> {
         self.hit_chain(point, span)
     }
 
-    /// Hits a point with a chain, of which what is left stands there.
+    /// Hits a point whose chain, as far as it is left, stands there.
     fn hit_chain(&mut self, point: u32, span: Span) -> Result<Answer<'a>, AllocError>
         requires room { length self.old.hits < self.old.given.limit }
         requires limit { self.old.given.limit < 2 ^ 32 }
@@ -418,10 +416,10 @@ impl<'a> Session<'a> {
         Ok(effect.answer)
     }
 
-    /// Hits the point of this number in the catalogue while nothing comes of it, up to `most` times, and gives how many hits that were. Each
-    /// of these is answered `Go`. Where they are fewer, the limit is reached, or something may come of the next one, which is for `hit`.
+    /// Makes up to `most` quiet hits of the point with this number in the catalogue, and returns how many it made. Each of them is answered `Go`. If
+    /// they are fewer than `most`, the limit is reached, or the next hit may not be quiet: make that one by `hit`.
     ///
-    /// Want of memory leaves the session as it was.
+    /// An error means that memory was refused. Then the session is as it was.
     pub fn pass(&mut self, point: u32, most: usize) -> Result<usize, AllocError>
         requires known { point < length self.old.given.catalogue }
         requires running { stopped self.old ≡ None }
@@ -438,11 +436,11 @@ impl<'a> Session<'a> {
         Ok(count)
     }
 
-    /// Hits these points of the catalogue in turn, round after round, while every hit is sure to come to nothing, for at most so many rounds.
-    /// Gives the number of rounds. Each of these hits is answered `Go`; 0 says nothing of the next one, which is for `hit`.
+    /// Makes up to `most` quiet rounds of hits of these points of the catalogue, in turn, and returns how many rounds it made. Each of these hits is
+    /// answered `Go`. After 0 rounds the next hit may be quiet or not: make it by `hit`.
     ///
-    /// Want of memory leaves the session as it was.
-    // A caller mostly hits the same points again and again: within it, they are known where this is compiled.
+    /// An error means that memory was refused. Then the session is as it was.
+    // A caller mostly hits the same points again and again. As this is compiled within the caller, the points are known there.
     #[inline(always)]
     pub fn pass_rounds(&mut self, points: &[u32], most: usize) -> Result<usize, AllocError>
         requires known { All (λ p. p < length self.old.given.catalogue) points.now }
@@ -462,7 +460,7 @@ impl<'a> Session<'a> {
         Ok(count as usize)
     }
 
-    /// The points that were asked, in order. A hit past the limit isn't asked.
+    /// The points that were asked, in order. A hit past the limit doesn't count as asked.
     pub fn trace(&self) -> &[u32]
         ensures value { result.now ≡ asked self.now }
         ensures within { length self.now.hits ≤ self.now.given.limit + 1 }
@@ -489,7 +487,7 @@ impl<'a> Session<'a> {
         self.notes
     }
 
-    /// The buffers that the session has taken, for another one: they have room for as many hits as it had, at least.
+    /// The session's buffers, for another session. They have room for at least as many hits as this one had.
     pub fn into_buffers(self) -> SessionBuffers
         ensures { length self.entry.hits ≤ result }
     {
@@ -513,29 +511,29 @@ impl<'a> Session<'a> {
         self.millis
     }
 
-    /// How many words of the run's stream were taken: one for each term of less than full share that was tried.
+    /// How many words of the run's stream were taken: one for each term tried whose share is less than full.
     pub fn words(&self) -> u64
         ensures { result ≡ words_of (history_of self.now) }
     {
         self.draws.taken()
     }
 
-    /// What stopped the session, if anything did: the last stop, where its power cut was asked after a panic.
+    /// What stopped the session, if anything did. If its power cut was asked after a panic, this is the last stop.
     pub fn stopped(&self) -> Option<Stop>
         ensures { result ≡ stopped self.now }
     {
         self.stopped
     }
 
-    /// Whether a pause or the limit ended the run. Nothing is asked after that, and nothing is known of the run; after a panic its power cut is
-    /// still to come.
+    /// Whether a pause or the limit ended the run. Then nothing more is asked, and nothing is known of the run. After a panic, its power cut is still
+    /// to come.
     pub fn is_cut_short(&self) -> bool
         ensures { result ≡ is_cut_short self.now }
     {
         matches!(self.stopped, Some(Stop::Paused | Stop::Limit))
     }
 
-    /// Whether a point was hit after the run was stopped. No proved caller does that: it is for targets that aren't proved, whose run is then
+    /// Whether a point was hit after the run was stopped. No proved caller does that. It is for targets that aren't proved; their run is then
     /// unresolved.
     pub fn was_asked_after_stop(&self) -> bool
         ensures { result ≡ false }

@@ -14,8 +14,8 @@ use scenario_values::{Task, Term};
 /// The share of a term that acts at each hit that reaches it: a million millionths.
 pub const FULL_SHARE: u32 = 1_000_000;
 
-/// The place of the term that acts, if one does, by what is left of the counts. The terms that draw take their words; nobody looks at
-/// the word of a term of share 0.
+/// The place of the term that acts, if one does, by what is left of the counts. Each term that draws takes its word; the word of a term with share 0
+/// isn't looked at.
 #[inline(always)]
 pub fn try_terms(terms: &[Term], left: &[u32], draws: &mut Draws) -> Option<usize>
     requires rows { length left.now ≡ length terms.now }
@@ -45,7 +45,7 @@ pub fn try_terms(terms: &[Term], left: &[u32], draws: &mut Draws) -> Option<usiz
     None
 }
 
-/// What the term of a place does; without one, nothing.
+/// What the term at this place does. Without a place that is nothing.
 pub fn task_at(chain: &[Term], place: Option<usize>) -> Option<&Task>
     requires { ForSome place (λ i. i < length chain.now) }
     ensures { did result ≡ task_at chain.now place }

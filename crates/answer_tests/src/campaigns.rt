@@ -1,17 +1,18 @@
 //! Campaigns on made-up components, from nothing known to the report.
 
 use crate::plain::{number_of, plain_report, tidied_text, verdict_of};
-use asked_lines::AskedPart;
+use campaign_main::{
+    AskedPart, Form, OutsideCampaign, OutsideFault, Question, QuestionFault, Shown, answer_question,
+};
 use campaign_settings::{Choice, Settings};
-use outside_campaign::{OutsideCampaign, OutsideFault, list_plans, write_asks, write_report_in};
-use report_forms::Form;
+use outside_campaign::list_plans;
 use std::alloc::Global;
 use std::fmt::Write;
 use std::process::Abort;
 use std::test::Fail;
 use target_trait::Out;
 
-/// Settings whose two points are hit so often.
+/// Settings whose two points are hit this often.
 fn settings(alloc: Global, first: u32, second: u32) -> Result<Settings, Fail> {
     let text = format!(in alloc;
         "target = \"outside\"\nseed = 7\npairs = true\nstorms = 4\nrate = 700\nscenarios = [\"p=2*off->1*off->return->off\"]\n[outside]\nlabel = \"t\"\ncodes = [\"a\", \"b\"]\npoints = [\"p\", \"q\"]\nhits = [{first}, {second}]\n"
@@ -19,8 +20,8 @@ fn settings(alloc: Global, first: u32, second: u32) -> Result<Settings, Fail> {
     Ok(Settings::read(alloc, &text)?)
 }
 
-fn text_in(out: Out<Vec<u8>>) -> Result<String, Fail> {
-    match String::from_utf8(out.into_writer()) {
+fn text_of(bytes: Vec<u8>) -> Result<String, Fail> {
+    match String::from_utf8(bytes) {
         Ok(text) => Ok(text),
         Err(_) => Err(Fail::from("no text")),
     }
@@ -29,27 +30,24 @@ fn text_in(out: Out<Vec<u8>>) -> Result<String, Fail> {
 fn plans(alloc: Global, campaign: &OutsideCampaign<'_>) -> Result<String, Fail> {
     let mut out = Out::new(Vec::new(alloc));
     list_plans(alloc, campaign, &mut out)?;
-    text_in(out)
+    text_of(out.into_writer())
 }
 
 fn asks(alloc: Global, campaign: &OutsideCampaign<'_>, answers: &str) -> Result<String, Fail> {
-    let mut out = Out::new(Vec::new(alloc));
-    write_asks(
-        alloc,
-        campaign,
-        AskedPart::All,
-        answers.as_bytes(),
-        &mut out,
-    )?;
-    text_in(out)
+    let question = Question::Asks(AskedPart::All);
+    let answer = answer_question(alloc, &question, campaign, answers.as_bytes())?;
+    text_of(answer.text)
 }
 
 /// The report, or `not answered` and the scenario.
 fn told(alloc: Global, campaign: &OutsideCampaign<'_>, answers: &str) -> Result<String, Fail> {
-    let mut out = Out::new(Vec::new(alloc));
-    match write_report_in(alloc, &Form::Whole, campaign, answers.as_bytes(), &mut out) {
-        Ok(_) => text_in(out),
-        Err(OutsideFault::NotAnswered(scenario)) => {
+    let question = Question::Report {
+        shown: Shown::Report(Form::Whole),
+        strict: false,
+    };
+    match answer_question(alloc, &question, campaign, answers.as_bytes()) {
+        Ok(answer) => text_of(answer.text),
+        Err(QuestionFault::Outside(OutsideFault::NotAnswered(scenario))) => {
             let text = tidied_text(alloc, &scenario)?;
             Ok(format!(in alloc; "not answered {text}")?)
         }
@@ -75,7 +73,7 @@ fn answer_some(alloc: Global, salt: u32, asked: &str, answers: &mut String) -> R
     Ok(())
 }
 
-/// The report is that of the plain recursion, where the two points are hit so often.
+/// The report is that of the plain recursion, if the two points are hit this often.
 fn is_the_plain_report(
     rt: &impl Abort,
     alloc: Global,
@@ -109,8 +107,8 @@ fn misses_the_first_line(
     Ok(())
 }
 
-/// The campaign on this component ends with the report of the plain recursion. Before that the first line asked is missing. That is looked at in every
-/// third round alone, for its time; which rounds these are depends on the component.
+/// The campaign on this component ends with the report of the plain recursion. Before that, the first line that is asked is missing; this is checked
+/// only in every third round, as it takes time. Which rounds these are depends on the component.
 fn comes_to_the_plain_report(rt: &impl Abort, alloc: Global, salt: u32) -> Result<(), Fail> {
     let hits = (salt % 3, salt / 3 % 3);
     let settings = settings(alloc, hits.0, hits.1)?;
@@ -137,7 +135,7 @@ fn comes_to_the_plain_report(rt: &impl Abort, alloc: Global, salt: u32) -> Resul
     Err(Fail::from("a campaign without end"))
 }
 
-/// How many components a test has, for their time. The components differ by their salt.
+/// How many components a test has; more would take too long. The components differ by their salt.
 const COMPONENTS: u32 = 50;
 
 /// The campaigns on the components of these salts, from this one on, come to the plain report.
@@ -173,7 +171,7 @@ fn campaigns_from_800_come_to_the_plain_report(rt: HostRuntime) -> Result<(), Fa
     come_to_the_plain_report(&rt, rt.alloc(), 800)
 }
 
-/// What is asked by these answers is refused with the answers' fault, told so.
+/// What is asked by these answers is refused with the answers' fault, in this line.
 fn is_refused(rt: &impl Abort, alloc: Global, answers: &str, line: &str) -> Result<(), Fail> {
     let settings = settings(alloc, 1, 1)?;
     let Choice::Outside(outside) = &settings.choice else {
@@ -183,15 +181,9 @@ fn is_refused(rt: &impl Abort, alloc: Global, answers: &str, line: &str) -> Resu
         outside,
         settings: &settings.campaign,
     };
-    let mut out = Out::new(Vec::new(alloc));
-    match write_asks(
-        alloc,
-        &campaign,
-        AskedPart::All,
-        answers.as_bytes(),
-        &mut out,
-    ) {
-        Err(OutsideFault::Answers(fault)) => {
+    let question = Question::Asks(AskedPart::All);
+    match answer_question(alloc, &question, &campaign, answers.as_bytes()) {
+        Err(QuestionFault::Outside(OutsideFault::Answers(fault))) => {
             assert_eq!(rt; format!(in alloc; "{fault}")?.as_str(), line);
             Ok(())
         }

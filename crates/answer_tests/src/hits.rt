@@ -1,16 +1,16 @@
-//! Hits that answers tell.
+//! Hits that answers record.
 
 use crate::shared::read_as;
+use campaign_main::{
+    Form, OutsideCampaign, OutsideFault, Question, QuestionFault, Shown, answer_question,
+};
 use campaign_settings::{Choice, Settings};
-use outside_campaign::{OutsideCampaign, OutsideFault, write_partial, write_report_in};
-use report_forms::Form;
 use scenario_grammar::parse;
 use std::alloc::Global;
 use std::process::Abort;
 use std::test::Fail;
-use target_trait::Out;
 
-/// A text of one line or more has this first fault where hits are needed and where they aren't, or `no fault`.
+/// A text of one line or more has these first faults (or `no fault`): one if hits are needed, and one if they aren't.
 fn is_read(
     rt: &impl Abort,
     alloc: Global,
@@ -115,8 +115,7 @@ fn points_are_told_one_for_each_hit(rt: HostRuntime) -> Result<(), Fail> {
     Ok(())
 }
 
-/// What the report of the component with the point `p`, which is hit twice, is by these answers, or why there is none; and the same of the
-/// partial report.
+/// The report by these answers of the component with the point `p`, which is hit twice, or why there is none; and the same for the partial report.
 fn reports(alloc: Global, answers: &str) -> Result<(String, String), Fail> {
     let text =
         "target = \"outside\"\n[outside]\nlabel = \"t\"\ncodes = [\"a\"]\npoints = [\"p\"]\nhits = [2]\n";
@@ -128,32 +127,36 @@ fn reports(alloc: Global, answers: &str) -> Result<(String, String), Fail> {
         outside,
         settings: &settings.campaign,
     };
-    let mut whole = Out::new(Vec::new(alloc));
-    let report = write_report_in(
-        alloc,
-        &Form::Whole,
-        &campaign,
-        answers.as_bytes(),
-        &mut whole,
-    );
-    let mut part = Out::new(Vec::new(alloc));
-    let partial = write_partial(alloc, &campaign, answers.as_bytes(), &mut part);
     Ok((
-        written(alloc, report.err(), whole)?,
-        written(alloc, partial.err(), part)?,
+        shown_as(alloc, &campaign, Shown::Report(Form::Whole), answers)?,
+        shown_as(alloc, &campaign, Shown::Partial, answers)?,
     ))
 }
 
-/// What was written, or `line N` where that line's census was refused.
-fn written(alloc: Global, fault: Option<OutsideFault>, out: Out<Vec<u8>>) -> Result<String, Fail> {
-    match (fault, String::from_utf8(out.into_writer())) {
-        (None, Ok(text)) => Ok(text),
-        (Some(OutsideFault::Census(line)), _) => Ok(format!(in alloc; "line {line}")?),
-        _ => Err(Fail::from("no report")),
+/// The report in a form, or the partial report, or `line N` if that line's census was refused.
+fn shown_as(
+    alloc: Global,
+    campaign: &OutsideCampaign<'_>,
+    shown: Shown,
+    answers: &str,
+) -> Result<String, Fail> {
+    let question = Question::Report {
+        shown,
+        strict: false,
+    };
+    match answer_question(alloc, &question, campaign, answers.as_bytes()) {
+        Ok(answer) => match String::from_utf8(answer.text) {
+            Ok(text) => Ok(text),
+            Err(_) => Err(Fail::from("no text")),
+        },
+        Err(QuestionFault::Outside(OutsideFault::Census(line))) => {
+            Ok(format!(in alloc; "line {line}")?)
+        }
+        Err(_) => Err(Fail::from("no report")),
     }
 }
 
-/// The answers to each plan but the last two, which are told by the caller.
+/// The answers to each plan except the last two, which the caller gives.
 const FIRST_PLANS: &str =
     "pass\tnone\t2*p\npass\tp=1*return\t2*p\npass\tp=1*panic\tp\npass\tp=return\tp\npass\tp=1*off->1*return\n";
 

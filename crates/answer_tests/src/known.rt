@@ -1,4 +1,4 @@
-//! What is known by answers.
+//! What is known from answers.
 
 use crate::shared::known;
 use scenario_grammar::parse;

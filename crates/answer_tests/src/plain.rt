@@ -22,7 +22,7 @@ pub fn number_of(salt: u32, text: &str) -> u32 {
     number >> 16
 }
 
-/// The verdict of a tidied scenario's text, where each salt makes another component.
+/// The verdict of a tidied scenario's text. Each salt makes another component.
 pub fn verdict_of(salt: u32, text: &str) -> &'static str {
     match number_of(salt, text) % 16 {
         0 | 1 => "unresolved",
@@ -138,7 +138,7 @@ fn write_first(
     Ok(())
 }
 
-/// Writes what the report tells of a plan, where these words were seen before.
+/// Writes what the report says of a plan. These words were seen before.
 fn write_plan(
     alloc: Global,
     salt: u32,

@@ -17,8 +17,8 @@ fn texts(alloc: Global, names: &[&str]) -> Result<Vec<Text>, Fail> {
     Ok(texts)
 }
 
-/// What a text is read as, where the codes are `torn`, `lost note` and `stale`, numbered 0, 1 and 2, and the points `a`, `b` and `2*b`. The hits
-/// are needed, or not.
+/// What a text is read as, if the codes are `torn`, `lost note` and `stale`, numbered 0, 1 and 2, and the points `a`, `b` and `2*b`. The hits are
+/// needed, or not.
 pub fn read_as(
     alloc: Global,
     needed: bool,
@@ -36,7 +36,7 @@ pub fn read_as(
     })
 }
 
-/// The same where hits aren't needed.
+/// The same if hits aren't needed.
 pub fn answers(alloc: Global, text: &[u8]) -> Result<Result<Runs, AnswersFault>, Fail> {
     read_as(alloc, false, text)
 }

@@ -1,10 +1,11 @@
 -- The lines of a text of answers, read one after another.
-use Rattle.std.proofs.Common.{◌≡◌, ℕ, ◌+◌, ◌<◌, ◌≤◌, List, [], ◌∷◌, ◌++◌, Bool, true, false, eqb, ltb, suc, cond, length, Option, Some, None, Result, Ok, Err, refl, ap, sym, ◌∙◌, arith, subst, length-append}
+use Rattle.std.proofs.Common.{◌≡◌, ℕ, ◌+◌, ◌<◌, ◌≤◌, List, [], ◌∷◌, ◌++◌, Bool, true, false, eqb, ltb, suc, cond, length, Option, Some, None, Result, Ok, Err, refl, ap, sym, ◌∙◌, arith, subst, append_assoc, length-append}
 use Rattle.std.proofs.Math.Path.{fun_ext}
 use Rattle.std.specs.Prelude.{IfOk, OnOk}
 use Rattle.std.specs.List.{slice_split}
 use Rattle.std.specs.Map.{lookup}
 use Rattle.std.specs.Str.{bytes_eq}
+use Rattle.std.proofs.lemmas.List.{append-nil}
 use Rattle.std.proofs.lemmas.List.Splits.{length-slice_split}
 use Rattle.std.proofs.lemmas.Slice.Eq.{bytes_eq-Decides}
 use Rattle.std.proofs.lemmas.Bool.Decides.{nat_tests}
@@ -21,10 +22,11 @@ use Rattle.answer_text.specs.declared.fault.LineError.TheVariants as errors
 use Rattle.answer_text.specs.declared.fault.AnswersFault.{AnswersFault}
 use Rattle.answer_text.specs.declared.fault.AnswersFault.TheVariants as faults
 use Rattle.answer_text.specs.declared.runs.RunLine.{RunLine}
+use Rattle.answer_text.specs.declared.runs.Stranger.{Stranger}
 use Rattle.answer_text.specs.declared.runs.ToldRun.{ToldRun}
 use Rattle.answer_text.specs.Answers.{most_bytes}
 use Rattle.answer_text.specs.FirstFault.{Fails}
-use Rattle.answer_text.specs.Runs.{RunBook, ended, first_told, is_repeated, known_of, on_line, pieces_from, reading_of, run_in, told_in, told_run, with_line, with_run, Tells}
+use Rattle.answer_text.specs.Runs.{RunBook, ended, first_told, is_repeated, known_of, known_strangers, on_line, pieces_from, reading_of, run_in, strangers_from, strangers_in, told_in, told_run, with_line, with_run, Tells}
 use Rattle.answer_text.specs.inside.Books.{Holds, IsBookOf, fault_at, noted, noted_by, read_line}
 use Rattle.answer_text.proofs.Lines.{split_one, split_first, shorter}
 
@@ -49,7 +51,7 @@ told_push n m (b ∷ more) r key e = by_test (bytes_eq key (printed b.scenario))
     by_test true ih = refl
     by_test false ih = ih
 
-lookup_insert : (book : RunBook) (k : List ℕ) (v : ToldRun) (key : List ℕ) → lookup (bytes_eq k) book ≡ None → lookup (bytes_eq key) (insert_entry bytes_eq book k v) ≡ or_told (lookup (bytes_eq key) book) (cond (bytes_eq key k) (Some v) None)
+lookup_insert : (book : List (List ℕ × ToldRun)) (k : List ℕ) (v : ToldRun) (key : List ℕ) → lookup (bytes_eq k) book ≡ None → lookup (bytes_eq key) (insert_entry bytes_eq book k v) ≡ or_told (lookup (bytes_eq key) book) (cond (bytes_eq key k) (Some v) None)
 unfolding or_told
 lookup_insert [] k v key h = refl
 lookup_insert (e ∷ es) k v key h = by_test (bytes_eq k e.0) refl (lookup_insert es k v key) h
@@ -66,14 +68,14 @@ lookup_insert (e ∷ es) k v key h = by_test (bytes_eq k e.0) refl (lookup_inser
     by_test true is later none = absurd cc
     by_test false is later none = by_key (bytes_eq key e.0) (later none)
 
-book_grows : (book : RunBook) (before : List RunLine) (r : RunLine) (line : ℕ) → IsBookOf book before → line ≡ length before + 1 → lookup (bytes_eq (printed r.scenario)) book ≡ None
-    → IsBookOf (insert_entry bytes_eq book (printed r.scenario) (told_run line r)) (before ++ r ∷ [])
+book_grows : (book : RunBook) (before : List RunLine) (r : RunLine) (line : ℕ) → IsBookOf book before → line ≡ length before + 1 → lookup (bytes_eq (printed r.scenario)) book.told ≡ None
+    → (key : List ℕ) → lookup (bytes_eq key) (insert_entry bytes_eq book.told (printed r.scenario) (told_run line r)) ≡ first_told 1 (before ++ r ∷ []) key
 book_grows book before r line is e none key =
-    lookup_insert book (printed r.scenario) (told_run line r) key none
+    lookup_insert book.told (printed r.scenario) (told_run line r) key none
     ∙ ap (λ o. or_told o (cond (bytes_eq key (printed r.scenario)) (Some (told_run line r)) None)) (is key)
     ∙ sym (told_push 1 line before r key (omega arith))
 
-book_stays : (book : RunBook) (before : List RunLine) (r : RunLine) (told : ToldRun) → IsBookOf book before → lookup (bytes_eq (printed r.scenario)) book ≡ Some told → IsBookOf book (before ++ r ∷ [])
+book_stays : (book : RunBook) (before : List RunLine) (r : RunLine) (told : ToldRun) → IsBookOf book before → lookup (bytes_eq (printed r.scenario)) book.told ≡ Some told → IsBookOf book (before ++ r ∷ [])
 unfolding or_told
 book_stays book before r told is there key =
     is key ∙ sym (told_push 1 (1 + length before) before r key refl ∙ by_test (bytes_eq key (printed r.scenario)) refl)
@@ -93,43 +95,60 @@ fine x = Ok x
 fine_is : {A : Type 0} (x y : A) → fine x ≡ fine y → x ≡ y
 fine_is x y e = cc
 
-record IsNoted (book : RunBook) (before : List RunLine) (r : RunLine) (next : RunBook) : Type 0 where
+-- one more line's names
+strangers_push : (points : List (List ℕ)) (n m : ℕ) (before : List RunLine) (r : RunLine) → m ≡ n + length before
+    → strangers_from points n (before ++ r ∷ []) ≡ strangers_from points n before ++ strangers_in points m r.scenario
+unfolding strangers_from
+strangers_push points n m [] r e = rw (let same : m ≡ n = omega arith in same) (append-nil (strangers_in points n r.scenario))
+strangers_push points n m (b ∷ more) r e =
+    ap (λ (l : List Stranger). strangers_in points n b.scenario ++ l) (strangers_push points (n + 1) m more r (omega arith))
+    ∙ sym (append_assoc (strangers_in points n b.scenario) (strangers_from points (n + 1) more) (strangers_in points m r.scenario))
+
+record IsNoted (points : List (List ℕ)) (book : RunBook) (line : ℕ) (before : List RunLine) (r : RunLine) (next : RunBook) : Type 0 where
   with_is : with_run before r (first_told 1 before (printed r.scenario)) ≡ Ok (before ++ r ∷ [])
   book_is : IsBookOf next (before ++ r ∷ [])
+  strangers_are : next.strangers ≡ book.strangers ++ strangers_in points line r.scenario
 
-noted_gives : (book next : RunBook) (before : List RunLine) (r : RunLine) (line : ℕ) → IsBookOf book before → line ≡ length before + 1 → noted book line r ≡ Ok next → IsNoted book before r next
+noted_gives : (points : List (List ℕ)) (book next : RunBook) (before : List RunLine) (r : RunLine) (line : ℕ) → IsBookOf book before → line ≡ length before + 1 → noted points book line r ≡ Ok next
+    → IsNoted points book line before r next
 unfolding noted
-noted_gives book next before r line is e h = by_told (lookup (bytes_eq (printed r.scenario)) book) refl h
+noted_gives points book next before r line is e h = by_told (lookup (bytes_eq (printed r.scenario)) book.told) refl h
   where
-    P : RunBook → Type 0
-    P b = IsBookOf b (before ++ r ∷ [])
+    more : List Stranger
+    more = book.strangers ++ strangers_in points line r.scenario
 
-    kept : (told : ToldRun) → lookup (bytes_eq (printed r.scenario)) book ≡ Some told → is_repeated told r ≡ true → book ≡ next → IsNoted book before r next
+    kept : (told : ToldRun) → lookup (bytes_eq (printed r.scenario)) book.told ≡ Some told → is_repeated told r ≡ true → record { told = book.told; strangers = more } ≡ next
+        → IsNoted points book line before r next
     kept told k t same = record {
       with_is = rw (sym (is (printed r.scenario)) ∙ k, t) refl;
       book_is = subst (λ (b : RunBook). IsBookOf b (before ++ r ∷ [])) same (book_stays book before r told is k);
+      strangers_are = ap (λ (b : RunBook). b.strangers) (sym same);
     }
 
-    by_test : (told : ToldRun) (t : Bool) → lookup (bytes_eq (printed r.scenario)) book ≡ Some told → is_repeated told r ≡ t → cond t (Ok book) (Err (Contradicts told.line)) ≡ Ok next → IsNoted book before r next
-    by_test told true k e h = kept told k e (fine_is book next h)
+    by_test : (told : ToldRun) (t : Bool) → lookup (bytes_eq (printed r.scenario)) book.told ≡ Some told → is_repeated told r ≡ t
+        → cond t (Ok (record { told = book.told; strangers = more })) (Err (Contradicts told.line)) ≡ Ok next → IsNoted points book line before r next
+    by_test told true k e h = kept told k e (fine_is (record { told = book.told; strangers = more }) next h)
     by_test told false k e h = absurd cc
 
-    by_told : (o : Option ToldRun) → lookup (bytes_eq (printed r.scenario)) book ≡ o → noted_by book line r o ≡ Ok next → IsNoted book before r next
-    by_told None k h = record {
-      with_is = rw (sym (is (printed r.scenario)) ∙ k) refl;
-      book_is = subst (λ (b : RunBook). IsBookOf b (before ++ r ∷ [])) (fine_is _ next h) (book_grows book before r line is e k);
-    }
+    by_told : (o : Option ToldRun) → lookup (bytes_eq (printed r.scenario)) book.told ≡ o → noted_by points book line r o ≡ Ok next → IsNoted points book line before r next
+    by_told None k h =
+        let same : record { told = insert_entry bytes_eq book.told (printed r.scenario) (told_run line r); strangers = more } ≡ next = fine_is _ next h in
+        record {
+          with_is = rw (sym (is (printed r.scenario)) ∙ k) refl;
+          book_is = subst (λ (b : RunBook). IsBookOf b (before ++ r ∷ [])) same (book_grows book before r line is e k);
+          strangers_are = ap (λ (b : RunBook). b.strangers) (sym same);
+        }
     by_told (Some told) k h = by_test told (is_repeated told r) k refl h
 
-noted_refuses : (book : RunBook) (before : List RunLine) (r : RunLine) (line : ℕ) (fault : LineFault) → IsBookOf book before → noted book line r ≡ Err fault → with_run before r (first_told 1 before (printed r.scenario)) ≡ Err fault
+noted_refuses : (points : List (List ℕ)) (book : RunBook) (before : List RunLine) (r : RunLine) (line : ℕ) (fault : LineFault) → IsBookOf book before → noted points book line r ≡ Err fault → with_run before r (first_told 1 before (printed r.scenario)) ≡ Err fault
 unfolding noted
-noted_refuses book before r line fault is h = rw (sym (is (printed r.scenario))) (by_told (lookup (bytes_eq (printed r.scenario)) book) h)
+noted_refuses points book before r line fault is h = rw (sym (is (printed r.scenario))) (by_told (lookup (bytes_eq (printed r.scenario)) book.told) h)
   where
-    by_test : (told : ToldRun) (t : Bool) → cond {A = Result RunBook LineFault} t (Ok book) (Err (Contradicts told.line)) ≡ Err fault → cond {A = Result (List RunLine) LineFault} t (Ok (before ++ r ∷ [])) (Err (Contradicts told.line)) ≡ Err fault
+    by_test : (told : ToldRun) (t : Bool) → cond {A = Result RunBook LineFault} t (Ok (record { told = book.told; strangers = book.strangers ++ strangers_in points line r.scenario })) (Err (Contradicts told.line)) ≡ Err fault → cond {A = Result (List RunLine) LineFault} t (Ok (before ++ r ∷ [])) (Err (Contradicts told.line)) ≡ Err fault
     by_test told true h = absurd cc
     by_test told false h = cc
 
-    by_told : (o : Option ToldRun) → noted_by book line r o ≡ Err fault → with_run before r o ≡ Err fault
+    by_told : (o : Option ToldRun) → noted_by points book line r o ≡ Err fault → with_run before r o ≡ Err fault
     by_told None h = absurd cc
     by_told (Some told) h = by_test told (is_repeated told r) h
 
@@ -144,11 +163,19 @@ pub record Reading (needed : Bool) (names points : List (List ℕ)) (text rest :
   pub number_is : number ≡ length before + 1
   pub few : number + length rest ≤ length text + 1
   pub book_is : IsBookOf book before
+  pub strangers_are : book.strangers ≡ strangers_from points 1 before
   pub goes_on : pieces_from needed names points before (slice_split (λ b. eqb b 10) rest) ≡ pieces_from needed names points [] (slice_split (λ b. eqb b 10) text)
 
-pub begins : (needed : Bool) (names points : List (List ℕ)) (text : List ℕ) (book : RunBook) → book ≡ [] → Reading needed names points text text book 1
-unfolding first_told
-begins needed names points text book e = record { before = []; number_is = refl; few = omega arith; book_is = λ key. rw e refl; goes_on = refl }
+pub begins : (needed : Bool) (names points : List (List ℕ)) (text : List ℕ) (book : RunBook) → book ≡ record { told = []; strangers = [] } → Reading needed names points text text book 1
+unfolding first_told strangers_from
+begins needed names points text book e = record {
+  before = [];
+  number_is = refl;
+  few = omega arith;
+  book_is = λ key. rw e refl;
+  strangers_are = ap (λ (b : RunBook). b.strangers) e;
+  goes_on = refl;
+}
 
 pub split_some : (text : List ℕ) → 0 < length (slice_split (λ b. eqb b 10) text)
 split_some text = omega (arith, length-slice_split (λ b. eqb b 10) text)
@@ -168,7 +195,7 @@ unfolding read_line
 goes_on needed names points text rest line after book next number cuts r h =
     let b = bind_ok (run_in needed names points line) _ next h in
     let a = b.0 in
-    let n = noted_gives book next r.before a number r.book_is r.number_is b.2 in
+    let n = noted_gives points book next r.before a number r.book_is r.number_is b.2 in
     let first : with_line needed names points r.before line ≡ Ok (r.before ++ a ∷ []) = first_is needed names points r.before (r.before ++ a ∷ []) line a b.1 n.with_is in
     let short = shorter rest line after cuts in
     let f1 = r.few in let f2 = r.number_is in
@@ -177,6 +204,9 @@ goes_on needed names points text rest line after book next number cuts r h =
       number_is = simp length-append (omega arith);
       few = omega arith;
       book_is = n.book_is;
+      strangers_are =
+          n.strangers_are ∙ ap (λ (l : List Stranger). l ++ strangers_in points number a.scenario) r.strangers_are
+          ∙ sym (strangers_push points 1 number r.before a (let e : number ≡ 1 + length r.before = omega (arith, f2) in e));
       goes_on = sym (step needed names points r.before (r.before ++ a ∷ []) line (slice_split (λ b. eqb b 10) after) (split_some after) first) ∙ ap (pieces_from needed names points r.before) (sym (split_first rest line after cuts)) ∙ r.goes_on;
     }
 
@@ -184,8 +214,8 @@ line_refused : (needed : Bool) (names points : List (List ℕ)) (before : List R
 unfolding read_line with_line
 line_refused needed names points before book number line fault is e h = rw (sym e) (by_run (run_in needed names points line) h)
   where
-    by_run : (r : Result RunLine LineFault) → (r >>= λ run. noted book number run) ≡ Err fault → on_line number (r >>= λ run. with_run before run (first_told 1 before (printed run.scenario))) ≡ Err (faults.Line number fault)
-    by_run (Ok a) h = ap (on_line number) (noted_refuses book before a number fault is h)
+    by_run : (r : Result RunLine LineFault) → (r >>= λ run. noted points book number run) ≡ Err fault → on_line number (r >>= λ run. with_run before run (first_told 1 before (printed run.scenario))) ≡ Err (faults.Line number fault)
+    by_run (Ok a) h = ap (on_line number) (noted_refuses points book before a number fault is h)
     by_run (Err f) h = cc
 
 pub not_below : (m n : ℕ) → n ≤ m → ltb m n ≡ false
@@ -210,7 +240,7 @@ last_is needed names points before last = refl
 pub all_read : (needed : Bool) (names points : List (List ℕ)) (text rest : List ℕ) (book : RunBook) (number : ℕ) → length text ≤ most_bytes → cut 10 rest ≡ None → rest ≡ [] → Reading needed names points text rest book number → Holds needed names points text book
 all_read needed names points text rest book number short cuts empty r =
     let one : pieces_from needed names points r.before (slice_split (λ b. eqb b 10) rest) ≡ Ok r.before = ap (pieces_from needed names points r.before) (split_one rest cuts) ∙ last_is needed names points r.before rest ∙ ap (ended r.before) empty in
-    (r.before, whole needed names points text short ∙ sym r.goes_on ∙ one, r.book_is)
+    (r.before, whole needed names points text short ∙ sym r.goes_on ∙ one, r.book_is, r.strangers_are)
 
 not_ended : (before : List RunLine) (number : ℕ) (rest : List ℕ) → number ≡ length before + 1 → 0 < length rest → ended before rest ≡ Err (faults.Line number NotEnded)
 not_ended before number [] e some = absurd (omega arith)
@@ -240,6 +270,11 @@ known_all needed names points text (Err fault) h = tt
 pub read_all : (needed : Bool) (names points : List (List ℕ)) (text : List ℕ) (r : Result RunBook AnswersFault) → IfOk r (Holds needed names points text) → OnOk r ((lines : List RunLine) × (reading_of needed names points text ≡ Ok lines))
 read_all needed names points text (Ok book) h = (h.0, h.1)
 read_all needed names points text (Err fault) h = tt
+
+pub strangers_all : (needed : Bool) (names points : List (List ℕ)) (text : List ℕ) (r : Result RunBook AnswersFault) → IfOk r (Holds needed names points text)
+    → IfOk r (λ book. book.strangers ≡ known_strangers points (reading_of needed names points text))
+strangers_all needed names points text (Ok book) h = h.3 ∙ ap (known_strangers points) (sym h.1)
+strangers_all needed names points text (Err fault) h = tt
 
 -- ---- what is left
 

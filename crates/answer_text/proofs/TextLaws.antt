@@ -196,7 +196,7 @@ ran_is : (told : ToldRun) (r : RunLine) → IsOf told r → ran_of told ≡ (r.v
 ran_is told r h = cc (h.verdict_is, h.hits_are)
 
 pub knows_by : (book : RunBook) (runs : List RunLine) → IsBookOf book runs → AreLawful runs → HasOne runs → Knows (told_in book) runs
-knows_by book runs is lawful one s ok ran = (by_book (lookup (bytes_eq (printed s)) book) (sym (is (printed s))), there)
+knows_by book runs is lawful one s ok ran = (by_book (lookup (bytes_eq (printed s)) book.told) (sym (is (printed s))), there)
   where
     by_book : (o : Option ToldRun) → first_told 1 runs (printed s) ≡ o → option_map ran_of o ≡ Some ran → Contains runs (line_of s ran)
     by_book None e h = absurd cc

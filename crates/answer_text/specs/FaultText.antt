@@ -1,4 +1,4 @@
--- The line of each fault, without its line feed; the lines are this project's own.
+-- The line for each fault of a text of answers, without its line feed. The wording is this project's own.
 use Rattle.std.specs.Prelude.{ℕ, List, ◌++◌, codes}
 use Rattle.std.specs.Fmt.{decimal}
 use Rattle.scenario_grammar.specs.FaultText.{kind_text}

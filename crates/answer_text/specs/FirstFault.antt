@@ -1,5 +1,5 @@
--- The first fault of a line of answers; its kinds and their order are this project's own. Of a line: its bytes, its tab, its verdict, its code,
--- control characters, its scenario's own first fault, and then its hits.
+-- The first fault of a line of answers. The kinds of faults and their order are this project's own. A line is checked in this order: its bytes, its
+-- tab, its verdict, its code, control characters, the first fault of its scenario, and then its hits.
 use Rattle.std.specs.Prelude.{◌≡◌, ℕ, List, [], Bool, Option, Some, None, position, Result, Ok, Err, if◌then◌else◌, codes}
 use Rattle.std.specs.Char.{is_ascii_control}
 use Rattle.std.specs.List.{list_any}
@@ -15,7 +15,7 @@ use Rattle.answer_text.specs.declared.fault.LineFault.TheVariants.{NotUtf8, NoTa
 use Rattle.answer_text.specs.declared.fault.LineError.{LineError}
 use Rattle.answer_text.specs.declared.fault.LineError.TheVariants as errors
 
--- what a function returned, seen by view, is what the reading gives, unless memory ran out
+-- What a function returned, as contracts see it by `view`, is what reading gives, unless memory was refused.
 abbrev pub Fails : {Y : Type 0} → LineError → Result Y LineFault → Type 0
 Fails errors.Memory read = Unit {0}
 Fails (errors.Bad fault) read = read ≡ Err fault
@@ -28,7 +28,7 @@ abbrev pub or_fault : {A : Type 0} → LineFault → Option A → Result A LineF
 or_fault fault None = Err fault
 or_fault fault (Some x) = Ok x
 
--- a failure with the code of this name
+-- A failure with this code, if one has the name.
 abbrev pub failed_by : Option ℕ → Result Verdict LineFault
 failed_by None = Err UnknownCode
 failed_by (Some code) = Ok (verdict.Fail code)
@@ -43,11 +43,11 @@ verdict_in names word =
     else if bytes_eq word (codes "unresolved") then Ok verdict.Unresolved
     else failure_in names (cut 32 word)
 
--- whether a byte of the text is an ASCII control character
+-- Whether a byte of the text is an ASCII control character.
 abbrev pub has_control : List ℕ → Bool
 has_control text = list_any is_ascii_control text
 
--- the fault of a scenario's text, as the line's
+-- The fault of a scenario's text, as that of the line.
 abbrev pub of_scenario : Result Entries Fault → Result Entries LineFault
 of_scenario (Ok s) = Ok s
 of_scenario (Err f) = Err (Scenario f.kind f.entry f.term)
@@ -61,7 +61,7 @@ scenario_in text =
 unfoldable pub parts_in : List ℕ → Result (List ℕ × List ℕ) LineFault
 parts_in line = if is_utf8 line then or_fault NoTab (cut 9 line) else Err NotUtf8
 
--- what stands before the second tab, or all, and what stands after it
+-- The text before the second tab, or all of it if there is no second tab; and the text after that tab.
 abbrev pub before_tab : List ℕ → Option (List ℕ × List ℕ) → List ℕ
 before_tab text None = text
 before_tab text (Some parts) = parts.0
@@ -70,11 +70,11 @@ abbrev pub after_tab : Option (List ℕ × List ℕ) → Option (List ℕ)
 after_tab None = None
 after_tab (Some parts) = Some parts.1
 
--- a tidied scenario, and the verdict that it has
+-- A tidied scenario and its verdict.
 abbrev pub Answer : Type 0
 Answer = Entries × Verdict
 
--- what a line tells before its hits, and their text, where it tells them
+-- What a line records before its hits, and the text of the hits if it has any.
 unfoldable pub answer_in : List (List ℕ) → List ℕ → Result (Answer × Option (List ℕ)) LineFault
 answer_in names line = do
   parts ← parts_in line

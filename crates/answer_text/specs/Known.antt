@@ -1,4 +1,4 @@
--- What is known of scenarios.
+-- What is known of scenarios by recorded runs, and what agrees with it.
 use Rattle.std.specs.Prelude.{◌≡◌, ◌↔◌, ℕ, ◌==◌, false, List, Option, Some, option_map, Contains}
 use Rattle.std.specs.List.{AllByRecursion, slice_split}
 use Rattle.scenario_values.specs.Scenario.{Entries, IsScenario}
@@ -10,19 +10,20 @@ use Rattle.answer_text.specs.Runs.{KnownRuns, known_answers, run_line}
 
 -- ---- runs
 
--- a run that a component has: its verdict, and its hits, where they are known
+-- A run of a component: its verdict, and its hits if they are known.
 abbrev pub Ran : Type 0
 Ran = Verdict × Option (List Stretch)
 
--- what is told of the run of a tidied scenario, where it was answered
+-- The recorded run of a tidied scenario, if there is one.
 abbrev pub ran_in : KnownRuns → Entries → Option Ran
 ran_in known s = option_map (λ told. (told.verdict, told.hits)) (known s)
 
--- just these runs are known
+-- Exactly these runs are known.
 abbrev pub Knows : KnownRuns → List RunLine → Type 0
 Knows known runs = (s : Entries) → IsScenario s → (ran : Ran) → (ran_in known s ≡ Some ran) ↔ Contains runs (run_line s ran.0 ran.1)
 
--- a function from tidied scenarios to runs tells each line of a text: where a line spells a run, the scenario has it
+-- A function from tidied scenarios to runs agrees with a line if the scenario has the run that the line spells; and with a text if it agrees with
+-- each of its lines.
 abbrev pub TellsLine : List (List ℕ) → List (List ℕ) → (Entries → Ran) → List ℕ → Type 0
 TellsLine names points ran_of line = (run : RunLine) → SpellsRun false names points line run → ran_of run.scenario ≡ (run.verdict, run.hits)
 
@@ -31,25 +32,25 @@ TellsText names points text ran_of = AllByRecursion (TellsLine names points ran_
 
 -- ---- verdicts
 
--- the verdict of each tidied scenario, where one is known
+-- The verdict of each tidied scenario, if it is known.
 abbrev pub KnownVerdicts : Type 0
 KnownVerdicts = Entries → Option Verdict
 
 abbrev pub verdicts_in : KnownRuns → KnownVerdicts
 verdicts_in known s = option_map (λ told. told.verdict) (known s)
 
--- by a text whose lines may tell hits
+-- The verdicts that a text records. Its lines may have hits.
 abbrev pub known_by : List (List ℕ) → List (List ℕ) → List ℕ → KnownVerdicts
 known_by names points text = verdicts_in (known_answers names points text)
 
--- a function from tidied scenarios to verdicts agrees with what is known
+-- A function from tidied scenarios to verdicts agrees with what is known.
 abbrev pub Agrees : (Entries → Verdict) → KnownVerdicts → Type 0
 Agrees verdict_of known = (s : Entries) (v : Verdict) → IsScenario s → known s ≡ Some v → verdict_of s ≡ v
 
--- it agrees with a line: where that spells a run, the scenario has its verdict
+-- It agrees with a line: if the line spells a run, the scenario has its verdict.
 abbrev pub AgreesWithLine : List (List ℕ) → List (List ℕ) → (Entries → Verdict) → List ℕ → Type 0
 AgreesWithLine names points verdict_of line = (run : RunLine) → SpellsRun false names points line run → verdict_of run.scenario ≡ run.verdict
 
--- it agrees with each line of a text
+-- It agrees with each line of a text.
 abbrev pub AgreesWithText : List (List ℕ) → List (List ℕ) → List ℕ → (Entries → Verdict) → Type 0
 AgreesWithText names points text verdict_of = AllByRecursion (AgreesWithLine names points verdict_of) (slice_split (λ b. b == 10) text)

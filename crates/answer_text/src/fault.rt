@@ -18,26 +18,26 @@ pub enum LineFault {
     NotUtf8,
     /// The line has no tab.
     NoTab,
-    /// What stands before the first tab is neither `pass` nor `unresolved`, and doesn't begin with `fail` and a space.
+    /// The text before the first tab is neither `pass` nor `unresolved`, and doesn't begin with `fail` and a space.
     UnknownVerdict,
     /// What follows `fail` and a space is none of the codes' names.
     UnknownCode,
     /// An ASCII control character stands in the scenario.
     ControlByte,
-    /// What stands behind the first tab, up to a second one, spells no scenario: what is wrong, in which piece and in which term, both numbered from 1, as the
-    /// grammar of scenarios tells it.
+    /// The text after the first tab, up to a second one, spells no scenario. The grammar of scenarios says what is wrong, and in which piece and
+    /// which term, both numbered from 1.
     Scenario { kind: Kind, entry: u32, term: u32 },
     /// The hits of the run are needed, and the line has no second tab.
     NoHits,
-    /// What stands between two `;` of the hits names no point, with or without a count before it.
+    /// The text between two `;` of the hits names no point, with or without a count before it.
     UnknownPoint,
-    /// What stands before the `*` of hits in a row is no number from 2 to 65536 as it is written in decimals, or the line has more hits than 65536
-    /// in all.
+    /// The text before the `*` of hits in a row is no number from 2 to 65536 as it is written in decimals, or the line has more than 65536 hits in
+    /// all.
     BadCount,
-    /// The hits name one point twice in a row, where it takes a count.
+    /// The hits name one point twice in a row, where one count is needed.
     NotJoined,
-    /// The line of this number, from 1, is the first to answer the same tidied scenario, and gives it another verdict or other hits, or tells
-    /// none where this one does, or some where this one tells none.
+    /// The line contradicts the line of this number, from 1, which is the first to answer the same tidied scenario: it has another verdict, other
+    /// hits, or only one of the two lines has hits.
     Contradicts(u32),
 }
 
@@ -87,7 +87,7 @@ impl<T: Drop> From<AllocFailed<T>> for LineError {
     }
 }
 
-/// Why a text gives no answers: its first fault, or that memory ran out.
+/// Why a text gives no answers: its first fault, or that memory was refused.
 #[derive(Debug, Drop, PartialEq, Eq)]
 pub enum AnswersFault {
     /// The text has more than 268435456 bytes.

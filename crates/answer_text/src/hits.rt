@@ -16,10 +16,10 @@ use std::alloc::{AllocError, Global};
 use std::marker::Model;
 use target_trait::Verdict;
 
-/// The most hits that a line tells. A count is refused before hits are made of it, so that a line takes no more memory than they do.
+/// The most hits that a line may record. A count is refused before hits are made of it, so that a line takes no more memory than so many hits do.
 pub const MOST_HITS: u32 = 65536;
 
-/// So many hits of a point, of which there is at least one, in a row. The point is a place among names.
+/// Hits of one point in a row: as many as the count says, and at least one. The point is a place among names.
 #[derive(Clone, Copy, Debug, PartialEq, Eq)]
 pub struct Stretch {
     pub point: u32,
@@ -42,15 +42,15 @@ impl Model for Hits {
 }
 
 impl Hits {
-    /// The stretches, no two in a row of one point.
+    /// The stretches. No two in a row are of one point.
     pub fn stretches(&self) -> &[Stretch]
         ensures { result.now ≡ self.now }
     {
         self.stretches.as_slice()
     }
 
-    /// Adds the points of the hits to these, one for each hit, in order. An error means that memory was refused; those that were there still come
-    /// first then, and some of the hits may stand behind them.
+    /// Adds the points of the hits to the list, one for each hit, in order. An error means that memory was refused. The points that were there still
+    /// come first then, and some of the hits may stand behind them.
     pub fn push_points(&self, points: &mut Vec<u32>) -> Result<(), AllocError>
         ensures points { OnOk result (points.new.items ≡ points.old.items ++ points_of self.now) }
         ensures kept { OnErr result (StartsWith points.new.items points.old.items) }
@@ -62,7 +62,7 @@ impl Hits {
     }
 }
 
-/// Adds so many hits of a point.
+/// Adds the point of a stretch, once for each of its hits.
 fn push_stretch(points: &mut Vec<u32>, stretch: &Stretch) -> Result<(), AllocError>
     ensures points { OnOk result (points.new.items ≡ points.old.items ++ replicate stretch.now.count stretch.now.point) }
     ensures kept { OnErr result (StartsWith points.new.items points.old.items) }
@@ -87,7 +87,7 @@ fn is_number(text: &str) -> bool
     !text.is_empty() && all_digits(text.as_bytes())
 }
 
-/// The number, where the text is one or more digits and no line has more hits.
+/// The number, if the text is one or more digits, and a line may have so many hits.
 fn number_in(text: &str) -> Option<u32>
     ensures { result ≡ number_up_to most_hits text.now }
 {
@@ -106,7 +106,7 @@ fn number_in(text: &str) -> Option<u32>
     }
 }
 
-/// The count of hits in a row, where the text is a number from 2 on, as it is written.
+/// The count of hits in a row, if the text is a number from 2 on, as it is written in decimals.
 fn count_in(text: &str) -> Option<u32>
     ensures { result ≡ count_in text.now }
 {
@@ -140,7 +140,7 @@ fn item_in(points: &PointNames<'_>, item: &str) -> Result<Stretch, LineError>
     }
 }
 
-/// Whether the last of these hits are of a point.
+/// Whether the last of these hits is of this point.
 fn ends_with(hits: &[Stretch], point: u32) -> bool
     ensures { result ≡ ends_with hits.now point }
 {
@@ -150,7 +150,7 @@ fn ends_with(hits: &[Stretch], point: u32) -> bool
     }
 }
 
-/// Adds the hits of one more item to so many, and answers how many there are then. An `Err` changes nothing.
+/// Adds the hits of one more item to those that are there, `total` in number, and returns how many there are then. An `Err` changes nothing.
 #[tactic(auto, unfolding(crate::specs::Hits::with_item))]
 fn add(hits: &mut Vec<Stretch>, total: u32, stretch: Stretch) -> Result<u32, LineError>
     requires { total ≡ count_of hits.old.items }
@@ -176,7 +176,7 @@ fn are_same(a: &[Stretch], b: &[Stretch]) -> bool
     a == b
 }
 
-/// Whether the same hits are told, or none are known either time.
+/// Whether the hits are the same, or are unknown both times.
 pub fn same_hits(a: &Option<Hits>, b: &Option<Hits>) -> bool
     ensures { result ≡ same_hits a.now b.now }
 {
@@ -187,10 +187,10 @@ pub fn same_hits(a: &Option<Hits>, b: &Option<Hits>) -> bool
     }
 }
 
-/// The hits that a text tells: items joined by `;`, each the name of a point, or the count of hits of one point in a row, from 2 on, a `*`
-/// and its name. No hits are the empty text.
+/// The hits that a text records: items joined by `;`. An item is the name of a point or, for hits of one point in a row, their count from 2 on, a `*`
+/// and the name. No hits are the empty text.
 ///
-/// `Err` is the first fault from the left, as [`LineFault`] tells it: `UnknownPoint`, `BadCount` or `NotJoined`; or want of memory.
+/// `Err` is the first fault from the left, as [`LineFault`] describes it: `UnknownPoint`, `BadCount` or `NotJoined`; or that memory was refused.
 pub fn hits_in(alloc: Global, points: &PointNames<'_>, text: &str) -> Result<Hits, LineError>
     ensures { Gives (λ hits. hits) result (hits_in points.now text.now) }
 {
@@ -210,7 +210,7 @@ pub fn hits_in(alloc: Global, points: &PointNames<'_>, text: &str) -> Result<Hit
     Ok(Hits { stretches: hits })
 }
 
-/// The hits of a run with this verdict, where they are known.
+/// The hits of a run with this verdict, if they are known.
 fn known_hits(
     alloc: Global,
     points: &PointNames<'_>,
@@ -225,7 +225,7 @@ fn known_hits(
     Ok(Some(hits_in(alloc, points, text)?))
 }
 
-/// The same of a line that may tell none, where they aren't needed.
+/// The same for a line that may have no hits, if they aren't needed.
 pub fn field_in(
     alloc: Global,
     points: &PointNames<'_>,

@@ -9,7 +9,7 @@ ghost use Rattle.answer_text.specs.declared.fault.AnswersFault.TheVariants.{Line
 ghost use Rattle.answer_text.specs.declared.fault.LineFault.TheVariants.{Contradicts};
 ghost use Rattle.answer_text.specs.declared.runs.RunLine.{RunLine};
 
-/// A text says just the runs that it is read as, where hits are needed and where they aren't.
+/// A text says exactly the runs that it is read as, whether hits are needed or not.
 pub fn texts_say_what_is_read()
     ensures read { (needed : Bool) (names points : List (List ℕ)) (text : List ℕ) (runs : List RunLine)
         → Says needed names points text runs → reading_of needed names points text ≡ Ok runs }
@@ -17,14 +17,13 @@ pub fn texts_say_what_is_read()
         → reading_of needed names points text ≡ Ok runs → Says needed names points text runs }
 {}
 
-/// A scenario that was tidied is left as it is when it is tidied again. It holds of all entries, also where the counts of `off` terms are
-/// so large that they aren't joined.
+/// Tidying a tidied scenario changes nothing. This is so for all entries, even if the counts of `off` terms are so large that they aren't joined.
 pub fn tidying_again_changes_nothing()
     ensures { (s : Entries) → tidied (tidied s) ≡ tidied s }
 {}
 
-/// A text that says answers is told by some component, a function from tidied scenarios to verdicts and hits. One that contradicts itself is
-/// told by none. A component that tells a text agrees with its verdicts.
+/// Some component has the answers of each text that is read, a function from tidied scenarios to verdicts and hits. No component has those of a text
+/// that contradicts itself. A component with the answers of a text agrees with its verdicts.
 pub fn contradictions_agree_with_no_component()
     ensures some { (names points : List (List ℕ)) (text : List ℕ) (runs : List RunLine) → Says false names points text runs
         → (ran_of : Entries → Ran) × TellsText names points text ran_of }

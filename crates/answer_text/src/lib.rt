@@ -1,5 +1,5 @@
-//! The answers of a component that somebody else runs: a text of verdicts, scenarios and hits, read with the exact line of its first fault,
-//! and what is then known of each scenario.
+//! The answers of a component that somebody else runs: a text of verdicts, scenarios and hits, read with the exact line of its first fault, and the
+//! recorded run of each scenario.
 #![tactic(auto)]
 
 mod fault;
@@ -16,7 +16,7 @@ pub use hits::{Hits, MOST_HITS, Stretch, hits_in};
 pub use laws::{
     contradictions_agree_with_no_component, texts_say_what_is_read, tidying_again_changes_nothing,
 };
-pub use line::{answer_in, run_in};
+pub use line::run_in;
 pub use names::PointNames;
 pub use reading::{LIMIT, read, read_runs};
-pub use runs::{RunLine, Runs, ToldRun};
+pub use runs::{RunLine, Runs, Stranger, ToldRun};

@@ -21,7 +21,7 @@ fn has_control(text: &str) -> bool
     text.as_bytes().iter().any(|b| b.is_ascii_control())
 }
 
-/// What stands before the first tab of a line, and what stands after it.
+/// The text before the first tab of a line, and the text after it.
 #[tactic(auto, unfolding(crate::specs::FirstFault::parts_in))]
 pub fn parts_in(line: &[u8]) -> Result<(&str, &str), LineError>
     ensures { Gives (λ x. (x.0.now, x.1.now)) result (parts_in line.now) }
@@ -35,7 +35,7 @@ pub fn parts_in(line: &[u8]) -> Result<(&str, &str), LineError>
     }
 }
 
-/// What stands before the second tab of a line, and what stands after it, where there is one.
+/// The text before the second tab of a line, and the text after it, if there is a second tab.
 fn fields_of(rest: &str) -> (&str, Option<&str>)
     ensures text { result.0.now ≡ before_tab rest.now (cut 9 rest.now) }
     ensures field { option_map (λ text. text.now) result.1 ≡ after_tab (cut 9 rest.now) }
@@ -68,10 +68,10 @@ pub fn scenario_in(alloc: Global, text: &str) -> Result<Scenario, LineError>
     }
 }
 
-/// What a line tells before its hits: its tidied scenario and its verdict; and the text of the hits, where it tells them. It makes none of them, and
-/// doesn't look whether they are lawful.
+/// What a line records before its hits: its tidied scenario and its verdict; and the text of the hits, if it has any. The hits aren't read, so the
+/// text may have a fault.
 #[tactic(auto, unfolding(crate::specs::FirstFault::answer_in))]
-pub fn answer_in<'a>(
+fn answer_in<'a>(
     alloc: Global,
     codes: &[Text],
     line: &'a [u8],
@@ -86,7 +86,7 @@ pub fn answer_in<'a>(
     Ok(((tidy(alloc, &scenario)?, verdict), field))
 }
 
-/// What a line tells of a run, where the hits are needed or not.
+/// What a line records of a run. `needed` says whether it has to have hits.
 #[tactic(auto, unfolding(crate::specs::Runs::run_in))]
 pub fn run_in(
     alloc: Global,

@@ -7,7 +7,7 @@ use scenario_values::Text;
 use std::alloc::{AllocError, Global};
 use std::marker::Model;
 
-/// The names of points, each with the first place that has it: a look-up takes one step of hashing. Contracts see the list of the names.
+/// The names of points, each with the first place that has it. Looking one up takes one step of hashing. Contracts see the list of the names.
 #[derive(Drop)]
 pub struct PointNames<'a> {
     names: &'a [Text],
@@ -26,7 +26,7 @@ impl<'a> Model for PointNames<'a> {
 }
 
 impl<'a> PointNames<'a> {
-    /// These names. An error means that memory was refused.
+    /// Takes these names. An error means that memory was refused.
     pub fn new(alloc: Global, names: &'a [Text]) -> Result<PointNames<'a>, AllocError>
         requires { length names.now < 2 ^ 32 }
         ensures { IfOk result (λ p. p ≡ names.now) }

@@ -6,7 +6,7 @@ ghost use Rattle.answer_text.specs.declared.runs.RunLine.{RunLine};
 ghost use Rattle.answer_text.specs.Answers.{Says};
 ghost use Rattle.answer_text.specs.FirstFault.{Gives};
 ghost use Rattle.answer_text.specs.Known.{Knows};
-ghost use Rattle.answer_text.specs.Runs.{Tells, TellsAnswers, TellsRuns, answers_of, known_answers, known_runs, runs_of, told_in};
+ghost use Rattle.answer_text.specs.Runs.{Tells, TellsAnswers, TellsRuns, answers_of, known_answers, known_runs, known_strangers, runs_of, told_in};
 ghost use Rattle.answer_text.specs.inside.Books.{Holds, fault_at, read_line};
 
 use crate::fault::{AnswersFault, LineError, LineFault};
@@ -26,7 +26,7 @@ fn line_feed(text: &[u8]) -> Option<usize>
     text.iter().position(|b| *b == b'\n')
 }
 
-/// The first line without its line feed, and what follows it, where a line feed ends it.
+/// The first line without its line feed, and what follows it, if a line feed ends it.
 fn cut_line(text: &[u8]) -> Option<(&[u8], &[u8])>
     ensures { option_map (λ x. (x.0.now, x.1.now)) result ≡ cut 10 text.now }
 {
@@ -36,7 +36,7 @@ fn cut_line(text: &[u8]) -> Option<(&[u8], &[u8])>
     }
 }
 
-/// Reads one line. An `Err` changes nothing.
+/// Reads one line. After an `Err` the runs are of no use.
 #[tactic(auto, unfolding(crate::specs::inside::Books::read_line))]
 fn read_line(
     alloc: Global,
@@ -51,10 +51,10 @@ fn read_line(
     ensures { Gives (λ _. runs.new) result (read_line needed codes.now points.now runs.old number line.now) }
 {
     let run = run_in(alloc, codes, points, needed, line)?;
-    runs.note(alloc, number, run)
+    runs.note(alloc, points, number, run)
 }
 
-/// What is wrong with a line, as the fault of the text.
+/// The fault of the text for what is wrong with the line of this number.
 fn fault_at(number: u32, error: LineError) -> AnswersFault
     ensures { result ≡ fault_at number error }
 {
@@ -64,6 +64,7 @@ fn fault_at(number: u32, error: LineError) -> AnswersFault
     }
 }
 
+/// Reads the lines of a text, up to its first fault.
 fn read_lines(
     alloc: Global,
     codes: &[Text],
@@ -92,7 +93,7 @@ fn read_lines(
     Ok(runs)
 }
 
-/// What is known by a text of answers, where their hits are needed or not.
+/// The runs that a text of answers records. `needed` says whether each line has to have hits.
 fn read_text(
     alloc: Global,
     codes: &[Text],
@@ -112,17 +113,17 @@ fn read_text(
     read_lines(alloc, codes, &points, needed, text)
 }
 
-/// What is known by a text of answers: lines `VERDICT<TAB>SCENARIO` or `VERDICT<TAB>SCENARIO<TAB>HITS`, each ended by a line feed. A verdict is
-/// `pass`, `unresolved`, or `fail` and the name of a code, whose number is its place among the names. A scenario is `none`, or any spelling of
-/// one, and is taken as tidied. The hits are those of the run in order, each the name of a point, joined by `;`; n hits of one point in a row are
-/// `n*point` for n from 2 on, and there are at most 65536. No hits are the empty text, and `-` stands for the hits of an unresolved run that
-/// aren't known. That a line repeats what an earlier one says is no fault.
+/// Reads a text of answers: lines `VERDICT<TAB>SCENARIO` or `VERDICT<TAB>SCENARIO<TAB>HITS`, each ended by a line feed. A verdict is `pass`,
+/// `unresolved`, or `fail` and the name of a code, whose number is its place among the names. A scenario is `none`, or any spelling of one, and is
+/// taken as tidied. The hits are those of the run in order, each the name of a point, joined by `;`. For n from 2 on, n hits of one point in a row
+/// are `n*point`. There are at most 65536 hits. No hits are the empty text; `-` stands for the hits of an unresolved run if they aren't known. A line
+/// may repeat what an earlier one says.
 ///
-/// The text is up to 268435456 bytes: 65536 answers of 4096 bytes each, or 4096 answers of the longest scenarios.
+/// The text may have up to 268435456 bytes: 65536 answers of 4096 bytes each, or 4096 answers of the longest scenarios.
 ///
-/// `Err` is the first fault of the text with its line, or want of memory. The length is looked at before all; then the lines in order,
-/// and of each line, as [`LineFault`] lists them, whether it is ended, its bytes, its tab, its verdict, its code, control characters, its
-/// scenario's first fault, its hits, and whether an earlier line gives the same tidied scenario another verdict or other hits.
+/// `Err` is the first fault of the text with its line, or that memory was refused. The length is checked first, and then each line, in order.
+/// [`LineFault`] lists what is checked of a line, in this order: whether it is ended, its bytes, its tab, its verdict, its code, control characters,
+/// the first fault of its scenario, its hits, and whether an earlier line has the same tidied scenario with another verdict or other hits.
 pub fn read(
     alloc: Global,
     codes: &[Text],
@@ -131,20 +132,21 @@ pub fn read(
 ) -> Result<Runs, AnswersFault>
     requires codes { length codes.now < 2 ^ 32 }
     requires points { length points.now < 2 ^ 32 }
-    // Just what the text says is known.
+    // The runs are exactly what the text says.
     ensures found { IfOk result (λ runs. (said : List RunLine) × Says false codes.now points.now text.now said × Knows (told_in runs) said) }
-    // Of each scenario, what the first line that answers it tells is known.
+    // The recorded run of a scenario is that of the first line that answers it.
     ensures known { IfOk result (λ runs. told_in runs ≡ known_answers codes.now points.now text.now) }
+    ensures strangers { IfOk result (λ runs. runs.strangers ≡ known_strangers points.now (answers_of codes.now points.now text.now)) }
     ensures read { OnOk result ((lines : List RunLine) × (answers_of codes.now points.now text.now ≡ Ok lines)) }
-    // A fault that is answered is the first one.
+    // A fault that is returned is the first one.
     ensures refused { IfErr result (λ fault. TellsAnswers fault codes.now points.now text.now) }
-    // A text that says answers is refused for want of memory alone.
+    // A text without a fault is refused only if memory was.
     ensures only { (said : List RunLine) → Says false codes.now points.now text.now said → IfErr result (λ fault. fault ≡ Memory) }
 {
     read_text(alloc, codes, points, false, text)
 }
 
-/// What is known by a text of answers that have to tell their hits, as [`read`] tells it but that a line without a second tab is refused. Hits may
+/// Reads a text of answers that have to record their hits. It is read as by [`read`], except that a line without a second tab is refused. Hits may
 /// still be `-`.
 pub fn read_runs(
     alloc: Global,
@@ -154,10 +156,11 @@ pub fn read_runs(
 ) -> Result<Runs, AnswersFault>
     requires codes { length codes.now < 2 ^ 32 }
     requires points { length points.now < 2 ^ 32 }
-    // Of each scenario, what the first line that answers it tells is known.
+    // The recorded run of a scenario is that of the first line that answers it.
     ensures known { IfOk result (λ runs. told_in runs ≡ known_runs codes.now points.now text.now) }
+    ensures strangers { IfOk result (λ runs. runs.strangers ≡ known_strangers points.now (runs_of codes.now points.now text.now)) }
     ensures read { OnOk result ((lines : List RunLine) × (runs_of codes.now points.now text.now ≡ Ok lines)) }
-    // A fault that is answered is the first one.
+    // A fault that is returned is the first one.
     ensures refused { IfErr result (λ fault. TellsRuns fault codes.now points.now text.now) }
 {
     read_text(alloc, codes, points, true, text)

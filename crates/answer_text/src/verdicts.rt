@@ -15,7 +15,7 @@ pub fn place_of(name: &str, names: &[Text]) -> Option<usize>
     names.iter().position(|other| name == other.as_str())
 }
 
-/// The verdict that a word names, where each code is named by its text.
+/// The verdict that a word spells, if each code is named by its text.
 #[tactic(auto, unfolding(crate::specs::FirstFault::verdict_in))]
 pub fn verdict_in(codes: &[Text], word: &str) -> Result<Verdict, LineError>
     requires { length codes.now < 2 ^ 32 }

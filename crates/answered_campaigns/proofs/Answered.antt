@@ -1,6 +1,6 @@
 -- Runs that answers tell, explained.
-use Rattle.std.proofs.Common.{◌≡◌, ◌∙◌, ℕ, Bool, List, Option, Some, None, Result, Ok, Err, ap, sym, subst}
-use Rattle.std.specs.Prelude.{IfErr, IfOk, IsErrAnd, is_some}
+use Rattle.std.proofs.Common.{◌≡◌, ℕ, List, Some, Ok}
+use Rattle.std.specs.Prelude.{is_some}
 use Rattle.scenario_values.specs.Scenario.{Entries}
 use Rattle.scenario_values.specs.Tidied.{tidied}
 use Rattle.scenario_grammar.specs.FirstFault.{FailsAt}
@@ -15,7 +15,7 @@ use Rattle.campaign_given.specs.Given.{Given}
 use Rattle.campaign_core.specs.declared.ending.CampaignFault.TheVariants as campaign
 use Rattle.outside_campaign.specs.Results.{answers_fault}
 use Rattle.outside_campaign.specs.declared.refusal.OutsideFault.TheVariants as refusal
-use Rattle.answered_campaigns.specs.Explained.{IsExplainedText, IsHiddenFault, IsRunText, RefusesText, said, spelled}
+use Rattle.answered_campaigns.specs.Explained.{IsHiddenFault, RefusesText, said, spelled}
 use Rattle.answered_campaigns.specs.declared.fault.QuestionFault.{QuestionFault}
 use Rattle.answered_campaigns.specs.declared.fault.QuestionFault.TheVariants as fault
 
@@ -34,12 +34,7 @@ module _ (text : List ℕ) (outside : Description) (given : Given) (told : List 
 
   -- of a run that is told
   module _ (s : Entries) (spells : spelled text ≡ Ok s) (run : ToldRun) (is : known_of (said outside given told) (tidied s) ≡ Some run) where
-    pub explained : {A : Type 0} (lines : A → List ℕ) (found : A → Bool) (result : Result A QuestionFault) → IfOk result (λ r. IsRunText outside s run (lines r) (found r))
-        → IfOk result (λ r. IsExplainedText text outside given told (lines r) (found r))
-    explained lines found (Ok r) h = record { scenario = s; spells = spells; run = run; told = is; shown = h }
-    explained lines found (Err e) h = tt
-
-    hidden_why : (why : QuestionFault) → IsHiddenFault run why → Refused why
+    pub hidden_why : (why : QuestionFault) → IsHiddenFault run why → Refused why
     hidden_why (fault.Unseen line) h = record { scenario = s; spells = spells; run = run; told = is; hidden = h }
     hidden_why (fault.Scenario f) h = absurd h
     hidden_why (fault.Broken b) h = absurd h
@@ -49,7 +44,3 @@ module _ (text : List ℕ) (outside : Description) (given : Given) (told : List 
     hidden_why (fault.Outside (refusal.Campaign campaign.TooManyPlans)) h = absurd h
     hidden_why (fault.Outside (refusal.Campaign campaign.Memory)) h = tt
     hidden_why (fault.Outside (refusal.Campaign (campaign.Write n))) h = absurd h
-
-    pub hidden : {A : Type 0} (result : Result A QuestionFault) → IfErr result (IsHiddenFault run) → IfErr result Refused
-    hidden (Ok r) h = tt
-    hidden (Err why) h = hidden_why why h

@@ -4,33 +4,14 @@ use Rattle.std.specs.Prelude.{IfErr, IsErrAnd}
 use Rattle.scenario_values.specs.Scenario.{Entries}
 use Rattle.action_eval.specs.declared.rig.Rig.{Rig}
 use Rattle.plan_gen.specs.PlanList.{Asked}
-use Rattle.campaign_plans.specs.GrownScenarios.{grown_scenarios}
 use Rattle.answered_runs.specs.Answered.{Answered, known_plans}
 use Rattle.asked_lines.specs.Lines.{lines_for}
 use Rattle.outside_campaign.proofs.Lines.{none_once}
 use Rattle.outside_grown.specs.Asked.{to_try}
 use Rattle.outside_grown.specs.Causes.{open_scenarios}
-use Rattle.outside_grown.specs.Further.{further_told}
 use Rattle.answered_campaigns.specs.Grown.{candidates, listed, or_else, untried}
 use Rattle.answered_campaigns.specs.declared.candidates.Told.{Told}
 use Rattle.answered_campaigns.specs.inside.Outcomes.{IsTold, open_candidates}
-
--- answers with a depth
-abbrev Known : Type 0
-Known = Answered × ℕ
-
--- ---- plans that are known
-
-pub grew_known : (k : Known) (a : Answered) (depth : ℕ) (plans : List (List Rig)) → (a, depth) ≡ k → plans ≡ known_plans a depth → plans ≡ known_plans k.0 k.1
-grew_known k a depth plans at is = is ∙ ap (λ (x : Known). known_plans x.0 x.1) at
-
--- what grew and what stands behind are the plans that are known
-pub listed_are : (k : Known) (a : Answered) (depth : ℕ) (asked asks : Asked) (points : List (List ℕ)) (plans : List Entries) (grew : List (List Rig)) (further : List Entries)
-    → (a, depth) ≡ k → asks ≡ asked → points ≡ a.points → plans ≡ grown_scenarios points grew ++ further → grew ≡ known_plans a depth → further ≡ further_told a asks
-    → plans ≡ listed k.0 k.1 asked
-listed_are k a depth asked asks points plans grew further at same names is known behind =
-    is ∙ ap (λ (ps : List (List ℕ)). grown_scenarios ps grew ++ further) names ∙ ap (λ (g : List (List Rig)). grown_scenarios a.points g ++ further) known
-    ∙ ap (λ (f : List Entries). grown_scenarios a.points (known_plans a depth) ++ f) behind ∙ ap (listed a depth) same ∙ ap (λ (x : Known). listed x.0 x.1 asked) at
 
 -- ---- faults
 
@@ -62,10 +43,8 @@ requests_asked a depth asked plans grew requests slice lines h is known same ask
 
 -- ---- the text
 
-pub none_to_try : (k : Known) (a : Answered) (depth : ℕ) (asked asks : Asked) (keys : List (List ℕ)) → (a, depth) ≡ k → asks ≡ asked → keys ≡ lines_for (to_try a depth asks) → keys ≡ []
-    → to_try k.0 k.1 asked ≡ []
-none_to_try k a depth asked asks keys at same is empty =
-    ap (λ (x : Known). to_try x.0 x.1 asked) (sym at) ∙ ap (to_try a depth) (sym same) ∙ none_once (to_try a depth asks) (sym is ∙ empty)
+pub none_to_try : (a : Answered) (depth : ℕ) (asked asks : Asked) (keys : List (List ℕ)) → asks ≡ asked → keys ≡ lines_for (to_try a depth asks) → keys ≡ [] → to_try a depth asked ≡ []
+none_to_try a depth asked asks keys same is empty = ap (to_try a depth) (sym same) ∙ none_once (to_try a depth asks) (sym is ∙ empty)
 
 pub others_asked : (a : Answered) (depth : ℕ) (asked : Asked) (lines : List (List ℕ)) → to_try a depth asked ≡ [] → lines ≡ lines_for (candidates a depth asked)
     → lines ≡ lines_for (untried a depth asked)

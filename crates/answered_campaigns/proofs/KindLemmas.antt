@@ -1,6 +1,6 @@
 -- The kinds that settings list may be tried.
 use Rattle.std.proofs.Common.{◌≡◌, ◌≢◌, ℕ, ◌≤◌, Bool, true, false, List, [], ◌∷◌, map, length, refl, arith, ◌&&◌}
-use Rattle.std.specs.Prelude.{Option, Some, None, nat_le, not}
+use Rattle.std.specs.Prelude.{Some, None, nat_le, not}
 use Rattle.std.specs.List.{AllByRecursion}
 use Rattle.std.proofs.lemmas.Bool.{leb-true}
 use Rattle.std.proofs.lemmas.List.{length-map}

@@ -1,18 +1,18 @@
 -- What is told of a text of answers that was read.
-use Rattle.std.proofs.Common.{◌≡◌, ◌≤◌, ℕ, true, false, List, [], Some, None, Option, Result, Ok, Err, is_none, refl, ap, sym, ◌∙◌, subst}
-use Rattle.std.specs.Prelude.{IfOk, OnOk}
+use Rattle.std.proofs.Common.{◌≡◌, ◌≤◌, ℕ, true, false, List, [], Some, None, Option, Ok, is_none, refl, ap, sym, ◌∙◌, subst}
 use Rattle.std.specs.List.{AllByRecursion}
 use Rattle.action_eval.specs.declared.rig.Rig.{Rig}
 use Rattle.action_eval.specs.declared.rig.Kind.{Kind}
 use Rattle.grown_plans.specs.GrownPlans.{Subject}
 use Rattle.grown_plans.proofs.Members.{all_weaker}
-use Rattle.answer_text.specs.Runs.{known_runs, runs_of, told_in}
+use Rattle.answer_text.specs.Runs.{known_runs, known_strangers, runs_of, told_in}
 use Rattle.answer_text.specs.declared.runs.RunLine.{RunLine}
 use Rattle.known_runs.specs.KnownPart.{are_told, known_part, to_run}
 use Rattle.known_runs.specs.ToldPart.{part_known}
 use Rattle.known_runs.specs.SeenPromises.{KeepsPromisesAsSeen}
 use Rattle.known_runs.proofs.Listed.{filter_all, part_is}
 use Rattle.known_runs.proofs.Seen.{ends_as_seen}
+use Rattle.answered_runs.specs.KnownLists.{KnownList}
 use Rattle.answered_runs.specs.Answered.{Answered, known_plans, runs_in}
 use Rattle.answered_runs.specs.Components.{AgreesWithRuns, IsComponent}
 use Rattle.answered_runs.specs.WholeList.{AreAllTold}
@@ -25,17 +25,20 @@ use Rattle.answered_campaigns.specs.Kinds.{listed_kinds}
 use Rattle.answered_campaigns.specs.Grown.{campaign, untried}
 use Rattle.answered_campaigns.specs.Questions.{AreUnbroken, IsReportedText, Tells}
 use Rattle.answered_campaigns.specs.Seen.{IsReportAsSeen, first_number_seen, report_seen_in}
-use Rattle.answered_campaigns.specs.declared.fault.QuestionFault.{QuestionFault}
 use Rattle.answered_campaigns.specs.inside.Outcomes.{IsFirstNumberOf, IsTextOf}
 use Rattle.answered_campaigns.proofs.Reports.{grower_is}
 use Rattle.answered_campaigns.proofs.Wholes.{is_whole}
 
 pub tells : (outside : Description) (answers : List ℕ) (a : Answered) (codes points : List (List ℕ)) → codes ≡ outside.codes → points ≡ outside.points → a.points ≡ outside.points
-    → a.listed ≡ listed_kinds outside → told_in a.book ≡ known_runs codes points answers → (lines : List RunLine) × (runs_of codes points answers ≡ Ok lines) → Tells outside answers a
-tells outside answers a codes points codes_are points_are same kinds told read = record {
+    → a.listed ≡ listed_kinds outside → told_in a.book ≡ known_runs codes points answers → a.book.strangers ≡ known_strangers points (runs_of codes points answers)
+    → (lines : List RunLine) × (runs_of codes points answers ≡ Ok lines) → Tells outside answers a
+tells outside answers a codes points codes_are points_are same kinds told strangers read = record {
   points = same;
   listed = kinds;
   told = told ∙ ap (λ (cs : List (List ℕ)). known_runs cs points answers) codes_are ∙ ap (λ (ps : List (List ℕ)). known_runs outside.codes ps answers) points_are;
+  strangers =
+      strangers ∙ ap (λ (cs : List (List ℕ)). known_strangers points (runs_of cs points answers)) codes_are
+      ∙ ap (λ (ps : List (List ℕ)). known_strangers ps (runs_of outside.codes ps answers)) points_are;
   lines = read.0;
   read = ap (λ (cs : List (List ℕ)). runs_of outside.codes cs answers) (sym points_are) ∙ ap (λ (cs : List (List ℕ)). runs_of cs points answers) (sym codes_are) ∙ read.1;
 }
@@ -72,10 +75,10 @@ as_seen form outside given a depth text first low same is_text is_first told t i
       promises = subst (λ (g : Subject). KeepsPromisesAsSeen g depth (runs_in a)) own (ends_as_seen t is.lawful depth (runs_in a) done);
     }
 
-reported_text : (form : Form) (outside : Description) (given : Given) (a : Answered) (depth : ℕ) (answers text : List ℕ) (first : Option ℕ) → depth ≤ 64 → Tells outside answers a
+pub reported : (form : Form) (outside : Description) (given : Given) (a : Answered) (depth : ℕ) (answers text : List ℕ) (first : Option ℕ) → depth ≤ 64 → Tells outside answers a
     → IsTextOf form outside given a depth text → IsFirstNumberOf outside given a depth first → AreUnbroken a depth → AreAllTold (runs_in a) (known_plans a depth) → untried a depth given.plans ≡ []
     → IsReportedText form outside given depth answers text first
-reported_text form outside given a depth answers text first low t is_text is_first unbroken told all = record {
+reported form outside given a depth answers text first low t is_text is_first unbroken told all = record {
   runs = a;
   tells = t;
   unbroken = unbroken;
@@ -85,10 +88,6 @@ reported_text form outside given a depth answers text first low t is_text is_fir
       (subst (λ (ps : List (List ℕ)). IsComponent ps a.listed s) (sym t.points) (subst (λ (ls : List (List Kind)). IsComponent outside.points ls s) (sym t.listed) agrees.component)) (subst (AgreesWithRuns s) (sym t.told) agrees.agrees);
 }
 
-pub reported : {A : Type 0} (form : Form) (outside : Description) (given : Given) (a : Answered) (depth : ℕ) (answers : List ℕ) (text : A → List ℕ) (first : A → Option ℕ)
-    (result : Result A QuestionFault) → depth ≤ 64 → Tells outside answers a → IfOk result (λ r. IsTextOf form outside given a depth (text r)) → IfOk result (λ r. IsFirstNumberOf outside given a depth (first r))
-    → OnOk result (AreUnbroken a depth) → OnOk result (AreAllTold (runs_in a) (known_plans a depth)) → OnOk result (untried a depth given.plans ≡ [])
-    → IfOk result (λ r. IsReportedText form outside given depth answers (text r) (first r))
-reported form outside given a depth answers text first (Ok r) low t is_text is_first unbroken told all =
-    reported_text form outside given a depth answers (text r) (first r) low t is_text is_first unbroken told all
-reported form outside given a depth answers text first (Err e) low t is_text is_first unbroken told all = tt
+-- what is so of the answers and the depth that known plans have
+pub at_known : (P : Answered → ℕ → Type 0) (k : KnownList) (a : Answered) (depth : ℕ) → (k.answered ≡ a) × (k.depth ≡ depth) → P k.answered k.depth → P a depth
+at_known P k a depth same is = subst (λ (n : ℕ). P a n) same.1 (subst (λ (x : Answered). P x k.depth) same.0 is)

@@ -28,10 +28,10 @@ use Rattle.outside_campaign.specs.declared.refusal.OutsideFault.TheVariants as r
 use Rattle.outside_grown.specs.Asked.{to_try, undecided, unrun}
 use Rattle.outside_grown.specs.Further.{further_told}
 use Rattle.answered_campaigns.specs.Grown.{candidates, known, listed, or_else, untried}
-use Rattle.answered_campaigns.specs.Questions.{RefusesBy}
+use Rattle.answered_campaigns.specs.Questions.{RefusesAsks, RefusesBy}
 use Rattle.answered_campaigns.specs.declared.fault.QuestionFault.{QuestionFault}
 use Rattle.answered_campaigns.specs.declared.fault.QuestionFault.TheVariants as fault
-use Rattle.answered_campaigns.specs.inside.Outcomes.{IsFirstOf, IsGapFault, IsOpenPlan, RefusesAsks}
+use Rattle.answered_campaigns.specs.inside.Outcomes.{IsFirstOf, IsGapFault, IsOpenPlan}
 
 -- ---- known plans
 

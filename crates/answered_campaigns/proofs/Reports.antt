@@ -42,7 +42,8 @@ use Rattle.grown_runs.specs.GrownRuns.{cause_at, over}
 use Rattle.report.specs.Reports.{CauseFacts}
 use Rattle.answered_runs.specs.Answered.{runs_in}
 use Rattle.answered_runs.specs.WholeList.{unseen_count}
-use Rattle.answered_runs.specs.declared.whole.Listed.{Listed}
+use Rattle.answered_runs.specs.KnownLists.{KnownList}
+use Rattle.grown_plans.specs.declared.grown_list.GrownList.{GrownList}
 use Rattle.campaign_core.specs.Findings.{cause_of}
 use Rattle.outside_campaign.specs.Asked.{known_failures}
 use Rattle.report_json.specs.About.{ShownFacts, shown_of}
@@ -53,7 +54,6 @@ use Rattle.outside_campaign.proofs.ResultLemmas.{failures_are_first}
 use Rattle.outside_grown.specs.Further.{census_seen, clean_hits}
 use Rattle.outside_grown.specs.Lists.{list_known}
 use Rattle.outside_grown.specs.Reached.{reached_seen}
-use Rattle.outside_grown.specs.declared.listing.GrownLists.{GrownLists}
 use Rattle.answered_campaigns.specs.Grown.{campaign, known}
 use Rattle.answered_campaigns.specs.Seen.{growth_seen, onward_seen, plans_seen, report_seen, shown_seen}
 use Rattle.answered_campaigns.specs.declared.candidates.Told.{Told}
@@ -205,18 +205,17 @@ module _ (outside : Description) (given : Given) (a : Answered) (depth : ℕ) (t
   abbrev causes_over : List Entries → List (List Rig) → List CauseFacts
   causes_over list these = map (cause_of list) (over (cause_at t given.plans.seed) these 0 (length these))
 
-  pub grew : (l : Listed) (list : List Entries) (most : List ℕ) (causes : List (ℕ × ℕ)) → AreKnown t depth runs l.known → l.unseen ≡ unseen_count runs l.known.plans → list ≡ plans_seen c depth runs
-      → most ≡ reached_seen t depth runs → causes ≡ over (cause_at t given.plans.seed) l.known.plans 0 (length l.known.plans)
-      → grew_by l.known.levels.items l.known.onward l.known.beyond l.unseen most (map (cause_of list) causes)
-      ≡ growth_seen (grower c) given.plans.seed (plans_seen c depth runs) depth runs
-  grew l list most causes known untold e reached_is caused =
+  pub grew : (l : GrownList) (untold : ℕ) (list : List Entries) (most : List ℕ) (causes : List (ℕ × ℕ)) → AreKnown t depth runs l → untold ≡ unseen_count runs l.plans → list ≡ plans_seen c depth runs
+      → most ≡ reached_seen t depth runs → causes ≡ over (cause_at t given.plans.seed) l.plans 0 (length l.plans)
+      → grew_by l.levels.items l.onward l.beyond untold most (map (cause_of list) causes) ≡ growth_seen (grower c) given.plans.seed (plans_seen c depth runs) depth runs
+  grew l untold list most causes known unseen_is e reached_is caused =
       let levels : List ℕ = map (level_size t runs) (range_with_len 0 (depth + 1)) in
       let past : ℕ = level_size t runs (depth + 1) in
       let part : List (List Rig) = known_part t depth runs in
-      ap (λ (x : List ℕ). grew_by x l.known.onward l.known.beyond l.unseen most (map (cause_of list) causes)) known.levels
-      ∙ ap (λ (x : ℕ). grew_by levels x l.known.beyond l.unseen most (map (cause_of list) causes)) known.onward
-      ∙ ap (λ (x : ℕ). grew_by levels (onward_seen t depth runs) x l.unseen most (map (cause_of list) causes)) known.beyond
-      ∙ ap (λ (x : ℕ). grew_by levels (onward_seen t depth runs) past x most (map (cause_of list) causes)) (untold ∙ ap (unseen_count runs) known.plans)
+      ap (λ (x : List ℕ). grew_by x l.onward l.beyond untold most (map (cause_of list) causes)) known.levels
+      ∙ ap (λ (x : ℕ). grew_by levels x l.beyond untold most (map (cause_of list) causes)) known.onward
+      ∙ ap (λ (x : ℕ). grew_by levels (onward_seen t depth runs) x untold most (map (cause_of list) causes)) known.beyond
+      ∙ ap (λ (x : ℕ). grew_by levels (onward_seen t depth runs) past x most (map (cause_of list) causes)) (unseen_is ∙ ap (unseen_count runs) known.plans)
       ∙ ap (λ (x : List ℕ). grew_by levels (onward_seen t depth runs) past (unseen_count runs part) x (map (cause_of list) causes)) reached_is
       ∙ ap (λ (x : List (ℕ × ℕ)). grew_by levels (onward_seen t depth runs) past (unseen_count runs part) (reached_seen t depth runs) (map (cause_of list) x)) caused
       ∙ ap (λ (x : List (List Rig)). grew_by levels (onward_seen t depth runs) past (unseen_count runs part) (reached_seen t depth runs) (causes_over list x)) known.plans
@@ -226,15 +225,15 @@ module _ (outside : Description) (given : Given) (a : Answered) (depth : ℕ) (t
   abbrev shown_by : List Entries → List (List Rig) → ShownFacts
   shown_by list these = shown_of list these given.plans.storms (length given.plans.listed) given.source
 
-  pub shown_is : (l : Listed) (list : List Entries) → AreKnown t depth runs l.known → list ≡ plans_seen c depth runs → shown_by list l.known.plans ≡ shown_seen c depth runs
+  pub shown_is : (l : GrownList) (list : List Entries) → AreKnown t depth runs l → list ≡ plans_seen c depth runs → shown_by list l.plans ≡ shown_seen c depth runs
   shown_is l list known e =
-      ap (λ (x : List Entries). shown_by x l.known.plans) e
+      ap (λ (x : List Entries). shown_by x l.plans) e
       ∙ ap (λ (x : List (List Rig)). shown_by (plans_seen c depth runs) x) (known.plans ∙ ap (λ (g : Subject). known_part g depth runs) (sym grower_is))
 
 -- the text of a report by what is told is that of each component that agrees
-pub text_is : (form : Form) (outside : Description) (given : Given) (a : Answered) (depth : ℕ) (lists : GrownLists) (list : List Entries) (all : List Verdict) (told : Told)
-    (counts most : List ℕ) (facts' : ReportFacts) (shown' : ShownFacts) (text : List ℕ) → IsDecided outside given a depth lists list all told → IsCleanCensus a counts
-    → ((t : Subject) → IsComponent a.points a.listed t → depth ≤ 64 → AgreesWithRuns t (told_in a.book) → lists.listed.known.plans ≡ known_part t depth (runs_in a) → most ≡ reached_seen t depth (runs_in a))
+pub text_is : (form : Form) (outside : Description) (given : Given) (k : KnownList) (further list : List Entries) (all : List Verdict) (told : Told) (counts most : List ℕ) (untold : ℕ) (facts' : ReportFacts)
+    (shown' : ShownFacts) (text : List ℕ) → IsDecided outside given k further list all told → IsCleanCensus k.answered counts → untold ≡ unseen_count (runs_in k.answered) k.list.plans
+    → ((t : Subject) → IsComponent k.answered.points k.answered.listed t → AgreesWithRuns t (told_in k.answered.book) → most ≡ reached_seen t k.depth (runs_in k.answered))
     → facts' ≡ record {
       label = outside.label;
       seed = given.plans.seed;
@@ -244,24 +243,25 @@ pub text_is : (form : Form) (outside : Description) (given : Given) (a : Answere
       unmet = 0;
       findings = told.findings.items;
       growth = Some (record {
-        depth = depth;
-        levels = lists.listed.known.levels.items;
-        onward = lists.listed.known.onward;
-        beyond = lists.listed.known.beyond;
-        unseen = lists.listed.unseen;
+        depth = k.depth;
+        levels = k.list.levels.items;
+        onward = k.list.onward;
+        beyond = k.list.beyond;
+        unseen = untold;
         reached = most;
         causes = map (cause_of list) told.causes.items;
       });
     }
-    → shown' ≡ shown_of list lists.listed.known.plans given.plans.storms (length given.plans.listed) given.source
-    → text ≡ text_in form outside.points (code_name outside.codes) (runs_told outside (told_in a.book)) facts' shown' → IsTextOf form outside given a depth text
-text_is form outside given a depth lists list all told counts most facts' shown' text d counted reaches facts_are shown_are is_text t is agrees =
+    → shown' ≡ shown_of list k.list.plans given.plans.storms (length given.plans.listed) given.source
+    → text ≡ text_in form outside.points (code_name outside.codes) (runs_told outside (told_in k.answered.book)) facts' shown' → IsTextOf form outside given k.answered k.depth text
+text_is form outside given k further list all told counts most untold facts' shown' text d counted unseen_is reaches facts_are shown_are is_text t is agrees =
+    let a = k.answered in
+    let depth = k.depth in
     let c' : Campaign = campaign outside given depth t in
     let whole = d.lists_are.whole t is agrees in
-    let e : list ≡ plans_seen c' depth (runs_in a) = plans_are outside given a depth t is agrees d.low d.points list (d.plans_are ∙ whole.list) in
+    let e : list ≡ plans_seen c' depth (runs_in a) = plans_are outside given a depth t is agrees d.low d.points list (d.plans_are ∙ whole.whole) in
     let family = agree_each outside given a depth t is agrees d.low d.points in
-    let growth' = grew outside given a depth t is agrees d.low d.points lists.listed list most told.causes.items whole.grown d.lists_are.unseen e
-    (reaches t is d.low agrees whole.grown.plans) (d.told_is.causes t is d.low agrees given.plans.seed) in
+    let growth' = grew outside given a depth t is agrees d.low d.points k.list untold list most told.causes.items whole.grown unseen_is e (reaches t is agrees) (d.told_is.causes t is d.low agrees given.plans.seed) in
     let report' = report_is outside given a depth t is agrees d.low d.points list all told.findings.items (known_failures (known a depth) list) counts _ e d.lawful
     (d.verdicts (say c') family) (d.told_is.findings (say c') family)
     (failures_are_first (known a depth) list (say c') d.lawful family d.none_open)
@@ -269,24 +269,26 @@ text_is form outside given a depth lists list all told counts most facts' shown'
     let tell : Telling = runs_told outside (told_in a.book) in
     is_text ∙ ap (λ (r : ReportFacts). text_in form outside.points (code_name outside.codes) tell r shown') (facts_are ∙ report')
     ∙ ap (λ (s : ShownFacts). text_in form outside.points (code_name outside.codes) tell (report_seen c' depth (runs_in a)) s)
-    (shown_are ∙ shown_is outside given a depth t is agrees d.low d.points lists.listed list whole.grown e)
+    (shown_are ∙ shown_is outside given a depth t is agrees d.low d.points k.list list whole.grown e)
 
 -- the plans that grew come first
-pub grown_first : (outside : Description) (given : Given) (a : Answered) (depth : ℕ) (lists : GrownLists) (list : List Entries) (all : List Verdict) (told : Told)
-    → IsDecided outside given a depth lists list all told → take (length lists.listed.known.plans) list ≡ grown_scenarios outside.points lists.listed.known.plans
-grown_first outside given a depth lists list all told d =
-    let grew : List (List Rig) = lists.listed.known.plans in
+pub grown_first : (outside : Description) (given : Given) (k : KnownList) (further list : List Entries) (all : List Verdict) (told : Told) → IsDecided outside given k further list all told
+    → take (length k.list.plans) list ≡ grown_scenarios outside.points k.list.plans
+grown_first outside given k further list all told d =
+    let grew : List (List Rig) = k.list.plans in
     ap (take (length grew)) d.plans_are
-    ∙ ap (λ (n : ℕ). take n (grown_scenarios a.points grew ++ lists.further)) (sym (length-map grew (grown_scenario a.points)))
-    ∙ take-append_seam (grown_scenarios a.points grew) lists.further ∙ ap (λ (names : List (List ℕ)). grown_scenarios names grew) d.points
+    ∙ ap (λ (n : ℕ). take n (grown_scenarios k.answered.points grew ++ further)) (sym (length-map grew (grown_scenario k.answered.points)))
+    ∙ take-append_seam (grown_scenarios k.answered.points grew) further ∙ ap (λ (names : List (List ℕ)). grown_scenarios names grew) d.points
 
 -- the number of the first failure that is told is that of each component's first plan that fails
-pub first_is : (outside : Description) (given : Given) (a : Answered) (depth : ℕ) (lists : GrownLists) (list : List Entries) (all : List Verdict) (told : Told) (first : Option ℕ)
-    → IsDecided outside given a depth lists list all told → first ≡ option_map (λ (f : FindingFacts). f.number) (slice_get told.findings.items 0) → IsFirstNumberOf outside given a depth first
-first_is outside given a depth lists list all told first d is_first t is agrees =
+pub first_is : (outside : Description) (given : Given) (k : KnownList) (further list : List Entries) (all : List Verdict) (told : Told) (first : Option ℕ) → IsDecided outside given k further list all told
+    → first ≡ option_map (λ (f : FindingFacts). f.number) (slice_get told.findings.items 0) → IsFirstNumberOf outside given k.answered k.depth first
+first_is outside given k further list all told first d is_first t is agrees =
+    let a = k.answered in
+    let depth = k.depth in
     let c' : Campaign = campaign outside given depth t in
     let whole = d.lists_are.whole t is agrees in
-    let e : list ≡ plans_seen c' depth (runs_in a) = plans_are outside given a depth t is agrees d.low d.points list (d.plans_are ∙ whole.list) in
+    let e : list ≡ plans_seen c' depth (runs_in a) = plans_are outside given a depth t is agrees d.low d.points list (d.plans_are ∙ whole.whole) in
     let family = agree_each outside given a depth t is agrees d.low d.points in
     let f : Say = say c' in
     let verdicts : verdicts_from (say_each f) 0 list ≡ verdicts_from f 0 list = verdicts_alike f (alike outside given a depth t is agrees d.low d.points) 0 list d.lawful in
@@ -302,17 +304,15 @@ first_is outside given a depth lists list all told first d is_first t is agrees 
     number_of f list (x ∷ xs) = refl
 
 -- each cause that is told is a plan of the list
-pub cause_within : (outside : Description) (given : Given) (a : Answered) (depth : ℕ) (lists : GrownLists) (list : List Entries) (all : List Verdict) (told : Told) (causes : List (ℕ × ℕ))
-    → IsDecided outside given a depth lists list all told → causes ≡ told.causes.items → (k : ℕ) (d : ℕ × ℕ) → k < length causes → (slice_index_or causes k d).0 < length list
-cause_within outside given a depth lists list all told causes decided is k d within =
-    let among = decided.told_is.among k d (subst (λ (xs : List (ℕ × ℕ)). k < length xs) is within) in
-    let here : (slice_index_or causes k d).0 < length lists.listed.known.plans =
-    subst (λ (xs : List (ℕ × ℕ)). (slice_index_or xs k d).0 < length lists.listed.known.plans) (sym is) among in
-    let parts : length list ≡ length lists.listed.known.plans + length lists.further =
-    ap length decided.plans_are ∙ length-append (grown_scenarios a.points lists.listed.known.plans) lists.further
-    ∙ ap (λ (n : ℕ). n + length lists.further) (length-map' lists.listed.known.plans) in
+pub cause_within : (outside : Description) (given : Given) (k : KnownList) (further list : List Entries) (all : List Verdict) (told : Told) (causes : List (ℕ × ℕ)) → IsDecided outside given k further list all told
+    → causes ≡ told.causes.items → (n : ℕ) (d : ℕ × ℕ) → n < length causes → (slice_index_or causes n d).0 < length list
+cause_within outside given k further list all told causes decided is n d within =
+    let among = decided.told_is.among n d (subst (λ (xs : List (ℕ × ℕ)). n < length xs) is within) in
+    let here : (slice_index_or causes n d).0 < length k.list.plans = subst (λ (xs : List (ℕ × ℕ)). (slice_index_or xs n d).0 < length k.list.plans) (sym is) among in
+    let parts : length list ≡ length k.list.plans + length further =
+    ap length decided.plans_are ∙ length-append (grown_scenarios k.answered.points k.list.plans) further ∙ ap (λ (n : ℕ). n + length further) (length-map' k.list.plans) in
     omega (arith, here, parts)
   where
-    length-map' : (plans : List (List Rig)) → length (grown_scenarios a.points plans) ≡ length plans
+    length-map' : (plans : List (List Rig)) → length (grown_scenarios k.answered.points plans) ≡ length plans
     length-map' [] = refl
     length-map' (p ∷ ps) = let rest = length-map' ps in omega (arith, rest)

@@ -1,5 +1,5 @@
 -- What is told of a campaign whose plans are all decided.
-use Rattle.std.proofs.Common.{◌≡◌, ◌≤◌, ◌<◌, ◌++◌, ℕ, List, [], ◌∷◌, None, Some, Option, Result, Ok, Err, IsErrAnd, length, map, ap, sym, ◌∙◌, subst, arith}
+use Rattle.std.proofs.Common.{◌≡◌, ◌≤◌, ◌<◌, ◌++◌, ℕ, List, [], ◌∷◌, Some, Result, Ok, Err, IsErrAnd, length, map, ap, sym, ◌∙◌, subst, arith}
 use Rattle.std.specs.Prelude.{IfErr}
 use Rattle.std.specs.List.{AllByRecursion}
 use Rattle.std.proofs.lemmas.List.{length-map}
@@ -14,10 +14,8 @@ use Rattle.answer_text.specs.Known.{KnownVerdicts}
 use Rattle.answer_text.specs.Runs.{told_in}
 use Rattle.answered_runs.specs.Answered.{Answered, known_plans, runs_in}
 use Rattle.answered_runs.specs.Components.{AgreesWithRuns, IsComponent}
-use Rattle.answered_runs.specs.WholeList.{AreAllTold, AreTold, unseen_count}
-use Rattle.answered_runs.specs.KnownLists.{IsKnownList}
-use Rattle.grown_plans.specs.declared.grown_list.GrownList.{GrownList}
-use Rattle.known_runs.specs.KnownPlans.{AreKnown}
+use Rattle.answered_runs.specs.WholeList.{AreAllTold}
+use Rattle.answered_runs.specs.KnownLists.{IsKnownList, KnownList}
 use Rattle.campaign_given.specs.Description.{Description}
 use Rattle.campaign_given.specs.Given.{Given}
 use Rattle.result_book.specs.Verdicts.{verdicts_from}
@@ -25,8 +23,7 @@ use Rattle.outside_campaign.specs.Asked.{open_plans, plan_verdicts}
 use Rattle.outside_campaign.specs.Outside.{Components, EachAgrees, say_each}
 use Rattle.outside_grown.specs.Causes.{open_scenarios}
 use Rattle.outside_grown.specs.Further.{HasFewHits, further_told}
-use Rattle.outside_grown.specs.Lists.{AreListsOf}
-use Rattle.outside_grown.specs.declared.listing.GrownLists.{GrownLists}
+use Rattle.outside_grown.specs.Lists.{IsListOf}
 use Rattle.answered_campaigns.specs.Grown.{candidates, known, listed}
 use Rattle.answered_campaigns.specs.declared.candidates.Told.{Told}
 use Rattle.answered_campaigns.specs.declared.fault.QuestionFault.{QuestionFault}
@@ -38,30 +35,27 @@ pub err_with : {A : Type 0} (P : QuestionFault → Type 0) (result : Result A Qu
 err_with P (Ok x) why is h = tt
 err_with P (Err e) why is h = subst P (sym is) h
 
--- the lists, by the answers and the depth as contracts see them
-pub lists_told : (old new : Answered × ℕ) (asked' asked : Asked) (lists : GrownLists) (list : GrownList) → old ≡ new → asked' ≡ asked → IsKnownList new.0 new.1 list → lists.listed.known ≡ list
-    → lists.further ≡ further_told old.0 asked' → lists.listed.gap ≡ None → AreTold (runs_in old.0) list.plans lists.listed.gap
-    → (lists.listed.gap ≡ None → lists.listed.unseen ≡ unseen_count (runs_in old.0) list.plans)
-    → ((t : Subject) (d : ℕ) → AreKnown t d (runs_in old.0) list → IsComponent old.0.points old.0.listed t → AgreesWithRuns t (told_in old.0.book) → AreListsOf t d asked' old.0 lists) → AreToldLists new.0 new.1 asked lists
-lists_told old new asked' asked lists list at alike is same further none told unseen whole =
-    let plans : lists.listed.known.plans ≡ list.plans = ap (λ (k : GrownList). k.plans) same in
-    let each = subst (λ (k : Answered × ℕ). (t : Subject) (d : ℕ) → AreKnown t d (runs_in k.0) list → IsComponent k.0.points k.0.listed t → AgreesWithRuns t (told_in k.0.book) → AreListsOf t d asked' k.0 lists) at whole in
-    record {
-      grown = plans ∙ is.plans;
-      further = further ∙ ap (λ (k : Answered × ℕ). further_told k.0 asked') at ∙ ap (further_told new.0) alike;
-      told =
-          subst (λ (ps : List (List Rig)). AreAllTold (runs_in new.0) ps) (sym plans)
-          (subst (λ (k : Answered × ℕ). AreAllTold (runs_in k.0) list.plans) at (subst (λ (o : Option ℕ). AreTold (runs_in old.0) list.plans o) none told));
-      unseen =
-          unseen none ∙ ap (λ (k : Answered × ℕ). unseen_count (runs_in k.0) list.plans) at ∙ ap (λ (ps : List (List Rig)). unseen_count (runs_in new.0) ps) (sym plans);
-      whole = λ t here agrees. subst (λ (x : Asked). AreListsOf t new.1 x new.0 lists) alike (each t new.1 (is.known t here agrees) here agrees);
-    }
+-- the list, by the settings as contracts see them
+pub lists_told : (k : KnownList) (asked' asked : Asked) (further : List Entries) → asked' ≡ asked → IsKnownList k.answered k.depth k.list → further ≡ further_told k.answered asked' → AreAllTold (runs_in k.answered) k.list.plans
+    → ((t : Subject) → IsComponent k.answered.points k.answered.listed t → AgreesWithRuns t (told_in k.answered.book) → IsListOf t k.depth asked' k.answered k.list further) → AreToldLists k asked further
+lists_told k asked' asked further alike is behind told whole = record {
+  grown = is.plans;
+  further_are = behind ∙ ap (further_told k.answered) alike;
+  told = told;
+  whole = λ t here agrees. subst (λ (x : Asked). IsListOf t k.depth x k.answered k.list further) alike (whole t here agrees);
+}
 
-pub is_listed : (a : Answered) (depth : ℕ) (asked : Asked) (lists : GrownLists) (plans : List Entries) → AreToldLists a depth asked lists
-    → plans ≡ grown_scenarios a.points lists.listed.known.plans ++ lists.further → plans ≡ listed a depth asked
-is_listed a depth asked lists plans s is =
-    is ∙ ap (λ (ps : List (List Rig)). grown_scenarios a.points ps ++ lists.further) s.grown
-    ∙ ap (λ (l : List Entries). grown_scenarios a.points (known_plans a depth) ++ l) s.further
+pub is_listed : (k : KnownList) (asked : Asked) (further plans : List Entries) → AreToldLists k asked further → plans ≡ grown_scenarios k.answered.points k.list.plans ++ further → plans ≡ listed k.answered k.depth asked
+is_listed k asked further plans s is =
+    is ∙ ap (λ (ps : List (List Rig)). grown_scenarios k.answered.points ps ++ further) s.grown
+    ∙ ap (λ (l : List Entries). grown_scenarios k.answered.points (known_plans k.answered k.depth) ++ l) s.further_are
+
+-- the same before it is known that each is answered
+pub listed_all : (k : KnownList) (asked' asked : Asked) (further plans : List Entries) → asked' ≡ asked → k.list.plans ≡ known_plans k.answered k.depth → further ≡ further_told k.answered asked'
+    → plans ≡ grown_scenarios k.answered.points k.list.plans ++ further → plans ≡ listed k.answered k.depth asked
+listed_all k asked' asked further plans alike grew behind is =
+    is ∙ ap (λ (ps : List (List Rig)). grown_scenarios k.answered.points ps ++ further) grew
+    ∙ ap (λ (l : List Entries). grown_scenarios k.answered.points (known_plans k.answered k.depth) ++ l) (behind ∙ ap (further_told k.answered) alike)
 
 -- what the reductions and the causes of these plans wait for are the candidates
 pub are_candidates : (a : Answered) (depth : ℕ) (asked : Asked) (plans : List Entries) (grew : List (List Rig)) → plans ≡ listed a depth asked → grew ≡ known_plans a depth
@@ -85,11 +79,10 @@ AreAllVerdicts k plans v =
 pub each_verdict : (k : KnownVerdicts) (plans : List Entries) (all : List Verdict) → map (λ v. Some v) all ≡ plan_verdicts k plans → length all ≡ length plans
 each_verdict k plans all is = sym (length-map all (λ (v : Verdict). Some v)) ∙ ap length is ∙ length-map plans (λ (p : Entries). k (tidied p))
 
-pub decide : (outside : Description) (given : Given) (a : Answered) (depth : ℕ) (lists : GrownLists) (plans : List Entries) (all v : List Verdict) (told : Told) → a.points ≡ outside.points
-    → depth ≤ 64 → HasFewHits a → AreToldLists a depth given.plans lists → plans ≡ grown_scenarios a.points lists.listed.known.plans ++ lists.further
-    → AllByRecursion (λ s. IsScenario s) plans → all ≡ v → AreAllVerdicts (known a depth) plans v → IsTold a depth plans lists.listed.known.plans told
-    → IsDecided outside given a depth lists plans all told
-decide outside given a depth lists plans all v told points low clean s is lawful same verdicts h = record {
+pub decide : (outside : Description) (given : Given) (k : KnownList) (further plans : List Entries) (all v : List Verdict) (told : Told) → k.answered.points ≡ outside.points → k.depth ≤ 64 → HasFewHits k.answered
+    → AreToldLists k given.plans further → plans ≡ grown_scenarios k.answered.points k.list.plans ++ further → AllByRecursion (λ s. IsScenario s) plans → all ≡ v → AreAllVerdicts (known k.answered k.depth) plans v
+    → IsTold k.answered k.depth plans k.list.plans told → IsDecided outside given k further plans all told
+decide outside given k further plans all v told points low clean s is lawful same verdicts h = record {
   points = points;
   low = low;
   clean = clean;
@@ -98,21 +91,21 @@ decide outside given a depth lists plans all v told points low clean s is lawful
   lawful = lawful;
   none_open = verdicts.1;
   verdicts = λ components agrees. same ∙ verdicts.2 components agrees;
-  many = ap length same ∙ each_verdict (known a depth) plans v verdicts.0;
+  many = ap length same ∙ each_verdict (known k.answered k.depth) plans v verdicts.0;
   told_is = h;
 }
 
 -- there is a verdict, since there is a plan
-pub some_verdict : (a : Answered) (depth : ℕ) (asked : Asked) (lists : GrownLists) (plans : List Entries) (all v : List Verdict) → AreToldLists a depth asked lists
-    → plans ≡ grown_scenarios a.points lists.listed.known.plans ++ lists.further → all ≡ v → AreAllVerdicts (known a depth) plans v → 0 < length all
-some_verdict a depth asked lists plans all v s is same verdicts =
-    let many : length all ≡ length plans = ap length same ∙ each_verdict (known a depth) plans v verdicts.0 in
-    let grew : length lists.listed.known.plans ≡ length (known_plans a depth) = ap length s.grown in
-    let parts = parts_of lists.listed.known.plans lists.further in
-    let whole : length plans ≡ length (grown_scenarios a.points lists.listed.known.plans ++ lists.further) = ap length is in
-    let some = some_known a depth in
+pub some_verdict : (k : KnownList) (asked : Asked) (further plans : List Entries) (all v : List Verdict) → AreToldLists k asked further → plans ≡ grown_scenarios k.answered.points k.list.plans ++ further → all ≡ v
+    → AreAllVerdicts (known k.answered k.depth) plans v → 0 < length all
+some_verdict k asked further plans all v s is same verdicts =
+    let many : length all ≡ length plans = ap length same ∙ each_verdict (known k.answered k.depth) plans v verdicts.0 in
+    let grew : length k.list.plans ≡ length (known_plans k.answered k.depth) = ap length s.grown in
+    let parts = parts_of k.list.plans further in
+    let whole : length plans ≡ length (grown_scenarios k.answered.points k.list.plans ++ further) = ap length is in
+    let some = some_known k.answered k.depth in
     omega (arith, many, grew, parts, whole, some)
   where
-    parts_of : (ps : List (List Rig)) (more : List Entries) → length ps ≤ length (grown_scenarios a.points ps ++ more)
+    parts_of : (ps : List (List Rig)) (more : List Entries) → length ps ≤ length (grown_scenarios k.answered.points ps ++ more)
     parts_of [] more = omega arith
     parts_of (p ∷ ps) more = let rest = parts_of ps more in omega (arith, rest)

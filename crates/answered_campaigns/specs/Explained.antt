@@ -1,5 +1,5 @@
--- The run that a text of answers tells of a scenario, hit by hit.
-use Rattle.std.specs.Prelude.{◌≡◌, ℕ, Bool, List, [], Option, None, Some, Result, Ok, Err, codes, if◌then◌else◌, is_some}
+-- The recorded run of a scenario, hit by hit, by a text of answers.
+use Rattle.std.specs.Prelude.{◌≡◌, ℕ, Bool, List, [], None, Some, Result, Ok, Err, codes, if◌then◌else◌, is_some}
 use Rattle.std.specs.Str.{bytes_eq}
 use Rattle.scenario_values.specs.Scenario.{Entries}
 use Rattle.scenario_values.specs.Tidied.{tidied}
@@ -15,30 +15,28 @@ use Rattle.answer_text.specs.declared.runs.ToldRun.{ToldRun}
 use Rattle.run_explained.specs.ByAnswer.{answer_text}
 use Rattle.campaign_given.specs.Description.{Description}
 use Rattle.campaign_given.specs.Given.{Given}
-use Rattle.campaign_core.specs.Writes.{Change, IsUntouched}
 use Rattle.campaign_core.specs.declared.ending.CampaignFault.TheVariants as campaign
 use Rattle.outside_campaign.specs.Campaigns.{code_name}
 use Rattle.outside_campaign.specs.declared.refusal.OutsideFault.TheVariants as refusal
-use Rattle.answered_campaigns.specs.Questions.{IsWritten, IsWrittenInPart}
 use Rattle.answered_campaigns.specs.declared.fault.QuestionFault.{QuestionFault}
 use Rattle.answered_campaigns.specs.declared.fault.QuestionFault.TheVariants as fault
 
--- the scenario that a text spells, where `none` is the one without entries
+-- The scenario that a text spells. `none` spells the one without entries.
 abbrev pub spelled : List ℕ → Result Entries Fault
 spelled text = if bytes_eq text (codes "none") then Ok [] else reading text
 
--- what a text of answers tells, or its first fault; with a depth each line tells hits
+-- The runs that a text of answers records, or its first fault. With a depth each line has to record hits.
 abbrev pub said : Description → Given → List ℕ → Result (List RunLine) AnswersFault
 said outside given answers = reading_of (is_some given.depth) outside.codes outside.points answers
 
--- the lines of a run that is told with its hits, and whether it fails
+-- These are the lines of a run whose hits are recorded, and `found` says whether it fails.
 pub record IsRunText (outside : Description) (s : Entries) (run : ToldRun) (lines : List ℕ) (found : Bool) : Type 0 where
   pub hits : List Stretch
   pub told : run.hits ≡ Some hits
   pub lines_are : lines ≡ answer_text outside.points (code_name outside.codes) s run.verdict (points_of hits)
   pub found_is : found ≡ is_fail run.verdict
 
--- the same of the run that the answers tell of the scenario of a text, tidied
+-- The same for the recorded run of the scenario that a text spells, once it is tidied.
 pub record IsExplainedText (text : List ℕ) (outside : Description) (given : Given) (answers lines : List ℕ) (found : Bool) : Type 0 where
   pub scenario : Entries
   pub spells : spelled text ≡ Ok scenario
@@ -46,15 +44,7 @@ pub record IsExplainedText (text : List ℕ) (outside : Description) (given : Gi
   pub told : known_of (said outside given answers) (tidied scenario) ≡ Some run
   pub shown : IsRunText outside scenario run lines found
 
--- that was written, and some of its first bytes alone
-abbrev pub IsExplained : List ℕ → Description → Given → List ℕ → Change → Bool → Type 0
-IsExplained text outside given answers w found = IsWritten (λ lines. IsExplainedText text outside given answers lines found) w
-
-abbrev pub IsExplainedInPart : List ℕ → Description → Given → List ℕ → Change → ℕ → Type 0
-IsExplainedInPart text outside given answers w n =
-    IsWrittenInPart (λ lines. (found : Bool) × IsExplainedText text outside given answers lines found) w n
-
--- nothing is told of the scenario of the text, by answers without a fault; this is its tidied form
+-- The answers have no fault, and don't record the run of the scenario that the text spells. `s` is its tidied form.
 pub record IsUntold (text : List ℕ) (outside : Description) (given : Given) (answers : List ℕ) (s : Entries) : Type 0 where
   pub scenario : Entries
   pub spells : spelled text ≡ Ok scenario
@@ -62,17 +52,17 @@ pub record IsUntold (text : List ℕ) (outside : Description) (given : Given) (a
   pub read : (lines : List RunLine) × (said outside given answers ≡ Ok lines)
   pub tidied_is : s ≡ tidied scenario
 
--- a run is told without its hits, on this line
+-- The run is recorded without its hits, in this line.
 abbrev pub IsHidden : ToldRun → ℕ → Type 0
 IsHidden run line = (run.hits ≡ None) × (line ≡ run.line)
 
--- why such a run isn't told
+-- Why a recorded run has no lines: its hits aren't recorded, or memory was refused.
 abbrev pub IsHiddenFault : ToldRun → QuestionFault → Type 0
 IsHiddenFault run (fault.Unseen line) = IsHidden run line
 IsHiddenFault run (fault.Outside (refusal.Campaign campaign.Memory)) = Unit {0}
 IsHiddenFault run _ = ⊥
 
--- the same of the scenario of the text
+-- The run of the scenario that the text spells is recorded without its hits, in this line.
 pub record IsUnseen (text : List ℕ) (outside : Description) (given : Given) (answers : List ℕ) (line : ℕ) : Type 0 where
   pub scenario : Entries
   pub spells : spelled text ≡ Ok scenario
@@ -80,7 +70,7 @@ pub record IsUnseen (text : List ℕ) (outside : Description) (given : Given) (a
   pub told : known_of (said outside given answers) (tidied scenario) ≡ Some run
   pub hidden : IsHidden run line
 
--- why a run isn't explained: the text comes first, and then the answers
+-- Why a run isn't explained: the text spells no scenario, the answers have a fault, or they don't record the run or its hits.
 abbrev pub RefusesText : List ℕ → Description → Given → List ℕ → QuestionFault → Type 0
 RefusesText text outside given answers (fault.Scenario scenario.Memory) = Unit {0}
 RefusesText text outside given answers (fault.Scenario (scenario.Bad kind entry term)) = spelled text ≡ Err (record { kind = kind; entry = entry; term = term })
@@ -92,8 +82,3 @@ RefusesText text outside given answers (fault.Outside (refusal.NotAnswered s)) =
 RefusesText text outside given answers (fault.Outside (refusal.Campaign campaign.TooManyPlans)) = ⊥
 RefusesText text outside given answers (fault.Outside (refusal.Campaign campaign.Memory)) = Unit {0}
 RefusesText text outside given answers (fault.Outside (refusal.Campaign (campaign.Write n))) = ⊥
-
--- and what was written then
-abbrev pub ExplainRefused : List ℕ → Description → Given → List ℕ → Change → QuestionFault → Type 0
-ExplainRefused text outside given answers w (fault.Outside (refusal.Campaign (campaign.Write n))) = IsExplainedInPart text outside given answers w n
-ExplainRefused text outside given answers w why = IsUntouched w × RefusesText text outside given answers why

@@ -1,6 +1,6 @@
--- A campaign with a depth on a component that somebody else runs: its report, for each component that agrees with the answers, and what is still
--- to be tried, by the answers.
-use Rattle.std.specs.Prelude.{◌++◌, ℕ, List, [], ◌∷◌, Option, Some, length, option_map}
+-- A campaign with a depth on a component that somebody else runs: its report, for each component that agrees with the answers, and what is still to
+-- be tried.
+use Rattle.std.specs.Prelude.{◌≡◌, ◌++◌, ℕ, List, [], ◌∷◌, Option, Some, length, option_map}
 use Rattle.scenario_values.specs.Scenario.{Entries}
 use Rattle.plan_gen.specs.PlanList.{Asked}
 use Rattle.campaign_plans.specs.GrownScenarios.{grown_scenarios}
@@ -26,12 +26,12 @@ use Rattle.answered_campaigns.specs.Kinds.{listed_kinds}
 
 -- ---- the report
 
--- a component that keeps a target's laws, whose faults are of the kinds that the settings list, and that agrees with each line of the answers
+-- A component that keeps a target's laws and agrees with each line of the answers. Its kinds of faults are those that the settings list.
 pub record AgreesWithAnswers (outside : Description) (answers : List ℕ) (t : Subject) : Type 0 where
   pub component : IsComponent outside.points (listed_kinds outside) t
   pub agrees : AgreesWithRuns t (known_runs outside.codes outside.points answers)
 
--- its campaign, as that of a target which the program runs itself
+-- The component's campaign, as that of a target which the program runs itself.
 abbrev pub campaign : Description → Given → ℕ → Subject → Campaign
 campaign outside given depth t = record {
   asks = t.asks;
@@ -49,29 +49,33 @@ campaign outside given depth t = record {
   };
 }
 
--- what is shown of it beside its report
+-- What is shown of the campaign beside its report.
 abbrev pub shown : Campaign → ShownFacts
 shown c = shown_of (plans c) (grown_to c c.given.depth) c.given.plans.storms (length c.given.plans.listed) c.given.source
 
--- with the runs that are told
+-- The report in a form, with the recorded runs.
 abbrev pub report_in : Form → Campaign → KnownRuns → List ℕ
 report_in form c told = text_in form c.points c.codes (telling c.points c.codes told) (report c) (shown c)
 
--- the least number of a plan that fails
+-- The lowest number of a plan that fails.
 abbrev pub first_number : Campaign → Option ℕ
 first_number c = option_map (λ first. first.0) (first_failure c)
 
 -- ---- what is still to be tried
 
--- what is known of scenarios: what is told of them, and what follows from runs that are told
+-- The known verdicts of scenarios: those that are recorded, and those that follow from recorded runs.
 abbrev pub known : Answered → ℕ → KnownVerdicts
 known a depth = verdict_by a.points (told_in a.book) depth
 
--- the plans that are known by now
+-- The plans that are known by now: those that grow, and then the storms and listed scenarios.
 abbrev pub listed : Answered → ℕ → Asked → List Entries
 listed a depth asked = grown_scenarios a.points (known_plans a depth) ++ further_told a asked
 
--- on what it depends what plans come to whose runs are all known: what the first failures are reduced to, and which plans are causes
+-- These are the first of the scenarios.
+abbrev pub BeginsWith : List Entries → List Entries → Type 0
+BeginsWith first all = (rest : List Entries) × (all ≡ first ++ rest)
+
+-- The scenarios that decide the rest once every plan is answered: what the first failures are reduced to, and which plans are causes.
 abbrev pub candidates : Answered → ℕ → Asked → List Entries
 candidates a depth asked =
     open_requests (known a depth) (listed a depth asked) (known_failures (known a depth) (listed a depth asked)) ++ open_scenarios a depth (known_plans a depth)
@@ -80,6 +84,6 @@ abbrev pub or_else : List Entries → List Entries → List Entries
 or_else [] others = others
 or_else (s ∷ more) others = s ∷ more
 
--- the plans that aren't answered, and where each is, those candidates
+-- What is still to be tried: the plans that aren't answered or, if there are none, those candidates.
 abbrev pub untried : Answered → ℕ → Asked → List Entries
 untried a depth asked = or_else (to_try a depth asked) (candidates a depth asked)

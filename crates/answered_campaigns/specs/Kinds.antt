@@ -10,6 +10,6 @@ abbrev pub kind_of : TriedFault → Kind
 kind_of (Return text) = OnceReturn text
 kind_of Panic = OncePanic
 
--- for each point, in the order of the points; none where the usual ones are tried
+-- The kinds that are listed for each point, in the order of the points. A point's list is empty if the usual kinds are tried there.
 abbrev pub listed_kinds : Description → List (List Kind)
 listed_kinds outside = map (map kind_of) outside.kinds

@@ -1,4 +1,4 @@
--- The report of a campaign with a depth as far as its runs were seen: nothing grows from a run that is told without its hits.
+-- The report of a campaign with a depth, as far as its runs were seen. No plans grow from a run that is recorded without its hits.
 use Rattle.std.specs.Prelude.{◌≡◌, ℕ, ◌+◌, List, [], Option, Some, length, map, option_map, slice_get}
 use Rattle.std.specs.List.{filter, range_with_len}
 use Rattle.scenario_values.specs.Scenario.{Entries}
@@ -24,15 +24,15 @@ use Rattle.outside_grown.specs.Lists.{list_known}
 use Rattle.outside_grown.specs.Reached.{reached_seen}
 use Rattle.answered_campaigns.specs.Grown.{first_number, report_in}
 
--- the list of plans
+-- The list of the plans that recorded runs make known.
 abbrev pub plans_seen : Campaign → ℕ → KnownRuns → List Entries
 plans_seen c depth known = list_known (grower c) depth c.given.plans known
 
--- how many of them have their last fault from then on
+-- How many of them have a sticky last fault.
 abbrev pub onward_seen : Subject → ℕ → KnownRuns → ℕ
 onward_seen t depth known = length (filter (is_reached_onward known) (onward t depth))
 
--- how they grew
+-- The report's facts on how they grew.
 abbrev pub growth_seen : Subject → ℕ → List Entries → ℕ → KnownRuns → GrowthFacts
 growth_seen t seed plans depth known = record {
   depth = depth;
@@ -44,32 +44,33 @@ growth_seen t seed plans depth known = record {
   causes = map (cause_of plans) (over (cause_at t seed) (known_part t depth known) 0 (length (known_part t depth known)));
 }
 
--- what the report tells
+-- The facts of the report.
 abbrev pub report_seen : Campaign → ℕ → KnownRuns → ReportFacts
 report_seen c depth known =
     report_of (say c) c.label c.given.plans.seed (census_seen (grower c) c.given.plans.seed (hits_of known [])) (plans_seen c depth known)
     (Some (growth_seen (grower c) c.given.plans.seed (plans_seen c depth known) depth known))
 
--- what is shown beside it
+-- What is shown beside the report.
 abbrev pub shown_seen : Campaign → ℕ → KnownRuns → ShownFacts
 shown_seen c depth known =
     shown_of (plans_seen c depth known) (known_part (grower c) depth known) c.given.plans.storms (length c.given.plans.listed) c.given.source
 
--- with the runs that are told
+-- The report in a form, with the recorded runs.
 abbrev pub report_seen_in : Form → Campaign → ToldRuns → ℕ → KnownRuns → List ℕ
 report_seen_in form c told depth known =
     text_in form c.points c.codes (telling c.points c.codes told) (report_seen c depth known) (shown_seen c depth known)
 
--- the least number of a plan that fails
+-- The lowest number of a plan that fails.
 abbrev pub first_number_seen : Campaign → ℕ → KnownRuns → Option ℕ
 first_number_seen c depth known = option_map (λ first. first.0) (slice_get (first_failures (numbered (verdicts_from (say c) 0 (plans_seen c depth known)))) 0)
 
--- where nothing is unseen, a text and a number are those of the whole campaign
+-- A text is the report of the whole campaign, and `first` is the number of its first plan that fails.
 pub record IsReportOf (form : Form) (c : Campaign) (told : ToldRuns) (text : List ℕ) (first : Option ℕ) : Type 0 where
   pub text_is : text ≡ report_in form c told
   pub first_is : first ≡ first_number c
 
--- a text and the number of the first plan that fails are those of a campaign as far as it was seen, whose plans keep their promises so far
+-- A text is the report of a campaign as far as its runs were seen, and `first` is the number of its first plan that fails. If no run is unseen, they
+-- are those of the whole campaign. The plans keep their promises as far as their runs were seen.
 pub record IsReportAsSeen (form : Form) (c : Campaign) (told : ToldRuns) (depth : ℕ) (known : KnownRuns) (text : List ℕ) (first : Option ℕ) : Type 0 where
   pub text_is : text ≡ report_seen_in form c told depth known
   pub first_is : first ≡ first_number_seen c depth known

@@ -1,25 +1,23 @@
-//! Runs that answers tell, hit by hit.
+//! Recorded runs, written hit by hit.
 ghost use Rattle.std.specs.Prelude.{◌≡◌, List, Ok, false, is_some, string_bytes, IfErr, IfOk, OnOk};
 ghost use Rattle.scenario_grammar.specs.FirstFault.{Reads};
 ghost use Rattle.target_trait.specs.Verdicts.{is_fail};
 ghost use Rattle.answer_text.specs.Hits.{points_of};
-ghost use Rattle.answer_text.specs.Runs.{Tells, known_of, told_in};
+ghost use Rattle.answer_text.specs.Runs.{Tells, known_of, known_strangers, told_in};
 ghost use Rattle.answer_text.specs.declared.runs.RunLine.{RunLine};
-ghost use Rattle.campaign_core.specs.Writes.{change};
-ghost use Rattle.answered_campaigns.specs.Explained.{ExplainRefused, IsExplained, IsExplainedText, IsHiddenFault, IsRunText, RefusesText, said, spelled};
+ghost use Rattle.answered_campaigns.specs.Explained.{IsExplainedText, IsHiddenFault, IsRunText, RefusesText, said, spelled};
 
 use crate::fault::QuestionFault;
 use answer_text::{AnswersFault, Hits, Runs, ToldRun, read, read_runs};
 use campaign_given::Outside;
 use outside_campaign::{OutsideCampaign, OutsideFault, Words, borrowed};
-use report::write_report;
 use run_explained::{RunByAnswer, explain_answer};
 use scenario_grammar::{ScenarioFault, parse};
 use scenario_values::{Scenario, build, tidy};
 use std::alloc::{AllocError, Global};
-use target_trait::{Sink, Verdict};
+use target_trait::Verdict;
 
-/// The scenario that a text spells, where `none` is the one without entries.
+/// The scenario that a text spells; `none` spells the one without entries.
 fn spelled(alloc: Global, text: &str) -> Result<Scenario, ScenarioFault>
     ensures { Reads (λ s. s) result (spelled text.now) }
 {
@@ -29,7 +27,7 @@ fn spelled(alloc: Global, text: &str) -> Result<Scenario, ScenarioFault>
     parse(alloc, text)
 }
 
-/// The points of hits, one for each.
+/// The point of each hit, in order.
 fn points_of(alloc: Global, hits: &Hits) -> Result<Vec<u32>, AllocError>
     ensures { IfOk result (λ points. points.items ≡ points_of hits.now) }
 {
@@ -47,7 +45,7 @@ fn is_fail(verdict: Verdict) -> bool
     }
 }
 
-/// The lines of a run of a scenario, where its hits are told, and whether it fails.
+/// The lines of a scenario's run, if its hits are recorded, and whether it fails.
 fn run_text(
     alloc: Global,
     outside: &Outside,
@@ -73,13 +71,15 @@ fn run_text(
     Ok((text, is_fail(verdict)))
 }
 
-/// What a text of answers tells; with a depth each line has to tell hits.
+/// The runs that a text of answers records. With a depth each line has to record hits.
 fn runs_told(
     alloc: Global,
     campaign: &OutsideCampaign<'_>,
     answers: &[u8],
 ) -> Result<Runs, AnswersFault>
     ensures known { IfOk result (λ runs. told_in runs ≡ known_of (said campaign.now.outside.now campaign.now.settings.now answers.now)) }
+    ensures strangers { IfOk result (λ runs. runs.strangers
+        ≡ known_strangers campaign.now.outside.now.points (said campaign.now.outside.now campaign.now.settings.now answers.now)) }
     ensures read { OnOk result ((lines : List RunLine) × (said campaign.now.outside.now campaign.now.settings.now answers.now ≡ Ok lines)) }
     ensures refused { IfErr result (λ fault. Tells fault (is_some campaign.now.settings.now.depth)
         campaign.now.outside.now.codes campaign.now.outside.now.points answers.now) }
@@ -94,50 +94,49 @@ fn runs_told(
     }
 }
 
-/// The lines of the run that answers tell of the scenario of a text, and whether it fails.
-fn explained_text(
+/// A recorded run, hit by hit.
+#[derive(Drop)]
+pub struct Explained {
+    /// The lines of [`run_explained::explain_answer`].
+    pub lines: String,
+    /// Whether the run fails.
+    pub fails: bool,
+    /// All that the answers record.
+    pub runs: Runs,
+}
+
+/// The recorded run of a scenario, hit by hit. The scenario is given by a text of [`scenario_grammar::parse`], or by `none` if
+/// it has no entries. The answers may record it under any text with the same tidied form.
+///
+/// The first of these faults is returned: `Scenario`, if the text spells no scenario; that of the answers; `NotAnswered` with the tidied scenario, if
+/// no answer records its run; and `Unseen`, if the first answer that records it has no hits. `Census`, `Broken`, `TooManyPlans` and `Write` never
+/// come. Any other fault means that memory was refused.
+pub fn explained_text(
     alloc: Global,
     campaign: &OutsideCampaign<'_>,
     text: &str,
     answers: &[u8],
-) -> Result<(String, bool), QuestionFault>
+) -> Result<Explained, QuestionFault>
     ensures shown { IfOk result (λ r. IsExplainedText text.now campaign.now.outside.now campaign.now.settings.now answers.now
-        (string_bytes r.0) r.1) }
+        (string_bytes r.lines) r.fails) }
+    ensures strangers { IfOk result (λ r. r.runs.strangers
+        ≡ known_strangers campaign.now.outside.now.points (said campaign.now.outside.now campaign.now.settings.now answers.now)) }
     ensures fault { IfErr result (RefusesText text.now campaign.now.outside.now campaign.now.settings.now answers.now) }
 {
     let scenario = spelled(alloc, text)?;
     let told = runs_told(alloc, campaign, answers)?;
     match told.told(alloc, &scenario)? {
-        Some(run) => run_text(alloc, campaign.outside, &scenario, run),
+        Some(run) => {
+            let (lines, fails) = run_text(alloc, campaign.outside, &scenario, run)?;
+            Ok(Explained {
+                lines,
+                fails,
+                runs: told,
+            })
+        }
         None => {
             let tidied = tidy(alloc, &scenario)?;
             Err(QuestionFault::Outside(OutsideFault::NotAnswered(tidied)))
         }
     }
-}
-
-/// Writes the run that answers tell of the scenario of a text, hit by hit, and answers whether it fails. The text is one of
-/// [`scenario_grammar::parse`], or `none` for the scenario without entries; the answers tell it under any text with the same tidied form. The lines
-/// are those of [`run_explained::explain_answer`].
-///
-/// Nothing is written before the whole text stands. The first of these faults comes: `Scenario`, where the text spells no scenario; that of the
-/// answers; `NotAnswered` with the tidied scenario, where no answer tells its run; and `Unseen`, where the first that does tells no hits. After each of these,
-/// and where memory was refused, the sink is as it was and hasn't failed; `Write` tells how many bytes of the lines, fewer than all, went out before
-/// the sink failed.
-pub fn write_explained<W: Sink>(
-    alloc: Global,
-    campaign: &OutsideCampaign<'_>,
-    text: &str,
-    answers: &[u8],
-    sink: &mut W,
-) -> Result<bool, QuestionFault>
-    requires { W.has_failed sink.old ≡ false }
-    ensures explained { IfOk result (IsExplained text.now campaign.now.outside.now campaign.now.settings.now answers.now
-        (change W.Sink sink.old sink.new)) }
-    ensures fault { IfErr result (ExplainRefused text.now campaign.now.outside.now campaign.now.settings.now answers.now
-        (change W.Sink sink.old sink.new)) }
-{
-    let (lines, fails) = explained_text(alloc, campaign, text, answers)?;
-    write_report(lines.as_bytes(), sink)?;
-    Ok(fails)
 }

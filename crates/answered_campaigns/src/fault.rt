@@ -18,14 +18,14 @@ use std::alloc::AllocError;
 /// Why a question on a component that somebody else runs isn't answered.
 #[derive(Debug, Drop)]
 pub enum QuestionFault {
-    /// As without a depth.
+    /// A fault of a campaign without a depth.
     Outside(OutsideFault),
-    /// A run breaks with that of its plan's forerunner: what the component asks next doesn't follow from the answers so far, or the
-    /// answers are those of two. Nothing was written.
+    /// A run doesn't begin like that of its plan's forerunner: the component's next hit isn't a function of the answers to its earlier hits, or the
+    /// answers are those of two components. Nothing was written.
     Broken(BrokenRun),
     /// The text whose run is to be explained spells no scenario. Nothing was written.
     Scenario(ScenarioFault),
-    /// The line of this number tells the run that is to be explained without its hits. Nothing was written.
+    /// The line of this number records the run that is to be explained, but not its hits. Nothing was written.
     Unseen(u32),
 }
 

@@ -1,72 +1,120 @@
-//! Why a campaign with a depth can't be reported by what answers tell of runs.
-ghost use Rattle.std.specs.Prelude.{◌≡◌, ◌≤◌, ◌<◌, None, [], length, slice_index_or, IfErr, IfOk, OnOk};
+//! The plans of a campaign with a depth that are known by recorded runs, with their verdicts, and why a campaign can't be reported yet.
+ghost use Rattle.std.specs.Prelude.{◌≡◌, ◌≤◌, ◌<◌, ◌+◌, ◌++◌, [], length, slice_index_or, IfErr, IfOk, OnOk};
 ghost use Rattle.std.specs.List.{AllByRecursion};
+ghost use Rattle.scenario_values.specs.Scenario.{IsScenario};
 ghost use Rattle.scenario_values.specs.Tidied.{tidied};
-ghost use Rattle.campaign_plans.specs.GrownScenarios.{grown_scenario};
+ghost use Rattle.campaign_plans.specs.GrownScenarios.{grown_scenario, grown_scenarios};
 ghost use Rattle.answered_runs.specs.Answered.{runs_in};
-ghost use Rattle.answered_runs.specs.KnownLists.{IsKnownList};
-ghost use Rattle.answered_runs.specs.WholeList.{AreTold};
-ghost use Rattle.plan_gen.specs.PlanList.{Asked};
-ghost use Rattle.answered_campaigns.specs.Questions.{AreUnbroken};
-ghost use Rattle.answered_campaigns.specs.inside.Outcomes.{IsGapFault, RefusesAsks};
+ghost use Rattle.answered_runs.specs.WholeList.{AreAllTold};
+ghost use Rattle.outside_campaign.specs.Asked.{plan_verdicts};
+ghost use Rattle.plan_gen.specs.PlanList.{Asked, most_plans};
+ghost use Rattle.answered_campaigns.specs.Grown.{BeginsWith, known as known_verdicts};
+ghost use Rattle.answered_campaigns.specs.Questions.{AreUnbroken, RefusesAsks};
+ghost use Rattle.answered_campaigns.specs.inside.Outcomes.{IsGapFault};
 
 use crate::fault::QuestionFault;
 use crate::table::KnownByRuns;
-use answered_runs::{Listed, broken_run, plan_scenario};
-use grown_plans::{GrownList, GrownPlans};
-use outside_campaign::OutsideFault;
-use outside_grown::MOST_PLANS;
+use answered_runs::{AnsweredRuns, KnownPlans, broken_run, plan_scenario};
+use campaign_plans::CampaignPlans;
+use outside_campaign::{OutsideFault, VerdictTable};
+use plan_gen::PlanList;
 use scenario_values::{Scenario, tidy};
 use std::alloc::{AllocError, Global};
+use target_trait::Verdict;
 
-/// The plans that are known by now; answers in which a run breaks with that of its plan's forerunner are refused.
-pub fn known_list(alloc: Global, known: &KnownByRuns<'_>) -> Result<GrownList, QuestionFault>
-    requires { known.now.1 ≤ 64 }
-    ensures list { IfOk result (IsKnownList known.now.0 known.now.1) }
-    ensures few { IfOk result (λ list. length list.plans ≤ 65536) }
-    ensures unbroken { OnOk result (AreUnbroken known.now.0 known.now.1) }
-    ensures fault { IfErr result (λ why. (asked : Asked) → RefusesAsks known.now.0 known.now.1 asked why) }
+/// The plans that are known by now. Answers are refused if a run doesn't begin like that of its plan's forerunner.
+pub fn known_plans<'a>(
+    alloc: Global,
+    runs: &'a AnsweredRuns<'a>,
+    depth: u32,
+) -> Result<KnownPlans<'a>, QuestionFault>
+    requires { depth ≤ 64 }
+    ensures known { IfOk result (λ known. (known.answered ≡ runs.now) × (known.depth ≡ depth)) }
+    ensures unbroken { OnOk result (AreUnbroken runs.now depth) }
+    ensures fault { IfErr result (λ why. (asked : Asked) → RefusesAsks runs.now depth asked why) }
 {
-    let list = known.runs.known_plans(alloc, known.depth, MOST_PLANS)?;
-    match broken_run(alloc, known.runs, &list.plans)? {
+    let known = KnownPlans::of(alloc, runs, depth)?;
+    let _ = known.list();
+    match broken_run(alloc, &known)? {
         Some(broken) => Err(QuestionFault::Broken(broken)),
-        None => Ok(list),
+        None => Ok(known),
     }
 }
 
-/// The scenario of the plan of this number, tidied.
-fn scenario_of(
-    alloc: Global,
-    known: &KnownByRuns<'_>,
-    plans: &GrownPlans,
-    number: usize,
-) -> Result<Scenario, AllocError>
-    requires within { number < length plans.now }
-    requires short { AllByRecursion (λ plan. length plan ≤ 64) plans.now }
-    ensures { IfOk result (λ s. s ≡ tidied (grown_scenario known.now.0.points (slice_index_or plans.now number []))) }
+/// The tidied scenario of the plan of this number.
+fn scenario_of(alloc: Global, known: &KnownPlans<'_>, number: usize) -> Result<Scenario, AllocError>
+    requires { number < length known.now.list.plans }
+    ensures { IfOk result (λ s. s ≡ tidied (grown_scenario known.now.answered.points (slice_index_or known.now.list.plans number []))) }
 {
     let mut faults = Vec::new(alloc);
-    plans.faults_of(number, &mut faults)?;
-    let scenario = plan_scenario(alloc, known.runs.points(), faults.as_slice())?;
+    known.list().plans.faults_of(number, &mut faults)?;
+    let scenario = plan_scenario(alloc, known.runs().points(), faults.as_slice())?;
     tidy(alloc, &scenario)
 }
 
-/// Refuses a list with a plan of whose run nothing is told.
-pub fn refuse_gap(
-    alloc: Global,
-    known: &KnownByRuns<'_>,
-    listed: &Listed,
-) -> Result<(), QuestionFault>
-    requires short { AllByRecursion (λ plan. length plan ≤ 64) listed.now.known.plans }
-    requires told { AreTold (runs_in known.now.0) listed.now.known.plans listed.now.gap }
-    ensures ok { OnOk result (listed.now.gap ≡ None) }
-    ensures fault { IfErr result (IsGapFault known.now.0 listed.now.known.plans) }
+/// Refuses a list if the run of one of its plans isn't recorded.
+pub fn refuse_gap(alloc: Global, known: &KnownPlans<'_>) -> Result<(), QuestionFault>
+    ensures ok { OnOk result (AreAllTold (runs_in known.now.answered) known.now.list.plans) }
+    ensures fault { IfErr result (IsGapFault known.now.answered known.now.list.plans) }
 {
-    match listed.gap {
+    match known.gap() {
         None => Ok(()),
         Some(number) => {
-            let scenario = scenario_of(alloc, known, &listed.known.plans, number)?;
+            let scenario = scenario_of(alloc, known, number)?;
             Err(QuestionFault::Outside(OutsideFault::NotAnswered(scenario)))
         }
     }
+}
+
+/// The plans that are known, and behind them the storms and listed scenarios.
+pub fn all_plans<'p>(known: &'p KnownPlans<'_>, further: &'p PlanList<'_>) -> CampaignPlans<'p>
+    requires { length known.now.list.plans + length further.now ≤ most_plans }
+    ensures { result ≡ grown_scenarios known.now.answered.points known.now.list.plans ++ further.now }
+{
+    let grown = &known.list().plans;
+    CampaignPlans::grown(Some(grown), known.runs().points(), further)
+}
+
+/// The verdict of the plan of this number, if it is known. The recorded verdict of a plan that grew is read by its number.
+fn verdict_at(
+    alloc: Global,
+    known: &KnownPlans<'_>,
+    plans: &CampaignPlans<'_>,
+    number: usize,
+) -> Result<Option<Verdict>, AllocError>
+    requires within { number < length plans.now }
+    requires plans { BeginsWith (grown_scenarios known.now.answered.points known.now.list.plans) plans.now }
+    ensures verdict { IfOk result (λ verdict. verdict
+        ≡ known_verdicts known.now.answered known.now.depth (tidied (slice_index_or plans.now number []))) }
+    ensures lawful { OnOk result (IsScenario (slice_index_or plans.now number [])) }
+{
+    let list = known.list();
+    let _ = known.runs().points();
+    if number < list.plans.len() {
+        if let Some(verdict) = known.verdict_told(number) {
+            return Ok(Some(verdict));
+        }
+    }
+    let scenario = plans.plan(number).scenario(alloc)?;
+    let _ = scenario.entries();
+    KnownByRuns { known }.look_up(alloc, &scenario)
+}
+
+/// The verdict of each plan, if it is known. The first plans are those that grew. An error means that memory was refused.
+pub fn verdicts_of(
+    alloc: Global,
+    known: &KnownPlans<'_>,
+    plans: &CampaignPlans<'_>,
+) -> Result<Vec<Option<Verdict>>, AllocError>
+    requires { BeginsWith (grown_scenarios known.now.answered.points known.now.list.plans) plans.now }
+    ensures verdicts { IfOk result (λ verdicts. verdicts.items ≡ plan_verdicts (known_verdicts known.now.answered known.now.depth) plans.now) }
+    ensures lawful { OnOk result (AllByRecursion (λ s. IsScenario s) plans.now) }
+    ensures few { OnOk result (length plans.now ≤ most_plans) }
+{
+    let mut verdicts = Vec::with_capacity(alloc, plans.len())?;
+    for number in 0..plans.len() {
+        let verdict = verdict_at(alloc, known, plans, number)?;
+        verdicts.push(verdict)?;
+    }
+    Ok(verdicts)
 }

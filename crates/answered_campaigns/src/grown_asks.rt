@@ -1,66 +1,55 @@
 //! What is still to be tried of a campaign with a depth.
-ghost use Rattle.std.specs.Prelude.{◌≡◌, ◌≤◌, length, IfErr, IfOk, OnOk};
+ghost use Rattle.std.specs.Prelude.{◌≡◌, IfErr, IfOk};
 ghost use Rattle.asked_lines.specs.Lines.{lines_for};
-ghost use Rattle.answered_runs.specs.KnownLists.{IsKnownList};
 ghost use Rattle.answered_campaigns.specs.Grown.{candidates};
-ghost use Rattle.answered_campaigns.specs.Questions.{AreUnbroken, grown_lines};
-ghost use Rattle.answered_campaigns.specs.inside.Outcomes.{RefusesAsks};
+ghost use Rattle.answered_campaigns.specs.Questions.{RefusesAsks, grown_lines};
 
 use crate::candidates::{Outcome, outcome_known};
 use crate::fault::QuestionFault;
-use crate::grown::known_list;
-use crate::table::KnownByRuns;
+use crate::grown::{all_plans, verdicts_of};
+use answered_runs::KnownPlans;
 use asked_lines::AskedLines;
 use campaign_given::CampaignSettings;
-use campaign_plans::CampaignPlans;
-use grown_plans::GrownList;
-use outside_campaign::plan_verdicts;
-use outside_grown::{asks, grown_lists};
+use outside_grown::{asks, further_behind};
 use std::alloc::Global;
 
 /// The lines that ask for the scenarios that still decide causes and reductions, once each plan is answered.
 fn candidates(
     alloc: Global,
-    known: &KnownByRuns<'_>,
+    known: &KnownPlans<'_>,
     settings: &CampaignSettings,
-    list: GrownList,
 ) -> Result<AskedLines, QuestionFault>
-    requires list { IsKnownList known.now.0 known.now.1 list }
-    requires few { length list.plans ≤ 65536 }
-    ensures lines { IfOk result (λ lines. lines ≡ lines_for (candidates known.now.0 known.now.1 settings.now.plans)) }
-    ensures fault { IfErr result (RefusesAsks known.now.0 known.now.1 settings.now.plans) }
+    ensures lines { IfOk result (λ lines. lines ≡ lines_for (candidates known.now.answered known.now.depth settings.now.plans)) }
+    ensures fault { IfErr result (RefusesAsks known.now.answered known.now.depth settings.now.plans) }
 {
-    let lists = grown_lists(alloc, known.runs, &settings.plan_settings(), list)?;
-    let grown = &lists.listed.known.plans;
-    let plans = CampaignPlans::grown(Some(grown), known.runs.points(), &lists.further);
-    let verdicts = plan_verdicts(alloc, known, &plans)?;
-    match outcome_known(alloc, known, &plans, grown, verdicts.as_slice())? {
+    let _ = known.list();
+    let further = further_behind(alloc, known, &settings.plan_settings())?;
+    let plans = all_plans(known, &further);
+    let verdicts = verdicts_of(alloc, known, &plans)?;
+    match outcome_known(alloc, known, &plans, verdicts.as_slice())? {
         Outcome::Told(_) => Ok(AskedLines::new(alloc)),
         Outcome::Open(requests) => Ok(AskedLines::of(alloc, requests.as_slice())?),
     }
 }
 
-/// The lines that ask for what is still to be tried.
+/// The lines that ask for what is still to be tried: first the plans that are known by now and aren't answered, which are those that grow, in the order
+/// of the list, each known once the hits of the plans that it grew from are recorded; then the storms and the listed scenarios. Once every plan has an
+/// answer, only the candidates of the reductions and of the test for causes are requested. What follows from recorded runs is never requested. If all
+/// is known, and only then, there is no line. Any of the lines may be tried, in any order.
+///
+/// `TooManyPlans` comes only if more than 65536 plans are known, or the run without faults has at least as many hits. Any other fault means that
+/// memory was refused.
 pub fn grown_lines(
     alloc: Global,
-    known: &KnownByRuns<'_>,
+    known: &KnownPlans<'_>,
     settings: &CampaignSettings,
 ) -> Result<AskedLines, QuestionFault>
-    requires { known.now.1 ≤ 64 }
-    ensures unbroken { OnOk result (AreUnbroken known.now.0 known.now.1) }
-    ensures lines { IfOk result (λ lines. lines ≡ grown_lines settings.now known.now.1 known.now.0) }
-    ensures fault { IfErr result (RefusesAsks known.now.0 known.now.1 settings.now.plans) }
+    ensures lines { IfOk result (λ lines. lines ≡ grown_lines settings.now known.now.depth known.now.answered) }
+    ensures fault { IfErr result (RefusesAsks known.now.answered known.now.depth settings.now.plans) }
 {
-    let list = known_list(alloc, known)?;
-    let plans = asks(
-        alloc,
-        known.runs,
-        known.depth,
-        &settings.plan_settings(),
-        &list,
-    )?;
+    let plans = asks(alloc, known, &settings.plan_settings())?;
     if !plans.is_empty() {
         return Ok(plans);
     }
-    candidates(alloc, known, settings, list)
+    candidates(alloc, known, settings)
 }

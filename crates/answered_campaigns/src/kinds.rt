@@ -1,4 +1,4 @@
-//! The kinds of faults that plans of a component grow by, as its settings list them.
+//! The kinds of faults by which a component's plans grow, as its settings list them.
 ghost use Rattle.std.specs.Prelude.{◌≡◌, map, true, IfOk};
 ghost use Rattle.std.specs.List.{AllByRecursion};
 ghost use Rattle.answered_runs.specs.Answered.{CanBeListed};
@@ -36,7 +36,7 @@ fn kinds_of(alloc: Global, faults: &[TriedFault]) -> Result<Vec<Kind>, AllocErro
     Ok(kinds)
 }
 
-/// The same of the faults that are tried at each of some points.
+/// The same for each of some points.
 fn kinds_of_each(alloc: Global, tried: &[TriedFaults]) -> Result<Vec<Vec<Kind>>, AllocError>
     requires { AllByRecursion AreTried tried.now }
     ensures { IfOk result (λ kinds. map (λ k. k.items) kinds.items ≡ map (map kind_of) tried.now) }
@@ -48,8 +48,8 @@ fn kinds_of_each(alloc: Global, tried: &[TriedFaults]) -> Result<Vec<Vec<Kind>>,
     Ok(kinds)
 }
 
-/// For each point the kinds of faults that plans grow by at its hits, in their order, up to 8, none twice; none where the usual ones are tried. An
-/// error means that memory was refused.
+/// For each point the kinds of faults by which plans grow at its hits, in the order of the settings: up to 8, and none twice. If the usual kinds are
+/// tried at a point, it has none here. An error means that memory was refused.
 pub(crate) fn listed_kinds(alloc: Global, outside: &Outside) -> Result<Vec<Vec<Kind>>, AllocError>
     ensures listed { IfOk result (λ kinds. map (λ k. k.items) kinds.items ≡ listed_kinds outside.now) }
     ensures lawful { IfOk result (λ kinds. AllByRecursion (λ k. CanBeListed k.items) kinds.items) }

@@ -5,8 +5,8 @@ ghost use Rattle.answered_runs.specs.Answered.{kinds_over};
 ghost use Rattle.campaign_given.specs.Description.{Description, IsDescription};
 ghost use Rattle.answered_campaigns.specs.Kinds.{listed_kinds};
 
-/// Of the kinds that settings list for a point, and of the usual ones where they list none, holds what a component that keeps a target's laws has
-/// to keep to: each acts once, none stands there twice, and the texts may stand in a scenario.
+/// The kinds that settings list for a point, or the usual ones if they list none, are as those of a component that keeps a target's laws have to be:
+/// each acts once, none stands there twice, and the texts may stand in a scenario.
 pub fn kinds_of_settings_can_be_tried()
     ensures { (outside : Description) → IsDescription outside → (point : ℕ)
         → CanBeTried (kinds_over outside.points (listed_kinds outside) point) }

@@ -1,22 +1,24 @@
-//! Questions by answers, with or without a depth. The component is one that somebody else runs: what is still to be tried of it, and its report.
-//! Of a campaign with a depth the answers tell the hits of runs.
+//! Campaigns with a depth on a component that somebody else runs: what is still to be tried, the report and the interim report, by the recorded runs and
+//! their hits; and one recorded run hit by hit, with or without a depth.
 #![tactic(auto)]
 
 mod candidates;
-mod depth;
 mod explaining;
 mod fault;
 mod grown;
 mod grown_asks;
-mod grown_partial;
-mod grown_report;
 mod kinds;
 mod laws;
+mod partial;
 mod reading;
+mod reporting;
 mod table;
 
-pub use depth::{write_asks, write_partial, write_report_in};
-pub use explaining::write_explained;
+pub use explaining::{Explained, explained_text};
 pub use fault::QuestionFault;
+pub use grown::{all_plans, known_plans, verdicts_of};
+pub use grown_asks::grown_lines;
 pub use laws::kinds_of_settings_can_be_tried;
+pub use partial::grown_partial;
 pub use reading::ReadRuns;
+pub use reporting::grown_report;

@@ -1,4 +1,4 @@
-//! Answers that tell hits, read over the settings.
+//! Answers that record hits, read by the settings.
 ghost use Rattle.std.specs.Prelude.{◌≡◌, IfErr, IfOk};
 ghost use Rattle.answered_campaigns.specs.Questions.{IsReadingFault, Tells};
 
@@ -12,8 +12,8 @@ use outside_campaign::borrowed;
 use std::alloc::Global;
 use std::marker::Model;
 
-/// What answers tell of a component's runs, with what its settings say of the component: its points, and the faults that are tried at them.
-/// Contracts see what an [`AnsweredRuns`] over it shows.
+/// The recorded runs of a component, and what its settings say of it: its points, and the faults that are tried at them. Contracts see what an
+/// [`AnsweredRuns`] over it shows.
 #[derive(Drop)]
 pub struct ReadRuns<'a> {
     points: Vec<&'a str>,
@@ -36,8 +36,8 @@ impl<'a> Model for ReadRuns<'a> {
 }
 
 impl<'a> ReadRuns<'a> {
-    /// Reads a text of answers, each line of which has to tell its hits, though `-` where they weren't seen. `Answers` is the text's first fault;
-    /// else memory was refused.
+    /// Reads a text of answers. Each line has to record the run's hits, or `-` if they weren't seen. `Answers` is the text's first fault; any other
+    /// fault means that memory was refused.
     pub fn read(alloc: Global, outside: &'a Outside, answers: &[u8]) -> Result<Self, QuestionFault>
         ensures read { IfOk result (λ runs. Tells outside.now answers.now runs) }
         ensures fault { IfErr result (IsReadingFault outside.now answers.now) }

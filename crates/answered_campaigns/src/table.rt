@@ -1,36 +1,34 @@
-//! The verdicts that follow from the runs which answers tell.
-ghost use Rattle.std.specs.Prelude.{◌≡◌};
+//! The verdicts that follow from recorded runs.
 ghost use Rattle.answered_campaigns.specs.Grown.{known};
 
-use answered_runs::AnsweredRuns;
+use answered_runs::KnownPlans;
 use outside_campaign::VerdictTable;
 use scenario_values::Scenario;
 use std::alloc::{AllocError, Global};
 use std::marker::Model;
 use target_trait::Verdict;
 
-/// What is known of scenarios by the runs that answers tell, of a campaign with a depth. Contracts see the answers and the depth.
+/// What recorded runs say of the verdicts of scenarios, in a campaign with a depth. Contracts see the answers, the depth and the plans.
 #[derive(Drop)]
 pub struct KnownByRuns<'a> {
-    pub runs: &'a AnsweredRuns<'a>,
-    pub depth: u32,
+    pub known: &'a KnownPlans<'a>,
 }
 
 impl<'a> Model for KnownByRuns<'a> {
-    ghost use Rattle.std.specs.Prelude.{ℕ};
-    ghost use Rattle.answered_runs.specs.Answered.{Answered};
+    ghost use Rattle.answered_runs.specs.KnownLists.{KnownList};
 
-    ghost Value = { Answered × ℕ };
+    ghost Value = { KnownList };
 
-    ghost view = { λ k. (k.runs.now, k.depth) };
+    ghost view = { λ k. k.known.now };
 }
 
 impl<'a> VerdictTable for KnownByRuns<'a> {
     ghost use Rattle.answered_campaigns.specs.Grown.{known};
 
-    ghost verdicts = { λ k. known k.0 k.1 };
+    ghost verdicts = { λ k. known k.answered k.depth };
 
     fn look_up(&self, alloc: Global, scenario: &Scenario) -> Result<Option<Verdict>, AllocError> {
-        self.runs.verdict_of(alloc, self.depth, scenario)
+        let known = self.known;
+        known.runs().verdict_of(alloc, known.depth(), scenario)
     }
 }

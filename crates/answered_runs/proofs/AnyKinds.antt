@@ -1,4 +1,4 @@
--- Kinds that are tried where a scenario's rigged hits are: theirs, each once.
+-- At the hits of a scenario's rigged hits the kinds of these are tried, each once.
 use Rattle.std.proofs.Common.{◌≡◌, ℕ, Bool, true, false, cond, Option, Some, None, List, [], ◌∷◌, map, refl, ap, sym, ◌∙◌, subst}
 use Rattle.std.specs.Prelude.{Contains}
 use Rattle.std.specs.List.{AllByRecursion}

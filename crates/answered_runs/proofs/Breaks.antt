@@ -28,7 +28,7 @@ use Rattle.answered_runs.specs.Broken.{IsUnbroken, break_at, break_told}
 use Rattle.answered_runs.specs.Answered.{Answered, runs_in}
 use Rattle.answered_runs.proofs.Runs.{agree}
 
--- what is told of a plan's hits is true
+-- What is recorded of a plan's hits is true.
 hits_true : (t : Subject) (plan : List Rig) (o : Option Told) → IfSome o (IsTrueOf t plan) → IfSome (hits_told o) (λ hits. points_met (run_of_plan t plan) ≡ hits)
 hits_true t plan None h = tt
 hits_true t plan (Some told) h = h.hits
@@ -40,7 +40,7 @@ told_whole t s fore plan (Some before) None b h k = refl
 told_whole t s fore plan (Some before) (Some hits) b h k =
     ap (λ (hs : List ℕ). break_of s hs hits) (sym b) ∙ ap (break_of s (points_met (run_of_plan t fore))) (sym h) ∙ k
 
--- what is told of a plan is true, and of its forerunner
+-- What is recorded of a plan is true, and so is what is recorded of its forerunner.
 abbrev TrueAt : Subject → KnownRuns → List Rig → Type 0
 TrueAt t runs plan = IfSome (runs plan) (IsTrueOf t plan)
 
@@ -93,7 +93,7 @@ levels_whole t l d zero runs agrees le = level_whole t l d zero runs agrees le
 levels_whole t l d (suc n) runs agrees le =
     all_append (IsUnbroken runs) (levels t n) (level t (suc n)) (levels_whole t l d n runs agrees (omega (arith, le))) (level_whole t l d (suc n) runs agrees le)
 
--- ---- plans with their last fault from then on
+-- ---- plans with a sticky last fault
 
 leaf_before : (t : Subject) (runs : KnownRuns) (leaf : List Rig) → TrueAt t runs leaf → AllByRecursion (TrueBefore t runs) (onward_of t leaf)
 leaf_before t runs [] h = tt

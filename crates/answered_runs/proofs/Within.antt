@@ -1,4 +1,4 @@
--- Of each plan that is known a scenario can be made: it has few faults, and these are at hits that answers tell, which are few.
+-- A scenario can be made of each known plan: the plan has few faults, and these are at hits that answers record, which are few.
 use Rattle.std.proofs.Common.{◌≡◌, ℕ, zero, suc, ◌+◌, ◌≤◌, Bool, true, false, cond, List, [], ◌∷◌, ◌++◌, length, map, refl, arith, ◌==◌, ◌&&◌}
 use Rattle.std.specs.Prelude.{Option, Some, None, IfSome, flat_map, nat_le, option_map, option_and_then}
 use Rattle.std.specs.List.{AllByRecursion, list_all}
@@ -101,7 +101,7 @@ part_within kinds texts known most d few =
     (all_weaker (λ (plan : List Rig). Within most plan) (λ (plan : List Rig). AreWithin most (onward_told plan (hits_of known plan))) (λ plan all. onward_within most plan (hits_of known plan) all) (level_known kinds known d)
     (level_within kinds texts known most few d)))
 
--- ---- a line tells few hits
+-- ---- a line records few hits
 
 few_told : (points : List (List ℕ)) (answers : Answers) → HaveFew most_hits (plan_runs points answers)
 few_told points answers plan = by_length (nat_le (length plan) 64)

@@ -1,4 +1,4 @@
--- Where a run that is told breaks with the one that it has to begin like.
+-- How a recorded run breaks with the run that it has to begin like, and which line reports it.
 use Rattle.std.specs.Prelude.{◌≡◌, ℕ, ◌<◌, List, [], ◌∷◌, Option, None, Some, ◌++◌, length, slice_index_or, take, codes}
 use Rattle.std.specs.Fmt.{decimal}
 use Rattle.std.specs.Option.{option_map_or}
@@ -15,26 +15,26 @@ use Rattle.answer_text.specs.Runs.{told_in}
 use Rattle.answered_runs.specs.Answered.{Answered, runs_in}
 use Rattle.answered_runs.specs.declared.broken.BrokenRun.{BrokenRun}
 
--- the break of a run's hits with those of another run, where both are told
+-- The break of a run's hits with those of another run, if both are recorded.
 abbrev pub break_told : Site → Option (List ℕ) → Option (List ℕ) → Option Break
 break_told s None hits = None
 break_told s (Some parent) None = None
 break_told s (Some parent) (Some hits) = break_of s parent hits
 
--- of a plan's run with that of its forerunner
+-- The break of a plan's run with the run that it has to begin like.
 abbrev pub break_at : KnownRuns → List Rig → Option Break
 break_at runs [] = None
 break_at runs (r ∷ parent) = break_told (shared_to r) (hits_of runs (forerunner_of (r ∷ parent))) (hits_of runs (r ∷ parent))
 
--- a run that doesn't break so, as far as it is told
+-- The plan's run doesn't break, as far as it is recorded.
 abbrev pub IsUnbroken : KnownRuns → List Rig → Type 0
 IsUnbroken runs plan = break_at runs plan ≡ None
 
--- the number of the line that tells a plan's run; 0 where none does
+-- The number of the line that records a plan's run, or 0 if none does.
 abbrev pub line_told : Answered → List Rig → ℕ
 line_told a plan = option_map_or (λ run. run.line) (told_in a.book (tidied (grown_scenario a.points plan))) 0
 
--- the first of these plans whose run breaks, by its number, how it does, and the lines that tell it and the other one
+-- The first of these plans whose run breaks: its number, how it breaks, and the lines of its run and of the run that it has to begin like.
 pub record IsFirstBreak (a : Answered) (plans : List (List Rig)) (b : BrokenRun) : Type 0 where
   pub within : b.number < length plans
   pub breaks : break_at (runs_in a) (slice_index_or plans b.number []) ≡ Some b.how
@@ -42,12 +42,12 @@ pub record IsFirstBreak (a : Answered) (plans : List (List Rig)) (b : BrokenRun)
   pub line : b.line ≡ line_told a (slice_index_or plans b.number [])
   pub earlier : b.earlier ≡ line_told a (forerunner_of (slice_index_or plans b.number []))
 
--- or each is unbroken
+-- The first plan whose run breaks, or none if each run is unbroken.
 abbrev pub AreBroken : Answered → List (List Rig) → Option BrokenRun → Type 0
 AreBroken a plans None = AllByRecursion (IsUnbroken (runs_in a)) plans
 AreBroken a plans (Some b) = IsFirstBreak a plans b
 
--- the line that tells it
+-- The line that reports the break.
 abbrev pub text_by : ℕ → ℕ → Break → List ℕ
 text_by line earlier (Differs hit) =
     codes "answers: line " ++ (decimal line ++ (codes ": hits differ from line " ++ (decimal earlier ++ (codes " at hit " ++ decimal hit))))

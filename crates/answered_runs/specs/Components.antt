@@ -1,4 +1,4 @@
--- Components that somebody else runs, as ones that keep a target's laws.
+-- Components that somebody else runs, as subjects that keep a target's laws.
 use Rattle.std.specs.Prelude.{◌≡◌, ◌<◌, ◌^◌, ℕ, List, IfSome}
 use Rattle.scenario_values.specs.Scenario.{Entries, IsScenario}
 use Rattle.action_eval.specs.Answers.{given_of}
@@ -11,19 +11,19 @@ use Rattle.grown_plans.specs.GrownPlans.{Subject}
 use Rattle.grown_plans.specs.Promises.{IsLawful}
 use Rattle.answered_runs.specs.Answered.{kinds_over}
 
--- a component with these points: what it asks next follows from the answers so far, and at each hit of a run, of which fewer than so many are
--- answered, the kinds of faults are tried that are listed for its point, or else the usual ones
+-- A component with these points. What it asks next follows from the answers to its earlier hits. The kinds of faults tried at a point are those that
+-- are listed for it, or else the usual ones. Fewer than 2^32 hits of a run are answered.
 pub record IsComponent (points : List (List ℕ)) (listed : List (List Kind)) (t : Subject) : Type 0 where
   pub lawful : IsLawful t
   pub names : t.names ≡ points
   pub kinds : t.kinds ≡ kinds_over points listed
   pub few : t.limit < 2 ^ 32
 
--- what a line tells of a scenario is true of a component, under whatever seed and stream number: nothing is drawn for it
+-- What a line says of a scenario is true of a component, under whatever seed and stream number: nothing is drawn for it.
 pub record IsTrueRun (t : Subject) (s : Entries) (r : ToldRun) : Type 0 where
   pub verdict : (seed stream : ℕ) → (outcome t.asks (given_of s t.names seed stream t.limit)).verdict ≡ r.verdict
   pub hits : (seed stream : ℕ) → IfSome r.hits (λ hits. (outcome t.asks (given_of s t.names seed stream t.limit)).asked ≡ points_of hits)
 
--- a component agrees with what answers tell
+-- A component agrees with answers: each recorded run is true of it.
 abbrev pub AgreesWithRuns : Subject → KnownRuns → Type 0
 AgreesWithRuns t told = (s : Entries) → IsScenario s → IfSome (told s) (IsTrueRun t s)

@@ -1,4 +1,4 @@
--- Answers that tell a run which somebody ended, with its hits, and a component that agrees with them.
+-- An example: answers that record a run which somebody ended, with its hits, and a component that agrees with them.
 use Rattle.std.specs.Prelude.{ℕ, List, [], ◌∷◌, Some, None, codes}
 use Rattle.scenario_values.specs.Printed.{printed}
 use Rattle.scenario_values.specs.Scenario.{Entries}
@@ -17,18 +17,18 @@ use Rattle.answered_runs.specs.Answered.{kinds_over}
 abbrev pub two_points : List (List ℕ)
 two_points = codes "a" ∷ codes "b" ∷ []
 
--- `a=1*return`
+-- The scenario `a=1*return`.
 abbrev pub one_return : Entries
 one_return = entry (codes "a") (full (Some 1) (Return None) ∷ [])
 
--- `pass none a;b` and `unresolved a=1*return a`: with the fault the run was ended before its second hit
+-- The answers `pass none a;b` and `unresolved a=1*return a`. With the fault, the run was ended before its second hit.
 abbrev pub ended_lines : List RunLine
 ended_lines = run_line [] Pass (Some (stretch 0 1 ∷ (stretch 1 1 ∷ []))) ∷ (run_line one_return Unresolved (Some (stretch 0 1 ∷ [])) ∷ [])
 
 abbrev pub ended_told : KnownRuns
 ended_told s = first_told 1 ended_lines (printed s)
 
--- it hits both points and is kept. Where the first hit isn't answered to go on, nobody knows what it comes to
+-- The component hits both points and keeps its promise. If its first hit isn't answered to go on, nobody knows what it comes to.
 abbrev pub ended_asks : List Reply → Move
 ended_asks [] = Ask 0
 ended_asks (Go ∷ []) = Ask 1

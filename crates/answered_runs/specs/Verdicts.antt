@@ -1,4 +1,4 @@
--- The verdicts of scenarios, by what answers tell of runs.
+-- The verdicts of scenarios, by recorded runs.
 use Rattle.std.specs.Prelude.{◌≡◌, ℕ, List, Option, None, Some}
 use Rattle.scenario_values.specs.Scenario.{Entries, IsScenario}
 use Rattle.action_eval.specs.Answers.{given_of}
@@ -13,12 +13,12 @@ use Rattle.known_runs.specs.Walks.{verdict_walked}
 use Rattle.answered_runs.specs.Answered.{plan_runs}
 use Rattle.answered_runs.specs.Rigged.{rigs_of_scenario}
 
--- the verdict that rigged hits come to
+-- The verdict that rigged hits come to.
 abbrev pub walked_by : PlanRuns → ℕ → Option (List Rig) → Option Verdict
 walked_by runs depth None = None
 walked_by runs depth (Some rigs) = verdict_walked runs rigs depth
 
--- what was told of a scenario, or else what its rigged hits come to
+-- The recorded verdict of a scenario, or else the one that its rigged hits come to.
 abbrev pub told_or : Option Verdict → Option ToldRun → Option Verdict
 told_or walked None = walked
 told_or walked (Some r) = Some r.verdict
@@ -26,7 +26,7 @@ told_or walked (Some r) = Some r.verdict
 abbrev pub verdict_by : List (List ℕ) → KnownRuns → ℕ → Entries → Option Verdict
 verdict_by points known depth s = told_or (walked_by (plan_runs points known) depth (rigs_of_scenario points s)) (known s)
 
--- each verdict that is known is a component's, under whatever seed and stream number
+-- Each known verdict is the component's, under whatever seed and stream number.
 abbrev pub AreVerdictsOf : Subject → (Entries → Option Verdict) → Type 0
 AreVerdictsOf t known =
     (s : Entries) (v : Verdict) → IsScenario s → known s ≡ Some v

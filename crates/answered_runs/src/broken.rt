@@ -1,23 +1,35 @@
-//! Runs that break with those that they ought to begin like.
-ghost use Rattle.std.specs.Prelude.{◌≡◌, ◌≤◌, ℕ, Some, length, IfOk, IfSome, OnOk};
-ghost use Rattle.std.specs.List.{AllByRecursion};
+//! Runs that don't begin like those that they ought to begin like.
+ghost use Rattle.std.specs.Prelude.{◌≡◌, ◌≤◌, ◌<◌, ◌^◌, ◌∷◌, Some, [], List, length, slice_index_or, IfOk, IfSome, OnOk};
+ghost use Rattle.action_eval.specs.declared.rig.Rig.{Rig};
 ghost use Rattle.answer_text.specs.Runs.{told_in};
+ghost use Rattle.plan_gen.specs.RiggedAnswers.{is_onward};
 ghost use Rattle.grown_plans.specs.GrownPlans.{Subject};
 ghost use Rattle.answered_runs.specs.Answered.{runs_in};
 ghost use Rattle.answered_runs.specs.Broken.{AreBroken, break_at, broken_text, line_told};
 ghost use Rattle.known_runs.specs.Breaks.{forerunner_of};
-ghost use Rattle.known_runs.specs.KnownPart.{known_part};
+ghost use Rattle.known_runs.specs.Looks.{IsLook};
 ghost use Rattle.answered_runs.specs.Components.{AgreesWithRuns, IsComponent};
 
+use crate::plans::KnownPlans;
 use crate::scenarios::plan_scenario;
 use crate::table::AnsweredRuns;
 use action_eval::{Kind, Rig};
-use grown_plans::GrownPlans;
-use known_runs::{Break, Look, RunTable, break_of};
+use known_runs::{Break, Look, break_of, look_up};
 use std::alloc::{AllocError, Global};
 use std::fmt;
 
-/// The forerunner of a plan, whose run its own begins like, in place of what stood in the list.
+/// Whether a fault is sticky.
+fn is_onward(kind: Kind) -> bool
+    ensures { result ≡ is_onward kind }
+{
+    match kind {
+        Kind::OnwardReturn(_) => true,
+        Kind::OnceReturn(_) | Kind::OncePanic => false,
+    }
+}
+
+/// Puts the forerunner of a plan into the list, in place of what stood there: the plan whose run its own begins like. It is the plan that it grew
+/// from or, if its last fault is sticky, the plan with this fault once. The plan without faults has an empty one.
 fn find_forerunner(faults: &[Rig], forerunner: &mut Vec<Rig>) -> Result<(), AllocError>
     ensures { OnOk result (forerunner.new.items ≡ forerunner_of faults.now) }
 {
@@ -34,30 +46,67 @@ fn find_forerunner(faults: &[Rig], forerunner: &mut Vec<Rig>) -> Result<(), Allo
     forerunner.extend_from_slice(parent)
 }
 
-/// Where the run of a plan breaks with that of its forerunner, where both are told.
-fn break_at(
-    runs: &AnsweredRuns<'_>,
-    faults: &[Rig],
+/// Looks up the run of the forerunner of the plan of this number. A forerunner from which the plan grew has a number, and its run is read by that.
+fn look_before(
+    known: &KnownPlans<'_>,
+    number: usize,
+    fault: &Rig,
     forerunner: &[Rig],
     hits: &mut Vec<u32>,
-    before: &mut Vec<u32>,
-) -> Result<Option<Break>, AllocError>
-    requires { forerunner.now ≡ forerunner_of faults.now }
-    ensures { IfOk result (λ how. how ≡ break_at (runs_in runs.now) faults.now) }
+) -> Result<Look, AllocError>
+    requires within { number < length known.now.list.plans }
+    requires fault { (parent : List Rig) × (slice_index_or known.now.list.plans number [] ≡ fault.now ∷ parent) }
+    requires forerunner { forerunner.now ≡ forerunner_of (slice_index_or known.now.list.plans number []) }
+    ensures told { IfOk result (IsLook (runs_in known.now.answered (forerunner_of (slice_index_or known.now.list.plans number []))) hits.new.items) }
+    ensures few { OnOk result (length hits.new.items < 2 ^ 32) }
 {
-    let Some(fault) = faults.first() else {
-        return Ok(None);
-    };
-    let Look::Seen(_) = runs.look(forerunner, before)? else {
-        return Ok(None);
-    };
-    let Look::Seen(_) = runs.look(faults, hits)? else {
-        return Ok(None);
-    };
-    Ok(break_of(fault, before.as_slice(), hits.as_slice()))
+    if is_onward(fault.kind) {
+        return look_up(known.runs(), forerunner, hits);
+    }
+    let parent = known.list().plans.parent_of(number);
+    known.look(parent, hits)
 }
 
-/// The number of the line that tells a plan's run; 0 where none does.
+/// The lists that a look at two runs needs.
+#[derive(Drop)]
+struct Lists {
+    faults: Vec<Rig>,
+    forerunner: Vec<Rig>,
+    hits: Vec<u32>,
+    before: Vec<u32>,
+}
+
+/// How the run of the plan of this number breaks with that of its forerunner, if it does and the hits of both are recorded. The faults of the plan
+/// and of its forerunner are left in their lists.
+fn break_at(
+    known: &KnownPlans<'_>,
+    number: usize,
+    lists: &mut Lists,
+) -> Result<Option<Break>, AllocError>
+    requires { number < length known.now.list.plans }
+    ensures how { IfOk result (λ how. how ≡ break_at (runs_in known.now.answered) (slice_index_or known.now.list.plans number [])) }
+    ensures faults { OnOk result (lists.new.faults.items ≡ slice_index_or known.now.list.plans number []) }
+    ensures forerunner { OnOk result (lists.new.forerunner.items ≡ forerunner_of (slice_index_or known.now.list.plans number [])) }
+{
+    let plans = &known.list().plans;
+    plans.faults_of(number, &mut lists.faults)?;
+    let faults = lists.faults.as_slice();
+    find_forerunner(faults, &mut lists.forerunner)?;
+    let Some((fault, _)) = faults.split_first() else {
+        return Ok(None);
+    };
+    let forerunner = lists.forerunner.as_slice();
+    let before = &mut lists.before;
+    let Look::Seen(_) = look_before(known, number, fault, forerunner, before)? else {
+        return Ok(None);
+    };
+    let Look::Seen(_) = known.look(number, &mut lists.hits)? else {
+        return Ok(None);
+    };
+    Ok(break_of(fault, lists.before.as_slice(), lists.hits.as_slice()))
+}
+
+/// The number of the line that records a plan's run; 0 if none does.
 fn line_told(alloc: Global, runs: &AnsweredRuns<'_>, faults: &[Rig]) -> Result<u32, AllocError>
     requires { length faults.now ≤ 64 }
     ensures { IfOk result (λ line. line ≡ line_told runs.now faults.now) }
@@ -69,14 +118,14 @@ fn line_told(alloc: Global, runs: &AnsweredRuns<'_>, faults: &[Rig]) -> Result<u
     }
 }
 
-/// A run that breaks with that of its plan's forerunner.
+/// A run that breaks with that of its plan's forerunner: it doesn't begin like it.
 #[derive(Clone, Copy, Debug, PartialEq, Eq)]
 pub struct BrokenRun {
     /// The number of its plan among those that are known by now.
     pub number: usize,
-    /// The number of the line that tells it, from 1.
+    /// The number of the line that records it, from 1.
     pub line: u32,
-    /// The number of the line that tells the other run.
+    /// The number of the line that records the forerunner's run.
     pub earlier: u32,
     /// How it breaks.
     pub how: Break,
@@ -100,7 +149,7 @@ impl fmt::Display for BrokenRun {
     }
 }
 
-/// What is told of the plan of this number, whose run breaks so.
+/// The broken run of the plan of this number, with the lines that record it and its forerunner's.
 fn told_broken(
     alloc: Global,
     runs: &AnsweredRuns<'_>,
@@ -126,32 +175,30 @@ fn told_broken(
     })
 }
 
-/// The first of these plans whose run is told and breaks with that of its forerunner, with the lines that tell the two. Up to its last fault a
-/// run goes as that of the plan that its own grew from, and with its last fault from then on as with this fault once, up to the next hit of its
-/// point: it breaks with it where another point is hit before, or that hit isn't met. Where there is such a run, what the component asks next
-/// doesn't follow from the answers so far, or the answers are those of two. An error means that memory was refused.
-pub fn broken_run(
-    alloc: Global,
-    runs: &AnsweredRuns<'_>,
-    plans: &GrownPlans,
-) -> Result<Option<BrokenRun>, AllocError>
-    requires { AllByRecursion (λ plan. length plan ≤ 64) plans.now }
-    ensures first { IfOk result (AreBroken runs.now plans.now) }
-    // No component agrees with answers of which a run breaks, where these are the plans that are known of it.
-    ensures none { IfOk result (λ found. IfSome found (λ broken. (t : Subject) (depth : ℕ) → depth ≤ 64 → plans.now ≡ known_part t depth (runs_in runs.now)
-        → IsComponent runs.now.points runs.now.listed t → AgreesWithRuns t (told_in runs.now.book) → ⊥)) }
+/// The first plan whose recorded run breaks with that of its forerunner, with the lines that record the two.
+///
+/// Up to its last fault a run goes as that of the plan that its own grew from. If this fault is sticky, the run goes as with this fault once, up to
+/// the next hit of the fault's point. It breaks with the other run if another point is hit before that, or if that hit isn't met. Then the
+/// component's next hit isn't a function of the answers to its earlier hits, or the answers are those of two components. An error means that memory
+/// was refused.
+pub fn broken_run(alloc: Global, known: &KnownPlans<'_>) -> Result<Option<BrokenRun>, AllocError>
+    ensures first { IfOk result (AreBroken known.now.answered known.now.list.plans) }
+    // No component agrees with answers in which a run breaks.
+    ensures none { IfOk result (λ found. IfSome found (λ broken. (t : Subject)
+        → IsComponent known.now.answered.points known.now.answered.listed t → AgreesWithRuns t (told_in known.now.answered.book) → ⊥)) }
 {
-    let mut faults = Vec::new(alloc);
-    let mut forerunner = Vec::new(alloc);
-    let mut hits = Vec::new(alloc);
-    let mut before = Vec::new(alloc);
-    for number in 0..plans.len() {
-        plans.faults_of(number, &mut faults)?;
-        let faults = faults.as_slice();
-        find_forerunner(faults, &mut forerunner)?;
-        let forerunner = forerunner.as_slice();
-        if let Some(how) = break_at(runs, faults, forerunner, &mut hits, &mut before)? {
-            return Ok(Some(told_broken(alloc, runs, number, faults, forerunner, how)?));
+    let mut lists = Lists {
+        faults: Vec::new(alloc),
+        forerunner: Vec::new(alloc),
+        hits: Vec::new(alloc),
+        before: Vec::new(alloc),
+    };
+    for number in 0..known.list().plans.len() {
+        if let Some(how) = break_at(known, number, &mut lists)? {
+            let faults = lists.faults.as_slice();
+            let forerunner = lists.forerunner.as_slice();
+            let broken = told_broken(alloc, known.runs(), number, faults, forerunner, how)?;
+            return Ok(Some(broken));
         }
     }
     Ok(None)

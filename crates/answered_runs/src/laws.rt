@@ -9,7 +9,7 @@ ghost use Rattle.answered_runs.specs.Components.{AgreesWithRuns, IsComponent};
 ghost use Rattle.answered_runs.specs.EndedRuns.{ended_component, ended_told, two_points};
 ghost use Rattle.answered_runs.specs.Verdicts.{AreVerdictsOf, verdict_by};
 
-/// What answers tell of the runs of plans is true of each component that agrees with the answers.
+/// What answers record of the runs of plans is true of each component that agrees with the answers.
 pub fn answers_tell_plans()
     ensures { (t : Subject) (points : List (List ℕ)) (listed : List (List Kind)) (told : KnownRuns) (depth : ℕ) → IsComponent points listed t → depth ≤ 64
         → AgreesWithRuns t told → Agrees t depth (plan_runs points told) }
@@ -21,8 +21,8 @@ pub fn answers_tell_verdicts()
         → AgreesWithRuns t told → AreVerdictsOf t (verdict_by points told depth) }
 {}
 
-/// A run that somebody ended, told unresolved with fewer hits than another run has, is one of a component: of one whose end nobody knows there. So what is
-/// promised of each component that agrees with answers says something of answers that tell such runs.
+/// A run that somebody ended, recorded as unresolved with fewer hits than another run has, is the run of some component: of one of which nobody knows
+/// how it goes on there. So what is promised for each component that agrees with the answers isn't empty if they record such runs.
 pub fn ended_runs_have_a_component()
     ensures component { IsComponent two_points [] ended_component }
     ensures agrees { AgreesWithRuns ended_component ended_told }

@@ -1,4 +1,5 @@
-//! Runs of a component that somebody else runs, as texts of answers tell them: what is known by them of plans that grow.
+//! Recorded runs of a component that somebody else runs, as texts of answers have them: the plans that grow from them, the verdicts that follow, and
+//! the first run that doesn't begin as it ought to.
 #![tactic(auto)]
 
 mod broken;
@@ -8,11 +9,10 @@ mod rigged;
 mod scenarios;
 mod table;
 mod verdicts;
-mod whole;
 
 pub use broken::{BrokenRun, broken_run};
 pub use laws::{answers_tell_plans, answers_tell_verdicts, ended_runs_have_a_component};
+pub use plans::{KnownPlans, MOST_PLANS};
 pub use rigged::rigs_of_scenario;
 pub use scenarios::{plan_scenario, rigged_scenario};
 pub use table::AnsweredRuns;
-pub use whole::{Listed, listed_plans};

@@ -17,10 +17,10 @@ use std::alloc::{AllocError, Global};
 /// The share of a term that acts at each hit that reaches it.
 const FULL: u32 = 1000000;
 
-/// A scenario is made of at most so many rigged hits.
+/// The most rigged hits that a scenario is made of.
 const MOST_RIGS: usize = 64;
 
-/// The text of a rigged hit has at most so many bytes.
+/// The most bytes that the text of a rigged hit may have.
 const MOST_TEXT: usize = 32;
 
 /// Adds a rigged hit.
@@ -31,7 +31,7 @@ fn push(rigs: &mut Vec<Rig>, site: Site, kind: Kind) -> Result<(), AllocError>
     Ok(())
 }
 
-/// A return's text as that of a rigged hit; `None` where it can't be one's.
+/// A return's text as that of a rigged hit; `None` if a rigged hit can't have it.
 fn argument_of(text: &Option<Text>) -> Option<Argument>
     ensures { result ≡ (if is_short text.now then Some text.now else None) }
 {
@@ -45,7 +45,7 @@ fn argument_of(text: &Option<Text>) -> Option<Argument>
     }
 }
 
-/// Adds a return with this text, once or from then on, where it can be a rigged hit's. Tells whether it is.
+/// Adds a return with this text, once or sticky. Returns false if a rigged hit can't have the text.
 fn push_return(
     rigs: &mut Vec<Rig>,
     site: Site,
@@ -66,7 +66,8 @@ fn push_return(
     Ok(true)
 }
 
-/// Adds what a task does that acts so often up to a hit, or from it on, where that is nothing or a rigged hit's. Tells whether it is.
+/// Adds the rigged hit at this site that does what the task does `count` times up to there, or, without a count, from there on. `off` adds none.
+/// Returns false if no rigged hit does that.
 fn push_task(
     rigs: &mut Vec<Rig>,
     site: Site,
@@ -87,7 +88,8 @@ fn push_task(
     }
 }
 
-/// Adds what a term does after so many hits of a point, where it acts up to a hit, or from it on, as a rigged one does. Answers that hit.
+/// Adds the rigged hit that does what the term does after `done` hits of its point. Returns the last hit at which the term acts, or the first if it
+/// has no count; `None` if no rigged hit does that.
 fn push_term(
     rigs: &mut Vec<Rig>,
     point: u32,
@@ -106,7 +108,7 @@ fn push_term(
     }
 }
 
-/// Adds what the terms of a point do. Tells whether they are those of rigged hits.
+/// Adds the rigged hits of a point's terms. Returns false if the terms aren't those of rigged hits.
 fn push_chain(rigs: &mut Vec<Rig>, point: u32, terms: &[Term]) -> Result<bool, AllocError>
     ensures { IfOk result (Took (chain_into point 0 terms.now rigs.old.items) rigs.new.items) }
 {
@@ -120,7 +122,7 @@ fn push_chain(rigs: &mut Vec<Rig>, point: u32, terms: &[Term]) -> Result<bool, A
     Ok(true)
 }
 
-/// Adds what a scenario does at a point of this name. Tells whether that is made of rigged hits.
+/// Adds the rigged hits of a scenario at the point of this name. Returns false if what it does there isn't made of rigged hits.
 fn push_point(
     rigs: &mut Vec<Rig>,
     scenario: &Scenario,
@@ -135,7 +137,7 @@ fn push_point(
     }
 }
 
-/// Adds what a scenario does at each of the points. Tells whether that is made of rigged hits.
+/// Adds the rigged hits of a scenario at each of the points. Returns false if what it does there isn't made of rigged hits.
 fn push_points(
     rigs: &mut Vec<Rig>,
     scenario: &Scenario,
@@ -154,7 +156,7 @@ fn push_points(
     Ok(true)
 }
 
-/// Whether a site stands before another one, in the order of points, and of the hits of each.
+/// Whether a site stands before another one, in the order of points, and at one point in the order of hits.
 fn is_before(a: Site, b: Site) -> bool
     ensures { result ≡ is_before a b }
 {
@@ -168,7 +170,7 @@ fn is_before_all(first: &Rig, rigs: &[Rig]) -> bool
     rigs.iter().all(|rig| is_before(first.site, rig.site))
 }
 
-/// Whether rigged hits are in order, and counted from 1.
+/// Whether rigged hits are in order, with hits counted from 1.
 fn are_in_order(rigs: &[Rig]) -> bool
     ensures { result ≡ are_in_order rigs.now }
 {
@@ -182,7 +184,7 @@ fn are_in_order(rigs: &[Rig]) -> bool
     true
 }
 
-/// Whether the number of a rigged hit fits 32 bits.
+/// Whether the hit of a rigged hit has a number that fits 32 bits.
 fn is_small(rig: &Rig) -> bool
     ensures { result ≡ nat_le rig.now.site.hit most_hit }
 {
@@ -219,7 +221,7 @@ fn are_lawful(rigs: &[Rig]) -> bool
     rigs.len() <= MOST_RIGS && are_small(rigs) && are_short(rigs) && are_in_order(rigs)
 }
 
-/// Whether rigged hits are the faults of just this scenario.
+/// Whether the scenario of these rigged hits is just this one.
 fn make(
     alloc: Global,
     points: &[&str],
@@ -238,7 +240,7 @@ fn make(
     Ok(text.as_str() == given.as_str())
 }
 
-/// The rigged hits of a scenario, in order, where it is made of at most 64 that act once each, or fail from then on. An error means that memory was refused.
+/// The rigged hits of a scenario, in order, if it is made of at most 64 of them, each once or sticky. An error means that memory was refused.
 pub fn rigs_of_scenario(
     alloc: Global,
     points: &[&str],

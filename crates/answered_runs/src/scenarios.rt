@@ -1,4 +1,4 @@
-//! The scenario of a plan that grows.
+//! The scenarios of rigged hits, and of plans that grow.
 ghost use Rattle.std.specs.Prelude.{◌≡◌, ◌<◌, ◌≤◌, ◌^◌, length, IfOk};
 ghost use Rattle.std.specs.List.{AllByRecursion};
 ghost use Rattle.action_eval.specs.Answers.{texts};
@@ -30,8 +30,8 @@ pub fn rigged_scenario(alloc: Global, points: &[&str], rigs: &[Rig]) -> Result<S
     scenario_of(alloc, points, rigs)
 }
 
-/// The scenario of a plan of at most 64 faults, the last one to act first, over the names of the points. An error means that memory was
-/// refused.
+/// The scenario of a plan of at most 64 faults over the names of the points. The fault that acts last comes first in the list. An error means that
+/// memory was refused.
 pub fn plan_scenario(alloc: Global, points: &[&str], faults: &[Rig]) -> Result<Scenario, AllocError>
     requires lawful { IsCatalogue (texts points.now) }
     requires few { length faults.now ≤ 64 }

@@ -1,4 +1,4 @@
-//! A table of runs, by answers that tell their hits.
+//! The table of recorded runs, by answers.
 ghost use Rattle.std.specs.Prelude.{◌≡◌, ◌<◌, ◌≤◌, ◌^◌, length, map, option_map, Some, IfOk, OnOk};
 ghost use Rattle.std.specs.List.{AllByRecursion, list_all};
 ghost use Rattle.scenario_values.specs.Tidied.{tidied};
@@ -17,14 +17,14 @@ use scenario_values::Scenario;
 use std::alloc::{AllocError, Global};
 use std::marker::Model;
 
-/// Plans have at most so many faults.
+/// The most faults that a plan has.
 const MOST_FAULTS: usize = 64;
 
-/// A catalogue has at most so many points.
+/// The most points that a catalogue has.
 const MOST_POINTS: u32 = 64;
 
-/// The runs that answers tell of a component with these points: a plan's run is the one that was told of the plan's scenario, tidied.
-/// Contracts see the names of the points, the kinds of faults that are listed for them, and what is told of each tidied scenario.
+/// The recorded runs of a component with these points. A plan's run is the one that is recorded for the plan's scenario, tidied. Contracts see the
+/// names of the points, the kinds of faults that are listed for them, and what is recorded for each tidied scenario.
 #[derive(Drop)]
 pub struct AnsweredRuns<'a> {
     alloc: Global,
@@ -48,8 +48,8 @@ impl<'a> Model for AnsweredRuns<'a> {
 }
 
 impl<'a> AnsweredRuns<'a> {
-    /// The runs that were read, of a component with these points. Of each of them the kinds of faults are listed that are tried at its hits, in
-    /// their order; where a list is empty or missing, these are the usual ones.
+    /// The runs that were read, of a component with these points. `listed` has the kinds of faults that are tried at the hits of each point, in their
+    /// order. A point whose list is empty or missing has the usual kinds.
     pub fn new(
         alloc: Global,
         points: &'a [&'a str],
@@ -85,14 +85,14 @@ impl<'a> AnsweredRuns<'a> {
         self.listed
     }
 
-    /// What was read of the runs.
+    /// The runs that were read.
     pub fn runs(&self) -> &'a Runs
         ensures { result.now ≡ self.now.book }
     {
         self.runs
     }
 
-    /// What was told of the run of a scenario once it is tidied. An error means that memory was refused.
+    /// What is recorded of the run of a scenario, once it is tidied. An error means that memory was refused.
     pub(crate) fn told(&self, scenario: &Scenario) -> Result<Option<&ToldRun>, AllocError>
         ensures { IfOk result (λ told. option_map (λ r. r.now) told ≡ told_in self.now.book (tidied scenario.now)) }
     {
@@ -100,7 +100,7 @@ impl<'a> AnsweredRuns<'a> {
     }
 }
 
-/// Whether a point is one that a catalogue may have.
+/// Whether these hits are of a point that a catalogue may have.
 fn is_low(stretch: &Stretch) -> bool
     ensures { result ≡ is_low stretch.now }
 {
@@ -113,7 +113,8 @@ fn are_low(stretches: &[Stretch]) -> bool
     stretches.iter().all(|stretch| is_low(stretch))
 }
 
-/// What a table tells of a run, with the points of its hits in place of what stood in the list.
+/// What the table has of a recorded run. If its hits are recorded, and a component can have them, their points are put into the list, in place of
+/// what stood there; else the list is left empty.
 fn look_at(run: &ToldRun, hits: &mut Vec<u32>) -> Result<Look, AllocError>
     ensures told { IfOk result (IsLook (Some (told_of run.now)) hits.new.items) }
     ensures points { OnOk result (AllByRecursion (λ p. p < 64) hits.new.items) }
@@ -133,19 +134,23 @@ fn look_at(run: &ToldRun, hits: &mut Vec<u32>) -> Result<Look, AllocError>
 }
 
 impl<'a> RunTable for AnsweredRuns<'a> {
-    ghost use Rattle.answered_runs.specs.Answered.{runs_in};
+    ghost use Rattle.answered_runs.specs.Answered.{runs_in, told_of};
+
+    type Run = ToldRun;
+
+    ghost tells = { told_of };
 
     ghost known = { runs_in };
 
-    fn look(&self, faults: &[Rig], hits: &mut Vec<u32>) -> Result<Look, AllocError> {
-        hits.clear();
+    fn find(&self, faults: &[Rig]) -> Result<Option<&ToldRun>, AllocError> {
         if faults.len() > MOST_FAULTS {
-            return Ok(Look::Unknown);
+            return Ok(None);
         }
         let scenario = plan_scenario(self.alloc, self.points, faults)?;
-        match self.runs.told(self.alloc, &scenario)? {
-            Some(run) => look_at(run, hits),
-            None => Ok(Look::Unknown),
-        }
+        self.runs.told(self.alloc, &scenario)
+    }
+
+    fn read(&self, run: &ToldRun, hits: &mut Vec<u32>) -> Result<Look, AllocError> {
+        look_at(run, hits)
     }
 }

@@ -1,4 +1,4 @@
-//! Verdicts of scenarios, by what answers tell of runs.
+//! Verdicts of scenarios, by recorded runs.
 ghost use Rattle.std.specs.Prelude.{◌≡◌, IfOk};
 ghost use Rattle.scenario_values.specs.Tidied.{tidied};
 ghost use Rattle.answer_text.specs.Runs.{told_in};
@@ -13,7 +13,7 @@ use scenario_values::{Scenario, tidy};
 use std::alloc::{AllocError, Global};
 use target_trait::Verdict;
 
-/// The verdict of a scenario once it is tidied, by its rigged hits.
+/// The verdict that the rigged hits of a scenario lead to, if it is made of such hits.
 fn walked(
     alloc: Global,
     runs: &AnsweredRuns<'_>,
@@ -29,9 +29,8 @@ fn walked(
 }
 
 impl<'a> AnsweredRuns<'a> {
-    /// The verdict of a scenario once it is tidied, where runs that are known tell it: the one that was told of it; or, where it is made of
-    /// hits that fail or panic once each, or fail from one on, the verdict of the plan of at most so many faults that these come to, the last
-    /// one perhaps from then on. An error means that memory was refused.
+    /// The recorded verdict of a scenario, once it is tidied; else, if the scenario is made of rigged hits, that of the plan they lead to. This plan
+    /// has at most `depth` faults, of which the last one may be sticky. It is `None` if no verdict is known. An error means that memory was refused.
     pub fn verdict_of(
         &self,
         alloc: Global,

@@ -7,7 +7,7 @@ use Rattle.std.proofs.lemmas.List.Sums.{sum_by-cons}
 use Rattle.std.proofs.lemmas.Bool.Decides.{Decides-ltb, eqb_tells}
 use Rattle.asked_lines.specs.Parts.{is_in_shard, shard, times, times_in_shards, StandInOrder}
 
--- of lines whose places begin at this one
+-- The shard of lines whose places begin at this one.
 abbrev pub shard_from : ℕ → ℕ → ℕ → List (List ℕ) → List (List ℕ)
 shard_from number many place lines = map (λ line. line.1) (filter (λ line. is_in_shard number many line.0) (enumerate_from place lines))
 

@@ -7,19 +7,19 @@ use Rattle.report.specs.ReportText.{text_of}
 use Rattle.asked_lines.specs.declared.parts.AskedPart.{AskedPart}
 use Rattle.asked_lines.specs.declared.parts.AskedPart.TheVariants as part
 
--- whether shard `number` of `many` has the line at this place, counted from 0: places go round the shards, which are numbered from 1
+-- Whether shard `number` of `many` has the line at this place, from 0. Places go round the shards, which are numbered from 1.
 abbrev pub is_in_shard : ℕ → ℕ → ℕ → Bool
 is_in_shard number many place = nat_lt 0 many && (place % many + 1 == number)
 
--- the lines at its places, in their order
+-- The lines of a shard, in their order.
 abbrev pub shard : ℕ → ℕ → List (List ℕ) → List (List ℕ)
 shard number many lines = map (λ line. line.1) (filter (λ line. is_in_shard number many line.0) (enumerate_from 0 lines))
 
--- how many lines there are
+-- The line that says how many lines there are.
 abbrev pub left_line : ℕ → List ℕ
 left_line count = codes "left " ++ decimal count
 
--- the text of a part, each line with its line feed
+-- The text of a part. Each line has a line feed.
 abbrev pub part_text : AskedPart → List (List ℕ) → List ℕ
 part_text part.All lines = text_of lines
 part_text (part.Shard number of) lines = text_of (shard number of lines)
@@ -27,15 +27,15 @@ part_text part.Left lines = text_of (left_line (length lines) ∷ [])
 
 -- ---- what shards are
 
--- how often a line stands among lines
+-- How often a line comes among lines.
 abbrev pub times : List ℕ → List (List ℕ) → ℕ
 times line lines = count_by (bytes_eq line) lines
 
--- how often in their shards together, which are so many
+-- How often a line comes in all `many` shards together.
 abbrev pub times_in_shards : List ℕ → ℕ → List (List ℕ) → ℕ
 times_in_shards line many lines = sum_by (λ number. times line (shard number many lines)) (range_with_len 1 many)
 
--- each of these stands among the others, behind where the one before it stands
+-- Each of these lines is among the others, after the place of the one before it.
 abbrev pub StandInOrder : List (List ℕ) → List (List ℕ) → Type 0
 StandInOrder [] lines = Unit {0}
 StandInOrder (line ∷ more) lines =

@@ -2,8 +2,8 @@
 ghost use Rattle.std.specs.Prelude.{◌≡◌, ◌<◌, ℕ, List};
 ghost use Rattle.asked_lines.specs.Parts.{shard, times, times_in_shards, StandInOrder};
 
-/// The shards of lines are disjoint, and together they are whole: each line stands as often among them as among the lines. So where no line
-/// stands twice, each is in exactly one of the shards.
+/// The shards of lines are disjoint, and together they are all lines: each line stands in them as often as among the lines. So if no line stands
+/// twice, each is in exactly one shard.
 pub fn shards_are_disjoint_and_whole()
     ensures { (many : ℕ) (lines : List (List ℕ)) (line : List ℕ) → 0 < many → times_in_shards line many lines ≡ times line lines }
 {}

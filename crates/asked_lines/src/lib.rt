@@ -1,4 +1,5 @@
-//! The lines that ask for scenarios of a component that somebody else runs: each scenario's text, once, and parts of them.
+//! The lines that ask for scenarios of a component that somebody else runs: each scenario's text, once, and parts of these lines for several
+//! machines. Which scenarios are asked for is no matter of this crate.
 #![tactic(auto)]
 
 mod laws;

@@ -13,8 +13,8 @@ use scenario_values::{Scenario, Text};
 use std::alloc::{AllocError, Global};
 use std::marker::Model;
 
-/// The lines that ask for scenarios: the text of each, `none` for the one without entries, in the order in which they were added. No text
-/// stands twice. Contracts see the list of the lines, without their line feeds.
+/// The lines that ask for scenarios: the text of each (`none` if it has no entries), in the order in which they were added. No text stands twice.
+/// Contracts see the list of the lines, without their line feeds.
 #[derive(Drop)]
 pub struct AskedLines {
     lines: IndexSet<Text>,
@@ -38,7 +38,7 @@ impl AskedLines {
         }
     }
 
-    /// Adds the text of a scenario, unless it is there. An error means that memory was refused, and adds none.
+    /// Adds the text of a scenario, unless it is there already. An error means that memory was refused; then nothing is added.
     pub fn add(&mut self, alloc: Global, scenario: &Scenario) -> Result<(), AllocError>
         ensures ok { OnOk result (self.new ≡ insert_key bytes_eq self.old (scenario_text scenario.now)) }
         ensures err { OnErr result (self.new ≡ self.old) }

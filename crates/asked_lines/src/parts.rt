@@ -12,8 +12,8 @@ use std::fmt::Write;
 pub enum AskedPart {
     /// All of them.
     All,
-    /// Those that one of several machines takes: the shard of this number, from 1, of so many. Each line is in one of them, the first in
-    /// shard 1, the next in shard 2, and so round. A shard that there isn't has no line.
+    /// The lines for one of several machines: the shard with this number, from 1, and how many shards there are. The first line is in shard 1, the
+    /// next in shard 2, and so on round. A number that no shard has means no lines.
     Shard { number: u32, of: u32 },
     /// One line that says how many there are.
     Left,
@@ -26,6 +26,7 @@ fn is_in_shard(number: u32, of: u32, place: usize) -> bool
     of > 0 && place % (of as usize) + 1 == number as usize
 }
 
+/// Appends a line with its line feed.
 fn write_line(text: &mut String, line: &Text) -> Result<(), AllocError>
     ensures { OnOk result (string_bytes text.new ≡ string_bytes text.old ++ ended line.now) }
 {
@@ -42,6 +43,7 @@ fn write_all(text: &mut String, lines: &[Text]) -> Result<(), AllocError>
     Ok(())
 }
 
+/// Appends the lines of a shard.
 fn write_shard(text: &mut String, lines: &[Text], number: u32, of: u32) -> Result<(), AllocError>
     ensures { OnOk result (string_bytes text.new ≡ string_bytes text.old ++ text_of (shard number of lines.now)) }
 {
@@ -53,6 +55,7 @@ fn write_shard(text: &mut String, lines: &[Text], number: u32, of: u32) -> Resul
     Ok(())
 }
 
+/// Appends the line that says how many lines there are.
 fn write_left(text: &mut String, count: usize) -> Result<(), AllocError>
     ensures { OnOk result (string_bytes text.new ≡ string_bytes text.old ++ ended (left_line count)) }
 {

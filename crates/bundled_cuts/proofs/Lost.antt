@@ -1,4 +1,4 @@
--- A cut that loses all: no pending write is kept, and of each log just what lasts.
+-- A cut that loses everything: no pending write is kept, and of each log only what lasts.
 use Rattle.std.proofs.Common.{◌≡◌, ℕ, zero, suc, ◌-◌, Bool, false, not, List, [], ◌∷◌, ◌++◌, length, replicate, take, Option, Some, None, refl, ap, ◌∙◌, arith}
 use Rattle.std.specs.List.{suffix_len}
 use Rattle.std.proofs.lemmas.List.{append-nil, get_or-replicate, length-replicate}
@@ -19,7 +19,7 @@ none_kept zero writes = refl
 none_kept (suc count) [] = refl
 none_kept (suc count) (p ∷ writes) = none_kept count writes
 
--- of a log no front is kept
+-- No front of a log is kept.
 no_front : (count : ℕ) → kept_front (replicate count false) ≡ 0
 no_front count =
     let lost : List Bool = replicate count false in

@@ -1,4 +1,4 @@
--- A machine whose steps pass over the text of a return asks the same whatever it is, also where its power cut is asked.
+-- A machine whose steps pass over the text of a return asks the same whatever the text is, also when its power cut is asked.
 use Rattle.std.proofs.Common.{◌≡◌, ℕ, nat_lt, Bool, cond, List, [], ◌∷◌, ◌++◌, map, length, refl, ap, sym, ◌∙◌}
 use Rattle.std.proofs.lemmas.List.{map-append, length-map}
 use Rattle.action_eval.specs.Answers.{Reply, Go, Return, Halt}
@@ -29,7 +29,7 @@ module _ {S : Type 0} (m : Machine S) (same : (s : S) (a : Reply) → m.step s (
     abbrev cut : Cut
     cut = record { pending = λ own. pending (after m own); judge = λ own kept. judge (after m own) kept }
 
-    -- what is asked in a state, where the target doesn't ask any more and so many answers were given to the cut
+    -- what is asked in a state, if the target doesn't ask any more and so many answers were given to the cut
     abbrev asked : S → Move → List Reply → Move
     asked s further answers = by_own (m.move s) further (cond (nat_lt (length answers) (pending s)) (Ask keep) (Done (judge s (map keeps answers))))
 

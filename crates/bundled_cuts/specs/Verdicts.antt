@@ -1,4 +1,4 @@
--- The verdicts of runs to their power cut beside those of the runs without it.
+-- The verdicts of runs with their power cut, compared with those of the runs without it.
 use Rattle.std.specs.Prelude.{◌≡◌, ℕ, List, length}
 use Rattle.scenario_values.specs.Scenario.{Entries}
 use Rattle.action_eval.specs.Answers.{Reply}
@@ -7,8 +7,8 @@ use Rattle.target_trait.specs.Outcomes.{verdict_with}
 use Rattle.target_trait.specs.Play.{Move}
 use Rattle.cut_laws.specs.KeptSets.{run_of_case, LacksKeep, HasRoom}
 
--- each scenario without an entry of `power::keep` comes with the cut to the verdict that it comes to without, whatever the seed and the number of the
--- stream, and whatever the limit of hits that has room for one more hit for each pending write
+-- A scenario without an entry of `power::keep` has the same verdict with the cut as without it, whatever the seed and the stream number, if the limit
+-- has room for one more hit for each pending write.
 abbrev pub IsNoWeaker : (List Reply → Move) → Cut → List (List ℕ) → Type 0
 IsNoWeaker asks cut names = (seed stream limit : ℕ) (s : Entries) → LacksKeep s
     → HasRoom limit cut (run_of_case asks names seed stream limit s)

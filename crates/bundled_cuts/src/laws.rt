@@ -24,26 +24,26 @@ use cut_laws::nothing_is_weaker;
 use file_replace::Replace;
 use maildir_target::Maildir;
 
-/// A replacement of a file, in each variant, is judged after a power cut that loses all as it is without one.
+/// A replacement of a file, in each variant, is judged after a power cut that loses everything as it is without one.
 pub fn file_replacement_loses_alike()
     ensures { (variant : Replacement) (workload : Replacements)
         → LosesAlike (replacement_asks variant workload) (replacement_cut variant workload) }
 {}
 
-/// A delivery, in each variant, is judged after a power cut that loses all as it is without one.
+/// A delivery, in each variant, is judged after a power cut that loses everything as it is without one.
 pub fn delivery_loses_alike()
     ensures { (variant : Delivery) (messages : List (List (List ℕ)))
         → LosesAlike (delivery_asks variant messages) (delivery_cut variant messages) }
 {}
 
-/// A commit, in each variant, is judged after a power cut that loses all as it is without one, at which all parties restart.
+/// A commit, in each variant, is judged after a power cut that loses everything as it is without one. At either all parties restart.
 pub fn commit_loses_alike()
     ensures { (variant : Protocol) (workload : Transactions)
         → LosesAlike (commit_asks variant workload) (commit_cut variant workload) }
 {}
 
-/// Nothing weaker: of each bundled target, in each variant and over each workload, what fails without its power cut fails with it, with the same code, by
-/// the same scenario. So it is of a pass, and of a run that nothing is known of, as far as the limit has room for a hit for each pending write.
+/// Nothing weaker: for each bundled target, in each variant and over each workload, a scenario has with its power cut the verdict that it has
+/// without, if the scenario doesn't name the cut's point and the limit has room for a hit for each pending write.
 pub fn nothing_is_weaker_for_bundled_targets()
     ensures replacement { (variant : Replacement) (workload : Replacements)
         → IsNoWeaker (replacement_asks variant workload) (replacement_cut variant workload) replacement_points }
@@ -57,8 +57,8 @@ pub fn nothing_is_weaker_for_bundled_targets()
     nothing_is_weaker::<Commit>();
 }
 
-/// What a return says beside that the call fails changes nothing: each bundled target, in each variant and over each workload, asks and judges the same,
-/// also where its power cut is asked, at whatever point. So what is promised of plans with returns without a text holds of all scenarios.
+/// The text of a return changes nothing: each bundled target, in each variant and over each workload, asks and judges the same whatever the text is,
+/// with its power cut too, whichever point that asks. So what is promised of plans whose returns have no text holds of all scenarios.
 pub fn text_of_a_return_changes_nothing()
     ensures replacement { (variant : Replacement) (workload : Replacements) → PassesOverTexts (replacement_asks variant workload) }
     ensures delivery { (variant : Delivery) (messages : List (List (List ℕ))) → PassesOverTexts (delivery_asks variant messages) }

@@ -1,5 +1,5 @@
-//! Laws of the bundled targets. Of runs to their power cut: where its cut loses all, each judges as without a cut, so what fails without its cut fails
-//! with it. And of returns: what one says beside that the call fails changes nothing.
+//! Laws of the bundled targets: a power cut that loses everything is judged as no cut, so what fails without the cut fails with it; and the text of a
+//! return changes nothing.
 #![tactic(auto)]
 
 mod laws;

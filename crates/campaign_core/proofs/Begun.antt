@@ -21,7 +21,7 @@ use Rattle.grown_plans.specs.Promises.{IsLawful}
 use Rattle.campaign_core.proofs.FirstLevel.{few_sites_of}
 use Rattle.campaign_core.proofs.Grown.{list_is, listed_is, plans_counted, plans_some}
 
--- ---- an answer with what holds where there is one
+-- ---- a result, and what holds if there is one
 
 pub if_ok_both : {A E : Type 0} (r : Result A E) (P : A → Type 0) (Q : Type 0) → IfOk r P → OnOk r Q → IfOk r (λ x. P x × Q)
 if_ok_both (Ok x) P Q p q = (p, q)
@@ -112,7 +112,7 @@ begun_found k (Some d) count n (Some g) s are found =
     within (y ∷ ys) zero x e = omega arith
     within (y ∷ ys) (suc n) x e = let rest = within ys n x e in omega (arith, rest)
 
--- where it isn't, they are all
+-- If there is no plan of that number, these are all.
 pub begun_whole : (k : Campaign) (depth : Option ℕ) (n : ℕ) (g : Option (List (List Rig))) → AreBegun k depth (n + 1) g
     → slice_get (grown_scenarios k.points (grown_among g)) n ≡ None → AreGrown k depth g
 begun_whole k None n None are none = tt
@@ -129,7 +129,7 @@ begun_whole k (Some d) n (Some g) are none =
     beyond (y ∷ ys) zero e = absurd (let f : Some y ≡ None = e in cc)
     beyond (y ∷ ys) (suc n) e = let rest = beyond ys n e in omega (arith, rest)
 
--- and where more were asked for than a list may have
+-- The same if more were asked for than a list may have.
 pub begun_full : (k : Campaign) (depth : Option ℕ) (count : ℕ) (g : Option (List (List Rig))) → AreBegun k depth count g → 65536 < count → AreGrown k depth g
 begun_full k None count None are lt = tt
 begun_full k None count (Some g) are lt = absurd are
@@ -193,7 +193,7 @@ no_depth k (Some d) are = absurd are
 
 -- ---- a plan that is looked up
 
--- where it is among those with which the list begins, they are few
+-- If the plan is among those with which the list begins, they are few.
 pub begun_counted : (k : Campaign) (depth : Option ℕ) (count n : ℕ) (g : Option (List (List Rig))) (s : Entries) → AreBegun k depth count g
     → slice_get (grown_scenarios k.points (grown_among g)) n ≡ Some s → counted_to k count depth ≤ 65536
 begun_counted k None count n None s are found = absurd (let f : None ≡ Some s = found in cc)
@@ -201,7 +201,7 @@ begun_counted k None count n (Some g) s are found = absurd are
 begun_counted k (Some d) count n None s are found = absurd are
 begun_counted k (Some d) count n (Some g) s are found = let many = ap length are.same in let few = are.few in omega (arith, many, few)
 
--- where all grew, all are counted
+-- If all grew, all are counted.
 pub counted_all : (k : Campaign) (count : ℕ) (depth : Option ℕ) (g : Option (List (List Rig))) → depth ≡ k.given.depth → AreBegun k depth count g → AreGrown k depth g
     → counted_to k count depth ≡ length (plans_to k k.given.depth)
 counted_all k count None g is are all = refl

@@ -46,7 +46,7 @@ none_fails t seed stream code (less ∷ more) is =
       none_fails t seed stream code more (both_right (test less) (list_all test more) is),
     )
 
--- of one plan
+-- For one plan.
 module _ (t : Subject) (seed : ℕ) (entries : List Entries) (plans : List (List Rig)) (n : ℕ) (lt : n < length plans)
     (named : get_or entries n [] ≡ scenario_of t (get_or plans n [])) where
   if_least : (code : ℕ) (b : Bool) → verdict_of_plan t seed n (get_or plans n []) ≡ verdict.Fail code → is_least t seed n code (rigs_of (get_or plans n [])) ≡ b

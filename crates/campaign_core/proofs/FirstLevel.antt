@@ -1,4 +1,4 @@
--- Where plans grow, a census has few sites: each is a fault of the first level.
+-- If plans grow, a census has few sites: each is a fault of the first level.
 use Rattle.std.proofs.Common.{◌≡◌, ℕ, zero, suc, ◌+◌, ◌<◌, ◌≤◌, ◌==◌, Bool, true, false, cond, Option, None, List, [], ◌∷◌, ◌++◌, map, length, count_by, refl, ap, ◌∙◌, subst, arith, length-append, rules}
 use Rattle.std.specs.List.{range_with_len, flat_map}
 use Rattle.std.proofs.lemmas.List.{append-nil, length-map}
@@ -123,7 +123,7 @@ first_of_levels t (suc (suc d)) some =
     let rest = first_of_levels t (suc d) (omega arith) in
     omega (arith, e, rest)
 
--- where few plans grow, there are few sites
+-- If few plans grow, there are few sites.
 pub few_sites_grow : (asks : List Reply → Move) (names : List (List ℕ)) (limit seed d : ℕ) → GrowsByAsked (usual_subject asks names limit) [] → 1 ≤ d
     → length (grown (usual_subject asks names limit) d) ≤ 65536 → length (sites_of (census_of asks names seed limit)) < 65536
 few_sites_grow asks names limit seed d grows some few =

@@ -39,7 +39,7 @@ pub failure_fails : (say : ℕ → Entries → Verdict) (plans : List Entries) (
     → fails_with first.1 (say first.0 (get_or plans first.0 [])) ≡ true
 failure_fails say plans first fails = ap (fails_with first.1) fails.1 ∙ eq-eqb first.1 first.1 refl
 
--- what is told of each first failure: what it is reduced to fails, and no single fault can be left out of it
+-- What is reported of each first failure: what it is reduced to fails, and no single fault can be left out of it.
 pub findings_minimal : (asks : List Reply → Move) (names : List (List ℕ)) (seed limit : ℕ) (plans : List Entries) (firsts : List (ℕ × ℕ))
     → All (λ s. DistinctNames s) plans
     → All (IsFailure (verdict_with asks names seed limit) plans) firsts

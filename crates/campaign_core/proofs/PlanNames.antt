@@ -90,7 +90,7 @@ grown_distinct t d asked sites distinct listed =
     all_both P (map (scenario_of t) (grown t d) ++ storm_part t.names asked.seed asked.rate asked.storms sites) asked.listed
     (all_both P (map (scenario_of t) (grown t d)) (storm_part t.names asked.seed asked.rate asked.storms sites) grew many) listed
 
--- each plan's scenario has distinct names, where the names of the points are distinct and those in each listed scenario
+-- Each plan's scenario has distinct names, if the names of the points and those in each listed scenario are distinct.
 pub plans_distinct : (c : Campaign) → HasDistinct c.points → All (λ s. DistinctNames s) c.given.plans.listed → All (λ s. DistinctNames s) (plans c)
 plans_distinct c distinct listed =
     All-from_recursion (λ s. DistinctNames s) (plans c) (each c.given.depth (recursion_from_All (λ s. DistinctNames s) c.given.plans.listed listed))

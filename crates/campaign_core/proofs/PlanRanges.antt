@@ -9,7 +9,7 @@ use Rattle.result_book.proofs.RangeLemmas.{range_length, range_said}
 use Rattle.plan_ranges.specs.Ranges.{range_count, range_start}
 use Rattle.campaign_core.specs.inside.Ranges.{range_from, range_of}
 
--- the number stands in a range, where ranges have one size
+-- The number stands in one of the ranges, which have one size.
 abbrev InRange : (plans size m : ℕ) → Type 0
 InRange plans size m = (range : ℕ) × ((range < div_ceil plans size) × (min (range * size) plans ≤ m) × (m < min ((range + 1) * size) plans))
 

@@ -110,7 +110,7 @@ module _ (k : Campaign) (d : ℕ) (is : Some d ≡ k.given.depth) where
       verdict_at (say k) 0 (plans k) n (scenario_of (grower k) plan) (plan_at n plan e)
       ∙ ap (λ i. Some (say k i (scenario_of (grower k) plan))) (let goal : 0 + n ≡ n = omega arith in goal)
 
-  -- how the plans grew, and what is told of them
+  -- how the plans grew, and what is reported of them
   abbrev grew : GrowthFacts
   grew = record {
     depth = d;
@@ -209,7 +209,7 @@ module _ (k : Campaign) (d : ℕ) (is : Some d ≡ k.given.depth) (l : IsLawful 
   scenario_at : (number : ℕ) (plan : List Rig) → slice_get (grown (grower k) d) number ≡ Some plan → slice_index_or (plans k) number [] ≡ scenario_of (grower k) plan
   scenario_at number plan at = get_or_from_slice_get (plans k) number (scenario_of (grower k) plan) [] (plan_at k d is number plan at)
 
-  -- what is told of the first failure at a place
+  -- what is reported of the first failure at a place
   finding_at : (n : ℕ) (none : FindingFacts) → n < length (report k).findings → IsFinding (grower k) told (slice_index_or (report k).findings n none)
   finding_at n none low =
       let size = length-map firsts (finding (say k) (plans k)) in
@@ -284,7 +284,7 @@ module _ (k : Campaign) (d : ℕ) (is : Some d ≡ k.given.depth) (l : IsLawful 
         reached = most_reached (grower k) l d told g;
       }
 
--- of a campaign with a depth or without
+-- For a campaign with a depth or without.
 pub keeps_promises : (k : Campaign) → IsLawful (grower k) → IsGiven k.given → EachIsMinimal k → KeepsPromises k
 keeps_promises k l given minimal = by_depth k.given.depth refl
   where

@@ -57,7 +57,7 @@ most_none (suc n) zero =
     ∙ sym (ap (λ b. b && nat_eq 0 0) (some_none (suc n) (omega arith)))
 most_none (suc n) (suc m) = either_more (nat_lt (suc m) (suc n)) n m ∙ sym (ap (λ b. b && nat_eq (suc m) 0) (some_none (suc n) (omega arith)))
 
--- the most hits of a point are none just where no run of these plans asks it
+-- The most hits of a point are none exactly if no run of these plans asks it.
 hits_none : (t : Subject) (seed p : ℕ) (plans : List (List Rig)) (first count : ℕ) → first + count ≡ length plans
     → nat_eq (most (over (hits_at t seed p) plans first count)) 0
     ≡ not (is_reached (runs_from (λ n s. outcome t.asks (given_of s t.names seed n t.limit)) first (map (scenario_of t) (drop first plans))) p)
@@ -88,7 +88,7 @@ among_range a (suc n) p among = at (a == p) refl (among_range (a + 1) n p) among
     at true is rest e = let same : a ≡ p = search (is, Rattle.std.proofs.Common.rules) in omega (arith, same)
     at false is rest e = let later = rest e in omega (arith, later)
 
--- where each count is none just where no run asks its point
+-- If each count is none exactly when no run asks its point, the points without a count are those that no run asks.
 uncounted_is : (counts : List ℕ) (n : ℕ) (runs : List Told) → length counts ≡ n → ((p : ℕ) → p < n → nat_eq (get_or counts p 0) 0 ≡ not (is_reached runs p))
     → uncounted counts ≡ unreached_in n runs
 uncounted_is counts n runs many each =

@@ -47,7 +47,7 @@ unlisted_before k text w fault.TooManyPlans untouched h = (untouched, h)
 unlisted_before k text w fault.Memory untouched h = untouched
 unlisted_before k text w (fault.Write n) untouched h = absurd h
 
--- of a list that isn't too long
+-- For a list that isn't too long.
 pub short_of : (k : Campaign) (text : List ℕ) (w : Change) (f : CampaignFault) → length (plans k) ≤ most_plans → LeavesOnly text w f → IsFault k text w f
 short_of k text w fault.TooManyPlans few h = absurd h
 short_of k text w fault.Memory few h = h

@@ -111,7 +111,7 @@ reached_split run plans p at end up fits =
 abbrev in_range : (ℕ → Entries → Told) → List Entries → ℕ → ℕ → ℕ → Bool
 in_range run plans first p n = is_reached (runs_from run (range_from plans first n) (part_of plans first n)) p
 
--- a run asks it just where one of the first ranges does, or one of what comes behind them
+-- A run asks it exactly if one of the first ranges does, or one of what comes behind them.
 ranges_reach : (run : ℕ → Entries → Told) (plans : List Entries) (first p k : ℕ) → first ≤ length plans
     → is_reached (runs_from run first (drop first plans)) p
     ≡ (not (nat_eq (count_below (in_range run plans first p) k) 0) || is_reached (runs_from run (range_from plans first k) (drop (range_from plans first k) plans)) p)
@@ -128,7 +128,7 @@ ranges_reach run plans first p (suc k) fit =
     ∙ ap (λ b. b || behind (range_from plans first (k + 1))) (sym (ap not (none_of below (cond {A = ℕ} here 1 0)) ∙ some_by (nat_eq below 0) here))
     ∙ ap (λ n. not (nat_eq (below + cond {A = ℕ} here 1 0) 0) || behind (range_from plans first n)) next
 
--- in all ranges none asks it just where no run does
+-- In all ranges none asks it exactly if no run does.
 unreached_by_ranges : (run : ℕ → Entries → Told) (plans : List Entries) (first p : ℕ) → first ≤ length plans
     → nat_eq (count_below (in_range run plans first p) (range_count (length plans - first))) 0 ≡ not (is_reached (runs_from run first (drop first plans)) p)
 unreached_by_ranges run plans first p fit =

@@ -1,5 +1,5 @@
--- What a report tells of a list of plans: a map and recursions on lists. Which verdict a stream number and a scenario have, the first
--- argument says.
+-- What a report says of a list of plans, defined by a map and recursions on lists. The first argument
+-- `say` gives the verdict of a scenario under a stream number.
 use Rattle.std.specs.Prelude.{◌≡◌, ◌<◌, ℕ, ◌+◌, true, List, [], length, map, slice_index_or, Option, None, Some}
 use Rattle.std.specs.List.{range_with_len}
 use Rattle.scenario_values.specs.Scenario.{Entries, all_faults}
@@ -19,20 +19,20 @@ use Rattle.grown_runs.specs.GrownRuns.{over, cause_at}
 use Rattle.grown_runs.specs.Grown.{level_sizes, reached_each}
 use Rattle.campaign_core.specs.FaultTest.{fails_with, fault_test}
 
--- the reduction of a scenario's faults: which are kept so that it fails with this code, under this stream number
+-- The reduction of a scenario's faults: which ones are kept so that it still fails with this code under this stream number.
 abbrev pub reduction : (ℕ → Entries → Verdict) → ℕ → ℕ → Entries → Reduced
 reduction say stream code s = ddmin (fault_test (say stream) code s) (all_faults s)
 
--- the reduced scenario: that with the faults that were kept, tidied
+-- The reduced scenario: the scenario with only the faults that were kept, tidied.
 abbrev pub reduced : (ℕ → Entries → Verdict) → ℕ → ℕ → Entries → Entries
 reduced say stream code s = tidied (kept (reduction say stream code s).kept s)
 
--- the plan of this number
+-- The plan of this number.
 abbrev pub plan_at : List Entries → ℕ → Entries
 plan_at plans number = slice_index_or plans number []
 
--- what is told of a first failure, by its number and code: its own plan is reduced, with its own number as the stream number, as a
--- failure with its own code
+-- What is reported of a first failure, given its number and code. Its plan is reduced as a failure
+-- with this code, and the plan's number is the stream number.
 abbrev pub finding : (ℕ → Entries → Verdict) → List Entries → ℕ × ℕ → FindingFacts
 finding say plans first = record {
   number = first.0;
@@ -42,18 +42,18 @@ finding say plans first = record {
   tests = (reduction say first.0 first.1 (plan_at plans first.0)).tests;
 }
 
--- a cause among these plans, by its number and code
+-- A cause among these plans, given its number and code.
 abbrev pub cause_of : List Entries → ℕ × ℕ → CauseFacts
 cause_of plans cause = record { number = cause.0; code = cause.1; scenario = plan_at plans cause.0 }
 
--- what is told of a cause is so of these plans under a seed: the plan of its number has its scenario, fails with its code, and without any one
--- of its faults doesn't, with its number as the stream number
+-- What is reported of a cause is true for these plans under a seed: the plan of its number has its scenario, fails with its code, and doesn't fail so
+-- if any one of its faults is left out. The number is also the stream number.
 pub record IsCauseAmong (t : Subject) (seed : ℕ) (plans : List (List Rig)) (cause : CauseFacts) : Type 0 where
   pub among : cause.number < length plans
   pub scenario : cause.scenario ≡ scenario_of t (slice_index_or plans cause.number [])
   pub least : IsCause t seed cause.number cause.code (slice_index_or plans cause.number [])
 
--- how plans grew under a seed, of a list that begins with them, where there is a depth; all hits are known
+-- How plans grew under a seed, if there is a depth. The list of plans begins with those that grew. All hits are known, so `unseen` is 0.
 abbrev pub growth_of : Subject → ℕ → List Entries → Option ℕ → Option GrowthFacts
 growth_of t seed plans None = None
 growth_of t seed plans (Some depth) = Some (record {
@@ -66,8 +66,8 @@ growth_of t seed plans (Some depth) = Some (record {
   causes = map (cause_of plans) (over (cause_at t seed) (grown t depth) 0 (length (grown t depth)));
 })
 
--- what a report tells, of a label, a seed, a census, plans and how they grew; of each code with which a plan fails, the first failure is told;
--- which faults aren't met is counted of runs alone that answers tell with their hits
+-- The report, given a label, a seed, a census, the plans, and how they grew. It has the first failure for each code with which a plan fails. `unmet`
+-- is 0, since it is counted only for recorded runs.
 abbrev pub report_of : (ℕ → Entries → Verdict) → List ℕ → ℕ → List ℕ → List Entries → Option GrowthFacts → ReportFacts
 report_of say label seed census plans growth = record {
   label = label;
@@ -80,18 +80,18 @@ report_of say label seed census plans growth = record {
   growth = growth;
 }
 
--- a scenario fails with this code, and no single fault can be left out of it: it fails with all its faults, and without any one of
--- them it does not
+-- A scenario fails with this code, and no single fault can be left out of it: it fails with all
+-- its faults, and if any one of them is left out, it doesn't.
 abbrev pub IsMinimal : (Entries → Verdict) → ℕ → Entries → Type 0
 IsMinimal say code s =
     (fails_with code (say s) ≡ true)
     × IsOneMinimal (fault_test say code s) (range_with_len 0 (all_faults s))
 
--- the same of what is told of a failure: its reduced scenario fails with its code under its number as the stream number, and no single
--- fault can be left out of it
+-- The same for a reported failure: its reduced scenario fails with its code, with its number as the
+-- stream number, and no single fault can be left out of it.
 abbrev pub ReducesToMinimal : (ℕ → Entries → Verdict) → FindingFacts → Type 0
 ReducesToMinimal say found = IsMinimal (say found.number) found.code found.reduced
 
--- a plan that fails with this code, with its number as the stream number
+-- The plan of this number fails with this code, with its number as the stream number.
 abbrev pub IsFailure : (ℕ → Entries → Verdict) → List Entries → ℕ × ℕ → Type 0
 IsFailure say plans failure = (failure.0 < length plans) × (say failure.0 (plan_at plans failure.0) ≡ verdict.Fail failure.1)

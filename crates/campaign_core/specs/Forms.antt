@@ -9,7 +9,7 @@ use Rattle.report_forms.specs.declared.forms.Form.{Form}
 use Rattle.campaign_core.specs.CommandTexts.{case_in}
 use Rattle.campaign_core.specs.Headline.{Campaign, grown_to, plans, report}
 
--- ---- the settings that every campaign has, a line each; listed scenarios by their number alone
+-- ---- the settings that every campaign has, one line each; of the listed scenarios only their number
 
 abbrev pub bool_text : Bool → List ℕ
 bool_text true = codes "true"
@@ -32,22 +32,22 @@ settings_text c =
     limits_text c.given.max_hits c.given.depth
     ++ listing_text c.given.plans.pairs c.given.plans.storms c.given.plans.rate (length c.given.plans.listed)
 
--- the text that the settings were read from, or those lines where a program made them
+-- The text that the settings were read from. If a program made the settings, these lines.
 abbrev pub text_or : List ℕ → List ℕ → List ℕ
 text_or [] lines = lines
 text_or (byte ∷ more) lines = byte ∷ more
 
 -- ---- the report
 
--- what is told of runs: that of each scenario, hit by hit
+-- What the report shows of the run of each scenario, hit by hit.
 abbrev pub telling : Campaign → Telling
 telling c stream scenario = Some (run_facts most_hits_shown c.codes c.asks (case_in c stream scenario))
 
--- what is shown beside the report
+-- What is shown beside the report.
 abbrev pub shown : Campaign → ShownFacts
 shown c =
     shown_of (plans c) (grown_to c c.given.depth) c.given.plans.storms (length c.given.plans.listed) (text_or c.given.source (settings_text c))
 
--- the report in a form
+-- The report in this form.
 unfoldable pub report_in : Form → Campaign → List ℕ
 report_in form c = text_in form c.points c.codes (telling c) (report c) (shown c)

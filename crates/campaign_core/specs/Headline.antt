@@ -1,4 +1,4 @@
--- What a campaign comes to, by what its target asks and by its settings.
+-- What a campaign comes to, as a function of what its target asks and of its settings.
 use Rattle.std.specs.Prelude.{ℕ, List, [], Option, None, Some, IfSome, All, map, slice_get}
 use Rattle.scenario_values.specs.Scenario.{Entries}
 use Rattle.action_eval.specs.Answers.{Reply}
@@ -21,9 +21,9 @@ use Rattle.report_promises.specs.Promises.{Promises}
 use Rattle.campaign_core.specs.declared.subject.Subject.{Subject}
 use Rattle.campaign_core.specs.Findings.{report_of, growth_of, ReducesToMinimal, IsCauseAmong}
 
--- what a campaign is given: what its target asks on the workload, the names of the points and of the codes, the target's label, which kinds of
--- faults plans grow by at a point, and its settings. How many workers there are is among these, but nothing that a campaign comes to is told by
--- it.
+-- What a campaign is given: what its target asks when it runs the workload, the names of the points and of the codes,
+-- the target's label, the kinds of faults that plans grow by at each point, and the settings. The settings include the
+-- number of workers, but no result of a campaign depends on it.
 pub record Campaign : Type 0 where
   pub asks : List Reply → Move
   pub points : List (List ℕ)
@@ -32,7 +32,7 @@ pub record Campaign : Type 0 where
   pub kinds : ℕ → List Kind
   pub given : Given
 
--- that of a target, whose plans grow by the usual kinds of faults
+-- The campaign of a target, whose plans grow by the usual kinds of faults.
 abbrev pub campaign_of : (List Reply → Move) → List (List ℕ) → (ℕ → List ℕ) → List ℕ → Given → Campaign
 campaign_of asks points codes label given = record {
   asks = asks;
@@ -43,16 +43,16 @@ campaign_of asks points codes label given = record {
   given = given;
 }
 
--- the same by a target's setup, its workload and settings
+-- The same, given a target's setup, its workload and the settings.
 abbrev pub campaign_on : {T W : Type 0} → Ghosts T W → T → W → Given → Campaign
 campaign_on target setup workload given =
     campaign_of (target.asks setup workload) target.names target.code_text (target.label_of setup) given
 
--- and by what is tried
+-- The same, given the subject that is tried.
 abbrev pub campaign_in : {T W : Type 0} → Ghosts T W → Subject T W → Campaign
 campaign_in target tried = campaign_on target tried.target.now tried.workload.now tried.settings.now
 
--- the same from so many workers
+-- The same campaign with this many workers.
 abbrev pub on_workers : ℕ → Campaign → Campaign
 on_workers workers c = record {
   asks = c.asks;
@@ -63,19 +63,19 @@ on_workers workers c = record {
   given = with_workers workers c.given;
 }
 
--- the verdict of a scenario under a stream number
+-- The verdict of a scenario under a stream number.
 abbrev pub say : Campaign → ℕ → Entries → Verdict
 say c = verdict_with c.asks c.points c.given.plans.seed c.given.max_hits
 
--- how often each point is asked without faults
+-- How often each point is asked without faults.
 abbrev pub census : Campaign → List ℕ
 census c = census_of c.asks c.points c.given.plans.seed c.given.max_hits
 
--- whose runs plans grow from, and how
+-- What plans grow from: the runs of this subject.
 abbrev pub grower : Campaign → Grower
 grower c = record { asks = c.asks; names = c.points; limit = c.given.max_hits; kinds = c.kinds }
 
--- the list of plans: that of the census, or, to a depth, the plans that grow from each other's runs, storms and listed scenarios
+-- The list of plans: without a depth that of the census; with one, the plans that grow from each other's runs, storms and listed scenarios.
 abbrev pub plans_to : Campaign → Option ℕ → List Entries
 plans_to c None = plan_list c.points (census c) c.given.plans
 plans_to c (Some depth) = grown_list (grower c) depth c.given.plans (sites_of (census c))
@@ -83,28 +83,28 @@ plans_to c (Some depth) = grown_list (grower c) depth c.given.plans (sites_of (c
 abbrev pub plans : Campaign → List Entries
 plans c = plans_to c c.given.depth
 
--- how the plans grew, to a depth
+-- How the plans grew, if there is a depth.
 abbrev pub growth : Campaign → Option GrowthFacts
 growth c = growth_of (grower c) c.given.plans.seed (plans c) c.given.depth
 
--- what the report tells
+-- The report.
 abbrev pub report : Campaign → ReportFacts
 report c = report_of (say c) c.label c.given.plans.seed (census c) (plans c) (growth c)
 
--- for each code with which a plan fails, the least number of a plan that fails with it, and the code; in the order of the numbers
+-- For each code with which a plan fails, the lowest number of such a plan, and the code, in the order of the numbers.
 abbrev pub first_failures : Campaign → List (ℕ × ℕ)
 first_failures c = first_of_each (numbered (verdicts_from (say c) 0 (plans c)))
 
--- the first of them: the least number of a plan that fails, with its code
+-- The first of them: the lowest number of a plan that fails, with its code.
 abbrev pub first_failure : Campaign → Option (ℕ × ℕ)
 first_failure c = slice_get (first_failures c) 0
 
--- of each first failure that the report tells of: the reduced scenario fails with its own code, under the same seed and limit and its own
--- number as the stream number, and no single fault can be left out of it
+-- For each first failure of the report: its reduced scenario fails with the failure's code, under the same seed and limit and with its number as the
+-- stream number, and no single fault can be left out of it.
 abbrev pub EachIsMinimal : Campaign → Type 0
 EachIsMinimal c = All (ReducesToMinimal (say c)) (report c).findings
 
--- what the report tells, and the behaviours of the plans that grew
+-- The report, and the behaviours of the plans that grew.
 abbrev pub told_in : Campaign → GrowthFacts → Told
 told_in c growth = record {
   report = report c;
@@ -112,11 +112,11 @@ told_in c growth = record {
   behaviours = map (run_of_plan (grower c)) (grown (grower c) growth.depth);
 }
 
--- what the report of a campaign with a depth promises
+-- What the report of a campaign with a depth promises.
 abbrev pub KeepsPromises : Campaign → Type 0
 KeepsPromises c = IfSome (report c).growth (λ growth. Promises (grower c) (told_in c growth))
 
--- each cause that the report lists is one, also one from then on
+-- Each cause that the report lists is one, including those with a sticky fault.
 abbrev pub EachIsCause : Campaign → Type 0
 EachIsCause c = IfSome (report c).growth (λ growth. All (IsCauseAmong (grower c) c.given.plans.seed (grown (grower c) growth.depth)) growth.causes)
 
@@ -124,7 +124,7 @@ pub record EachIsTried (c : Campaign) : Type 0 where
   pub promises : KeepsPromises c
   pub causes : EachIsCause c
 
--- the plans that grow to a depth, where there is one
+-- The plans that grow to a depth. Without a depth there are none.
 abbrev pub grown_to : Campaign → Option ℕ → List (List Rig)
 grown_to c None = []
 grown_to c (Some depth) = grown (grower c) depth

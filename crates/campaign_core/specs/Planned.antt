@@ -1,4 +1,4 @@
--- What a campaign's plans are kept in.
+-- How a campaign stores its plans.
 use Rattle.std.specs.Prelude.{◌≡◌, ◌≤◌, ◌<◌, ℕ, List, Option, None, Some, length}
 use Rattle.std.specs.List.{AllByRecursion}
 use Rattle.scenario_values.specs.Scenario.{Entries}
@@ -14,7 +14,7 @@ use Rattle.campaign_core.specs.Headline.{Campaign, census, grower, plans}
 use Rattle.campaign_core.specs.CommandTexts.{with_rest}
 use Rattle.campaign_core.specs.declared.planned.Planned.{Planned}
 
--- plans that grew, each of which can be rigged
+-- The grown plans to a depth, each of which can be rigged.
 pub record IsGrown (c : Campaign) (depth : ℕ) (g : Grown) : Type 0 where
   pub has_grown : HasGrown (grower c) c.given.plans.seed depth g
   pub rigs : AllByRecursion (λ plan. CanBeRigged (rigs_of plan)) (grown (grower c) depth)
@@ -25,7 +25,7 @@ IsGrownTo c None (Some g) = ⊥
 IsGrownTo c (Some depth) None = ⊥
 IsGrownTo c (Some depth) (Some g) = IsGrown c depth g
 
--- the plans that grew with which a list begins that is looked at for so many
+-- The grown plans with which the list begins, as many as are needed to look at its first `count` plans.
 pub record IsBegun (c : Campaign) (depth count : ℕ) (plans : List (List Rig)) : Type 0 where
   pub same : plans ≡ begun (grower c) depth count
   pub rigs : AllByRecursion (λ plan. CanBeRigged (rigs_of plan)) plans
@@ -38,7 +38,7 @@ AreBegun c None count (Some plans) = ⊥
 AreBegun c (Some depth) count None = ⊥
 AreBegun c (Some depth) count (Some plans) = IsBegun c depth count plans
 
--- all plans that grew
+-- All grown plans.
 pub record IsAll (c : Campaign) (depth : ℕ) (plans : List (List Rig)) : Type 0 where
   pub same : plans ≡ grown (grower c) depth
   pub rigs : AllByRecursion (λ plan. CanBeRigged (rigs_of plan)) plans
@@ -51,7 +51,7 @@ AreGrown c None (Some plans) = ⊥
 AreGrown c (Some depth) None = ⊥
 AreGrown c (Some depth) (Some plans) = IsAll c depth plans
 
--- the plans that don't grow
+-- The plans that don't grow.
 abbrev pub listed_to : Campaign → Option ℕ → List Entries
 listed_to c None = plan_list c.points (census c) c.given.plans
 listed_to c (Some depth) = further_list c.points (census c) c.given.plans
@@ -65,7 +65,7 @@ pub record IsPlanned (c : Campaign) (p : Planned) : Type 0 where
   pub few : length (plans c) ≤ most_plans
   pub some : 0 < length (plans c)
 
--- the verdicts of the first plans of a campaign
+-- The verdicts of the first plans of a campaign.
 pub record AreKnown (say : ℕ → Entries → Verdict) (plans : List Entries) (verdicts : List Verdict) : Type 0 where
   pub said : AreSaid say plans 0 verdicts
   pub few : length verdicts ≤ length plans

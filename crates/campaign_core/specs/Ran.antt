@@ -11,17 +11,17 @@ use Rattle.campaign_core.specs.Planned.{IsPlanned}
 use Rattle.campaign_core.specs.declared.ran.Ran.{Ran}
 use Rattle.campaign_core.specs.declared.results.Results.{Results}
 
--- these are the verdicts of the plans, and the first failure of each code that one fails with
+-- These are the verdicts of the plans, and for each code the first plan that fails with it.
 abbrev pub AreResults : (ℕ → Entries → Verdict) → List Entries → Results → Type 0
 AreResults say plans results =
     (results.verdicts.items ≡ verdicts_from say 0 plans)
     × (results.firsts.items ≡ first_failures (numbered (verdicts_from say 0 plans)))
 
--- a campaign's plans, and what they come to
+-- A campaign's plans, and what they come to.
 pub record IsRan (c : Campaign) (r : Ran) : Type 0 where
   pub planned : IsPlanned c r.planned
   pub results : AreResults (say c) (plans c) r.results
 
--- the numbers of the points that no run of a plan asks
+-- The numbers of the points that no run of a plan asks.
 abbrev pub unreached : Campaign → List ℕ
 unreached c = unreached_in (length c.points) (runs_from (tried c) 0 (plans c))

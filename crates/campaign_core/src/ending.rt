@@ -1,4 +1,4 @@
-//! How a campaign ends, and why a command over a target writes no whole text.
+//! How a campaign ends, and why a command over a target didn't write its whole text.
 ghost use Rattle.std.specs.Prelude.{◌≡◌};
 ghost use Rattle.campaign_core.specs.declared.ending.CampaignFault.TheVariants.{Memory, Write};
 ghost use Rattle.campaign_core.specs.CommandTexts.{plan_fault};
@@ -10,7 +10,7 @@ use std::alloc::AllocError;
 /// How a campaign ended whose report was written.
 #[derive(Clone, Copy, Debug, PartialEq, Eq)]
 pub struct Ending {
-    /// The number of the first plan that fails; `None` where no plan fails.
+    /// The number of the first plan that fails; `None` if no plan fails.
     pub first: Option<u32>,
 }
 

@@ -11,24 +11,24 @@ ghost use Rattle.report_forms.specs.declared.forms.Form.{Form};
 use grown_plans::each_target_is_a_lawful_subject;
 use target_trait::Target;
 
-/// Each reduced scenario that a report or the text of `reduce` tells fails with its code, under the same seed, stream number and limit as
-/// what it was reduced from, and no single fault can be left out of it.
+/// Each reduced scenario in a report or in the text of `reduce` fails with its code, under the same seed, stream number and limit as what it was
+/// reduced from. If any single fault is left out of it, it no longer does.
 ///
-/// The names of the points are to be distinct, as those of each target are, and so are the names in each scenario that is listed or
-/// reduced, as those of each `Scenario` are.
+/// The names of the points have to be distinct, as those of each target are. So do the names in each scenario that is listed or reduced, as those of
+/// each `Scenario` are.
 pub fn reduced_scenarios_are_minimal()
     ensures report { (c : Campaign) → HasDistinct c.points → All (λ s. DistinctNames s) c.given.plans.listed → EachIsMinimal c }
     ensures reduce { (c : Campaign) (stream : ℕ) (scenario : Entries) → DistinctNames scenario → IsReducedToMinimal c stream scenario }
 {}
 
-/// From however many workers, a campaign has the same report, in each form.
+/// A campaign has the same report for any number of workers, in each form.
 pub fn workers_change_nothing()
     ensures { (form : Form) (c : Campaign) (workers : ℕ) → report_in form (on_workers workers c) ≡ report_in form c }
 {}
 
-/// The report of a campaign of a target keeps its promises, where its settings are within their ranges and each reduced scenario that it tells is
-/// minimal. And each cause that a report lists is one: the plan of its number has its scenario, fails with its code, and without any one of its faults
-/// doesn't fail with it.
+/// The report of a campaign of a target keeps its promises, if its settings are within their ranges and each reduced scenario in it is minimal. Each
+/// cause that it lists is one: the plan of its number has its scenario, fails with its code, and without any one of its faults doesn't fail with this
+/// code.
 pub fn each_behaviour_is_tried<T: Target>()
     ensures causes { (c : Campaign) → EachIsCause c }
     ensures promises { (setup : T) (workload : T.Workload) (given : Given)

@@ -1,5 +1,5 @@
-//! What is done with a target: a campaign, which runs its plans and reduces the first failure of each code; its list of plans; one
-//! scenario tried; and one scenario reduced. Each writes one text over a sink.
+//! What is done with a target: a campaign is run and reported, its plans are listed, and one scenario is tried, explained or reduced. Each writes one
+//! text to a sink.
 #![tactic(auto)]
 
 mod ending;
@@ -22,11 +22,12 @@ mod workers;
 mod written;
 
 pub use ending::{CampaignFault, Ending};
-pub use explaining::{explain_one, explain_one_telling};
+pub use explaining::{ToExplain, explain_one};
+pub use grown_runs::fails_with;
 pub use laws::{each_behaviour_is_tried, reduced_scenarios_are_minimal, workers_change_nothing};
 pub use listing::{plan_list, plan_scenario, plans_text};
 pub use planned::{Planned, plan_campaign, plans_of};
-pub use probe::{fails_with, fault_count};
+pub use probe::fault_count;
 pub use ran::{Ran, run_campaign};
 pub use reducing::reduce_one;
 pub use reporting::causes_of;

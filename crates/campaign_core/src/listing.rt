@@ -27,6 +27,7 @@ use std::thread::Threads;
 use target_trait::{Sink, Target};
 use work_gate::Gate;
 
+/// Appends the line of a plan: its number and its scenario.
 fn write_plan(
     alloc: Global,
     out: &mut String,
@@ -56,7 +57,7 @@ pub fn plans_text(alloc: Global, plans: &CampaignPlans<'_>) -> Result<String, Al
     Ok(text)
 }
 
-/// The scenario of a plan that grew, where there is one of this number. An error means that memory was refused.
+/// The scenario of the plan of this number, if that is one that grew. An error means that memory was refused.
 fn grown_plan(
     alloc: Global,
     catalogue: &'static [&'static str],
@@ -81,13 +82,13 @@ fn grown_plan(
     Ok(Some(scenario_of(alloc, catalogue, rigs.as_slice())?))
 }
 
-/// The scenario of the plan of this number of a campaign; `None` where the list has no such number.
+/// The scenario of the plan of this number of a campaign; `None` if the list has no such number.
 ///
-/// Runs of twins of the target tell the plan: where the campaign has a depth, those of the levels before the one that has it, of a plan from
-/// then on, of a storm and of a listed scenario those of all levels. The caller's target isn't touched.
+/// Twins of the target are run to find it; the caller's target isn't touched. With a depth these are the runs of the levels before the one that has
+/// the plan. For a plan whose last fault is sticky, a storm or a listed scenario, they are those of all levels.
 ///
-/// No further level is counted either, so a list of more than 65536 plans is answered where the levels up to the plan have fewer. The answer is
-/// `TooManyPlans` only where the list has more than 65536 plans, otherwise an error is `Memory`.
+/// Further levels aren't counted, so the scenario is found in a list of more than 65536 plans too, if the levels up to the plan have fewer.
+/// `TooManyPlans` comes only if the list has more than 65536 plans; any other error is `Memory`.
 pub fn plan_scenario<T: Target + Send, G: Gate, R: Threads + Wait + Sync>(
     host: &Host<'_, G, R>,
     subject: &Subject<'_, T>,
@@ -115,12 +116,11 @@ where
     Ok(Some(plans.plan(number).scenario(host.alloc)?))
 }
 
-/// Writes the list of plans of a campaign, a line for each: its number and its scenario. Runs of twins of the target tell the list: one
-/// without faults, and to a depth those of all levels. The caller's target isn't touched.
+/// Writes the list of plans of a campaign, a line for each: its number and its scenario. Twins of the target are run to find it: once without faults,
+/// and with a depth on the plans of all levels. The caller's target isn't touched.
 ///
-/// Nothing is written before the whole text stands. The answer is `TooManyPlans` only where the list has more than 65536 plans, and then,
-/// and where memory was refused, the sink is as it was and hasn't failed; `Write` tells how many bytes of the text, fewer than all, went
-/// out before the sink failed.
+/// Nothing is written before the whole text is made. `TooManyPlans` comes only if the list has more than 65536 plans. Then, and if memory was
+/// refused, the sink is as it was and hasn't failed. `Write` says how many bytes of the text, fewer than all, went out before the sink failed.
 pub fn plan_list<T: Target + Send, G: Gate, W: Sink, R: Threads + Wait + Sync>(
     host: &Host<'_, G, R>,
     subject: &Subject<'_, T>,

@@ -20,17 +20,17 @@ use std::thread::Threads;
 use target_trait::{Target, Verdict};
 use work_gate::Gate;
 
-/// How many plans a campaign has at most.
+/// The most plans that a campaign may have.
 const MOST_PLANS: u32 = 65536;
 
-/// What a campaign's plans are kept in.
+/// The lists of a campaign's plans.
 #[derive(Drop)]
 pub struct Planned<'a> {
-    /// How often each point is asked in the run without faults.
+    /// How often each point is hit in the run without faults.
     pub census: Census,
-    /// Of a campaign with a depth, the plans that grew and what their runs came to. They come first.
+    /// With a depth, the plans that grew and what their runs came to. They come before the others.
     pub grown: Option<Grown>,
-    /// The plans of the census; with a depth the storms and the listed scenarios alone.
+    /// The other plans: without a depth those of the census, with one the storms and the listed scenarios alone.
     pub listed: PlanList<'a>,
 }
 
@@ -47,14 +47,14 @@ fn census_of<T: Target>(alloc: Global, subject: &Subject<'_, T>) -> Result<Censu
     Ok(census)
 }
 
-/// How many plans may grow: storms and listed scenarios stand behind them.
+/// How many plans may grow, if the storms and listed scenarios are to stand behind them.
 fn room_to_grow(settings: &CampaignSettings) -> u32
     ensures { result + settings.now.plans.storms + length settings.now.plans.listed ≡ most_plans }
 {
     MOST_PLANS - settings.storms - settings.scenarios.len() as u32
 }
 
-/// What the plans of a campaign grow on, and how, to this depth.
+/// What the plans of a campaign need to grow to this depth: the target with its workload, the threads, and the limits.
 fn conditions<'s, T: Target, G: Gate, R: Threads + Wait + Sync>(
     host: &Host<'s, G, R>,
     subject: &Subject<'s, T>,
@@ -84,7 +84,7 @@ fn conditions<'s, T: Target, G: Gate, R: Threads + Wait + Sync>(
     }
 }
 
-/// The plans that grow to this depth, with what their runs come to.
+/// The plans that grow to this depth, and what their runs come to.
 fn grown_to<T: Target + Send, G: Gate, R: Threads + Wait + Sync>(
     host: &Host<'_, G, R>,
     subject: &Subject<'_, T>,
@@ -103,7 +103,7 @@ where
     grow(&conditions(host, subject, depth))
 }
 
-/// The plans that grow to this depth, level by level until they are `count` or more; all of them where they never are.
+/// The plans that grow to this depth, level by level until there are at least `count`, or else all of them.
 fn begun_to<T: Target + Send, G: Gate, R: Threads + Wait + Sync>(
     host: &Host<'_, G, R>,
     subject: &Subject<'_, T>,
@@ -123,10 +123,10 @@ where
     grow_list(&conditions(host, subject, depth), count)
 }
 
-/// Of a campaign with a depth, the plans that grow, level by level until they are `count` or more; all of them where they never are. No more
-/// is run than that takes.
+/// With a depth, the plans that grow, level by level until there are at least `count`, or else all of them. No more plans are run than that takes.
+/// `None` without a depth.
 ///
-/// The answer is `TooManyPlans` only where these, the storms and the listed scenarios are more than 65536; otherwise an error is `Memory`.
+/// `TooManyPlans` comes only if these, the storms and the listed scenarios are more than 65536; any other error is `Memory`.
 pub fn begin_list<T: Target + Send, G: Gate, R: Threads + Wait + Sync>(
     host: &Host<'_, G, R>,
     subject: &Subject<'_, T>,
@@ -146,10 +146,10 @@ where
     Ok(Some(begun))
 }
 
-/// The census of a campaign, by a run of a twin of the target, and those of its plans that don't grow: the storms and the listed scenarios,
-/// where it has a depth, which stand behind the plans that grew.
+/// The census of a campaign, by a run of a twin of the target, and those of its plans that don't grow. With a depth these are the storms and the
+/// listed scenarios, which stand behind the plans that grew.
 ///
-/// The answer is `TooManyPlans` only where there are more than 65536 plans; otherwise an error is `Memory`.
+/// `TooManyPlans` comes only if there are more than 65536 plans; any other error is `Memory`.
 pub fn end_list<'a, T: Target>(
     alloc: Global,
     subject: &Subject<'a, T>,
@@ -179,9 +179,9 @@ pub fn end_list<'a, T: Target>(
     Ok((census, listed))
 }
 
-/// A campaign's census and its plans: those of the census, or those that grow from each other's runs, which are run for it.
+/// A campaign's census and its plans: those of the census or, with a depth, those that grow from each other's runs. The latter are run for it.
 ///
-/// The answer is `TooManyPlans` only where there are more than 65536 plans; otherwise an error is `Memory`.
+/// `TooManyPlans` comes only if there are more than 65536 plans; any other error is `Memory`.
 pub fn plan_campaign<'a, T: Target + Send, G: Gate, R: Threads + Wait + Sync>(
     host: &Host<'_, G, R>,
     subject: &Subject<'a, T>,
@@ -210,7 +210,7 @@ where
     })
 }
 
-/// The plans that grew, where any did.
+/// The plans that grew, if any did.
 fn grown_plans(grown: &Option<Grown>) -> Option<&GrownPlans>
     ensures { option_copied result ≡ option_map (λ g. g.list.plans) grown.now }
 {
@@ -220,7 +220,7 @@ fn grown_plans(grown: &Option<Grown>) -> Option<&GrownPlans>
     }
 }
 
-/// The plans of a campaign, by those that grew, where any did, and those that don't grow.
+/// The plans of a campaign: those that grew, if any did, and those that don't grow.
 pub fn plans_with<'p, T: Target>(
     subject: &Subject<'_, T>,
     grown: Option<&'p GrownPlans>,
@@ -236,7 +236,7 @@ pub fn plans_with<'p, T: Target>(
     CampaignPlans::grown(grown, catalogue, &*listed)
 }
 
-/// The plans of a campaign, by what they are kept in.
+/// The plans of a campaign, from its lists.
 pub fn plans_of<'p, T: Target>(
     subject: &Subject<'_, T>,
     planned: &'p Planned<'_>,
@@ -250,7 +250,7 @@ pub fn plans_of<'p, T: Target>(
     CampaignPlans::grown(grown, catalogue, &planned.listed)
 }
 
-/// The verdicts of those plans that have run already: the ones that grew.
+/// The verdicts of the plans that have run already, which are those that grew.
 pub fn known_of<'p, T: Target>(subject: &Subject<'_, T>, planned: &'p Planned<'_>) -> &'p [Verdict]
     requires { IsPlanned (campaign_in T.Target subject.now) planned.now }
     ensures known { AreKnown (say (campaign_in T.Target subject.now)) (plans (campaign_in T.Target subject.now)) result.now }

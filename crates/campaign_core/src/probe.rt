@@ -2,17 +2,18 @@
 ghost use Rattle.std.specs.Prelude.{◌≡◌, ◌≤◌, All, IfOk, vec_len};
 ghost use Rattle.scenario_values.specs.Scenario.{all_faults};
 ghost use Rattle.campaign_given.specs.Given.{verdict_on};
-ghost use Rattle.campaign_core.specs.FaultTest.{fails_with, fault_test};
+ghost use Rattle.campaign_core.specs.FaultTest.{fault_test};
 ghost use Rattle.campaign_core.specs.Findings.{reduction};
 
 use crate::subject::Host;
 use campaign_given::CampaignSettings;
 use ddmin_parallel::{Probe, Reduction, reduce};
+use grown_runs::fails_with;
 use scenario_values::{Scenario, are_faults, faults, faults_are_counted, keep};
 use std::alloc::{AllocError, Global};
 use std::sync::Wait;
 use std::thread::Threads;
-use target_trait::{Target, Verdict, run_verdict};
+use target_trait::{Target, run_verdict};
 use work_gate::Gate;
 
 /// How many faults a scenario has. An error means that memory was refused.
@@ -26,19 +27,19 @@ pub fn fault_count(alloc: Global, scenario: &Scenario) -> Result<u32, AllocError
     Ok(places.len() as u32)
 }
 
-/// A failure that is reduced: what all its tests share.
+/// A failure that is to be reduced: what all its tests share.
 #[derive(Drop)]
 pub struct Failure<'a, T: Target> {
     pub workload: &'a T::Workload,
-    /// Under their seed and limit each test is run.
+    /// Each test is run under their seed and limit.
     pub settings: &'a CampaignSettings,
-    /// What fails.
+    /// The scenario that fails.
     pub scenario: &'a Scenario,
     /// How many faults the scenario has.
     pub faults: u32,
-    /// The stream number of the random words, that of the run that failed.
+    /// The stream number of the run that failed, under which each test is run.
     pub stream: u64,
-    /// The code of the failure; a run that fails with another code doesn't count.
+    /// The code of the failure. A run that fails with another code counts as not failing.
     pub code: u32,
     ghost counted: { faults ≡ all_faults scenario.now },
 }
@@ -51,16 +52,6 @@ pub struct CaseProbe<'a, T: Target> {
     pub alloc: Global,
 }
 
-/// Whether a verdict is a failure with this code.
-pub fn fails_with(code: u32, verdict: Verdict) -> bool
-    ensures { result ≡ fails_with code verdict }
-{
-    match verdict {
-        Verdict::Fail(other) => other == code,
-        Verdict::Pass | Verdict::Unresolved => false,
-    }
-}
-
 impl<'a, T: Target + Send> Probe for CaseProbe<'a, T>
 where
     T::Workload: Sync,
@@ -69,8 +60,8 @@ where
         probe.failure.now.settings.now probe.failure.now.stream)
         probe.failure.now.code probe.failure.now.scenario.now set };
 
-    /// Runs the scenario with the faults of the set alone, under the failure's seed, stream number and limit. A list that isn't faults
-    /// of the scenario in ascending order is no.
+    /// Runs the scenario with the faults of the set alone, under the failure's seed, stream number and limit. A list that isn't faults of the
+    /// scenario in ascending order is answered with no.
     fn test(&mut self, set: &[u32]) -> Result<bool, AllocError> {
         let failure = self.failure;
         if !are_faults(failure.faults, set) {
@@ -108,8 +99,8 @@ where
     Ok(all)
 }
 
-/// Reduces a failure with a thread for each worker, and a twin of the target for each. The result is that of one thread. An error means
-/// that memory was refused.
+/// Reduces a failure with one thread and one twin of the target for each worker. The result is the same as with one thread. An error means that
+/// memory was refused.
 pub fn reduction_of<T: Target + Send, G: Gate, R: Threads + Wait + Sync>(
     host: &Host<'_, G, R>,
     target: &T,

@@ -27,7 +27,7 @@ pub struct Ran<'a> {
     pub results: Results,
 }
 
-/// How often each point is hit by runs that were made to plan: the most hits of a run of the plans that grew, or those of the census.
+/// How often each point is hit by the runs that were made to find the plans: the most hits in a run of a plan that grew, or those of the census.
 fn counts_of<'p>(planned: &'p Planned<'_>) -> &'p [u32]
     ensures { result.now ≡ counts_in planned.now }
 {
@@ -37,7 +37,7 @@ fn counts_of<'p>(planned: &'p Planned<'_>) -> &'p [u32]
     }
 }
 
-/// The points that are watched where it is to be seen which of them no run asks: those without a hit so far. None where it isn't.
+/// The points that are watched, if the campaign is to see which points no run hits: those without a hit so far. None are watched otherwise.
 fn watched_of(
     alloc: Global,
     planned: &Planned<'_>,
@@ -77,11 +77,10 @@ where
     run_input_plans(host, subject.target, &input, known_of(subject, planned))
 }
 
-/// Runs a campaign's plans, with as many threads as the settings say. What they come to is that of one thread. Where the campaign is surveyed, the
-/// same runs tell which points none of them asks.
+/// Runs a campaign's plans, with as many threads as the settings say. What they come to is the same as with one thread. If the campaign is surveyed,
+/// the same runs show which points none of them hits. The caller's target isn't touched.
 ///
-/// The answer is `TooManyPlans` only where there are more than 65536 plans; otherwise an error is `Memory`, and never `Write`. The caller's target
-/// isn't touched.
+/// `TooManyPlans` comes only if there are more than 65536 plans; any other error is `Memory`, and never `Write`.
 pub fn run_campaign<'a, T: Target + Send, G: Gate, R: Threads + Wait + Sync>(
     host: &Host<'_, G, R>,
     subject: &Subject<'a, T>,

@@ -1,4 +1,4 @@
-//! A failing scenario, reduced to what it takes to fail.
+//! A failing scenario, reduced to the faults that it needs to fail.
 ghost use Rattle.std.specs.Prelude.{◌≡◌, ◌++◌, ◌∷◌, [], true, false, codes, string_bytes, IfOk, IfErr, OnOk};
 ghost use Rattle.std.specs.Fmt.{decimal};
 ghost use Rattle.report.specs.ReportText.{scenario_text, text_of};
@@ -58,7 +58,7 @@ fn verdict_of<T: Target>(
     run_verdict(alloc, &mut twin, subject.workload, &case)
 }
 
-/// Appends what is left of a scenario, and how many sets of faults were tested.
+/// Appends the lines of the scenario that is left, and of how many sets of faults were tested.
 fn write_left(
     alloc: Global,
     out: &mut String,
@@ -73,7 +73,7 @@ fn write_left(
     writeln!(out, "\ntests {tests}")
 }
 
-/// Appends what a scenario that failed with this code is reduced to, and how many tests that took.
+/// Appends the lines of what a scenario that failed with this code is reduced to, and of how many tests that took.
 fn write_reduced<T: Target + Send, G: Gate, R: Threads + Wait + Sync>(
     host: &Host<'_, G, R>,
     out: &mut String,
@@ -124,13 +124,15 @@ where
     Ok(text)
 }
 
-/// Runs a scenario under a stream number, as a plan under its own, and, where it fails, reduces it, and writes the lines of `reduce`: the
-/// verdict, and of a failure the scenario that is left and how many sets of faults were tested.
+/// Runs a scenario under a stream number and, if it fails, reduces it. Writes the lines of `reduce`: the verdict and, for a failure, the scenario
+/// that is left and how many sets of faults were tested. A plan of a campaign runs under its own number.
 ///
-/// As many threads as the settings say test sets of faults, each on a twin of the target; the text is that of one thread, and the
-/// caller's target isn't touched. The scenario that is left fails with the same code under the same stream number, and no single fault can
-/// be left out of it. Nothing is written before the text stands whole: for want of memory the sink is unchanged and hasn't failed. A
-/// failed write tells how many bytes of the text, fewer than all, went out.
+/// As many threads as the settings say test sets of faults, each on a twin of the target. The text is the same as with one thread, and the caller's
+/// target isn't touched. The scenario that is left fails with the same code under the same stream number, and without any single one of its faults it
+/// doesn't.
+///
+/// Nothing is written before the whole text is made: if memory was refused, the sink is as it was and hasn't failed. `Write` says how many bytes of
+/// the text, fewer than all, went out before the sink failed.
 pub fn reduce_one<T: Target + Send, G: Gate, W: Sink, R: Threads + Wait + Sync>(
     host: &Host<'_, G, R>,
     subject: &Subject<'_, T>,

@@ -1,4 +1,4 @@
-//! What the report of a campaign tells.
+//! The report of a campaign whose plans have run.
 ghost use Rattle.std.specs.Prelude.{◌≡◌, ◌<◌, length, map, All, IfOk, OnOk};
 ghost use Rattle.campaign_core.specs.Findings.{cause_of, finding, IsFailure, ReducesToMinimal};
 ghost use Rattle.campaign_core.specs.Headline.{campaign_in, plans, growth, report, EachIsMinimal};
@@ -20,8 +20,8 @@ use std::thread::Threads;
 use target_trait::Target;
 use work_gate::Gate;
 
-/// What is told of a first failure of an input, by its number and code, with its plan's scenario reduced. An error means that memory was
-/// refused.
+/// The finding of a first failure of an input, which is given by its number and code: its plan's scenario, and what that is reduced to. An error
+/// means that memory was refused.
 fn finding_of<T: Target + Send, G: Gate, R: Threads + Wait + Sync>(
     host: &Host<'_, G, R>,
     target: &T,
@@ -55,7 +55,7 @@ where
     })
 }
 
-/// What is told of each first failure of an input, reduced one after the other. An error means that memory was refused.
+/// The findings of all first failures of an input, reduced one after the other. An error means that memory was refused.
 fn findings<T: Target + Send, G: Gate, R: Threads + Wait + Sync>(
     host: &Host<'_, G, R>,
     target: &T,
@@ -97,7 +97,7 @@ pub fn causes_of(
     Ok(all)
 }
 
-/// How a campaign's plans grew, where it has a depth. An error means that memory was refused.
+/// How a campaign's plans grew, if it has a depth. An error means that memory was refused.
 fn growth_of<'r, T: Target>(
     alloc: Global,
     subject: &Subject<'_, T>,

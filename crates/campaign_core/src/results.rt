@@ -20,9 +20,9 @@ use work_gate::Gate;
 pub struct Results {
     /// The verdict of each plan.
     pub verdicts: Vec<Verdict>,
-    /// For each code with which a plan fails, the least number of one that does, and the code; in the order of the numbers.
+    /// For each code with which a plan fails, the number of the first plan that does, and the code; in the order of the numbers.
     pub firsts: Vec<(u32, u32)>,
-    /// The numbers of the points that no run asks, in the order of the catalogue; none where that wasn't to be seen.
+    /// The numbers of the points that no run hits, in the order of the catalogue; none if that wasn't looked at.
     pub unreached: Vec<u32>,
 }
 
@@ -39,8 +39,8 @@ impl Results {
     }
 }
 
-/// Runs each plan of an input whose verdict isn't known, with a thread for each worker and a twin of the target for each. The results are
-/// those of one thread, and of the input's watched points those are told that no run made here asks. An error means that memory was refused.
+/// Runs each plan of an input whose verdict isn't known, with one thread and one twin of the target for each worker. The results are the same as with
+/// one thread. `unreached` has those of the input's watched points that no run made here hits. An error means that memory was refused.
 pub fn run_input_plans<T: Target + Send, G: Gate, R: Threads + Wait + Sync>(
     host: &Host<'_, G, R>,
     target: &T,

@@ -14,7 +14,7 @@ use target_trait::Target;
 use work_gate::Gate;
 use worker_pool::Job;
 
-/// What a runner's answers depend on. No value is made.
+/// What a runner's answers depend on. It is for contracts: no value of it is made.
 pub struct Setup<T: Target> {
     pub target: T,
     pub workload: T::Workload,
@@ -22,12 +22,12 @@ pub struct Setup<T: Target> {
     pub plans: LinkedList<Scenario>,
     /// The points that are watched.
     pub watched: LinkedList<u32>,
-    /// The number of the first plan that is run: those before it have their verdicts.
+    /// The number of the first plan that is run. The plans before it have their verdicts.
     pub first: u32,
 }
 
-/// A target, with the input whose plans it runs, and with a workspace of its own that each run takes over from the one before. The gate is told
-/// what each range came to.
+/// A target, and the input whose plans it runs. Each run takes over the workspace from the run before. After each range the runner reports to the
+/// gate what its plans came to.
 #[derive(Drop)]
 pub struct Runner<'a, 'g, T: Target, G: Gate> {
     pub gate: &'g G,
@@ -73,8 +73,7 @@ where
             &mut self.target,
             &mut self.workspace,
             self.input,
-            self.first + begin,
-            self.first + end,
+            self.first + begin..self.first + end,
         )?;
         if self.gate.is_watched() {
             self.gate.ended(ended_of(range.verdicts(), 0));

@@ -19,11 +19,11 @@ use std::thread::Threads;
 use target_trait::{Sink, Target};
 use work_gate::Gate;
 
-/// Writes the report of a campaign whose plans have run, in a form: what [`campaign`] does once they have, with the same promises. First the first
-/// failures are reduced.
+/// Reduces the first failures of a campaign whose plans have run, and writes its report in a form. It is what [`campaign`] does once the plans have
+/// run, with the same promises.
 ///
-/// Nothing is written before the whole text stands. Where memory was refused, the sink is as it was and hasn't failed; `Write` tells how many bytes of
-/// the text, fewer than all, went out before the sink failed. The answer is never `TooManyPlans`.
+/// Nothing is written before the whole text is made. If memory was refused, the sink is as it was and hasn't failed; `Write` says how many bytes of
+/// the text, fewer than all, went out before the sink failed. `TooManyPlans` never comes.
 pub fn write_campaign<T: Target + Send, G: Gate, W: Sink, R: Threads + Wait + Sync>(
     host: &Host<'_, G, R>,
     subject: &Subject<'_, T>,
@@ -42,31 +42,30 @@ where
     ensures fault { IfErr result (LeavesOnly (report_in form.now (campaign_in T.Target subject.now)) (change W.Sink sink.old sink.new)) }
 {
     each_behaviour_is_tried::<T>();
-    // for its clause alone, that the settings are within their ranges
+    // called for its clause alone: the settings are within their ranges
     let _ = subject.settings.plan_settings();
     let text = report_in(host, subject, form, ran)?;
     write_report(text.as_slice(), sink)?;
     Ok(ran.results.ending())
 }
 
-/// Runs a campaign, and writes its report in a form. The report tells the census and the plans of a twin of the target, the verdict of each plan, and
-/// for each code with which a plan fails the first failure, with its scenario reduced. The caller's target isn't touched.
+/// Runs a campaign, and writes its report in a form. The report has the census and the plans of a twin of the target, the verdict of each plan, and
+/// the first failure for each code with which a plan fails, with its scenario reduced. The caller's target isn't touched.
 ///
-/// As many threads as the settings say run the plans, and then the tests of one reduction after the other, each on a twin of its own. The
-/// report is that of one thread, whichever thread runs what, and in whatever order they end. Each reduced scenario fails with the code of
-/// its own plan, under the same seed and limit and its own plan's number as the stream number, and no single fault can be left out of it.
+/// As many threads as the settings say run the plans, and then the tests of one reduction after the other, each on a twin of its own. The report is
+/// the same as with one thread, whichever thread runs what, and in whatever order they end. Each reduced scenario fails with the code of its own
+/// plan, under the same seed and limit and with its own plan's number as the stream number; without any single one of its faults it doesn't.
 ///
-/// A worker arrives at the gate with each plan's number before it runs the plan. Of more than 1024 plans it takes 16 at a time, of more than
-/// 16384 plans 64, and arrives with all of them, in their order, before it runs the first. The numbers of the requests start from 0 in each
-/// reduction.
+/// A worker arrives at the gate with each plan's number before it runs the plan. If there are more than 1024 plans it takes 16 at a time, and if
+/// there are more than 16384 it takes 64. It arrives with all of them, in their order, before it runs the first. In each reduction the numbers of the
+/// requests start from 0.
 ///
-/// Where the settings have a depth, the plans grow from each other's runs, level by level: each behaviour of the target in which at most so
-/// many faults act is that of exactly one plan of the levels, and no two plans of them have the same; each plan that fails has a cause among
-/// them; and where the level after the last one is empty, each behaviour there is was tried.
+/// If the settings have a depth, the plans grow from each other's runs, level by level. Each behaviour of the target in which at most so many faults
+/// act is that of exactly one plan of the levels, and no two plans of them have the same. Each plan that fails has a cause among them. If the level
+/// after the last one would be empty, each behaviour that there is was tried.
 ///
-/// Nothing is written before the whole text stands. The answer is `TooManyPlans` only where the list has more than 65536 plans, and then,
-/// and where memory was refused, the sink is as it was and hasn't failed; `Write` tells how many bytes of the text, fewer than all, went
-/// out before the sink failed.
+/// Nothing is written before the whole text is made. `TooManyPlans` comes only if the list has more than 65536 plans. Then, and if memory was
+/// refused, the sink is as it was and hasn't failed. `Write` says how many bytes of the text, fewer than all, went out before the sink failed.
 pub fn campaign<T: Target + Send, G: Gate, W: Sink, R: Threads + Wait + Sync>(
     host: &Host<'_, G, R>,
     subject: &Subject<'_, T>,

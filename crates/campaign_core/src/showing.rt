@@ -20,12 +20,14 @@ use std::thread::Threads;
 use target_trait::Target;
 use work_gate::Gate;
 
+/// How a report spells a boolean setting.
 fn bool_text(value: bool) -> &'static str
     ensures { result.now ≡ bool_text value }
 {
     if value { "true" } else { "false" }
 }
 
+/// How a report spells a depth; `none` if there is none.
 fn depth_text(alloc: Global, depth: Option<u32>) -> Result<String, AllocError>
     ensures { IfOk result (λ text. string_bytes text ≡ depth_text depth) }
 {
@@ -67,7 +69,7 @@ fn write_listing(
     Ok(())
 }
 
-/// The settings that every campaign has.
+/// The lines of those settings that every campaign has.
 fn settings_text<T: Target>(alloc: Global, subject: &Subject<'_, T>) -> Result<String, AllocError>
     ensures { IfOk result (λ text. string_bytes text ≡ settings_text (campaign_in T.Target subject.now)) }
 {
@@ -85,7 +87,7 @@ fn settings_text<T: Target>(alloc: Global, subject: &Subject<'_, T>) -> Result<S
     Ok(out)
 }
 
-/// The text that the settings were read from, or those that every campaign has, where a program made them.
+/// The text from which the settings were read. If a program made them, there is none: then the settings that every campaign has.
 fn shown_settings<T: Target>(alloc: Global, subject: &Subject<'_, T>) -> Result<String, AllocError>
     ensures { IfOk result (λ text. let c = campaign_in T.Target subject.now in string_bytes text ≡ text_or c.given.source (settings_text c)) }
 {
@@ -98,7 +100,7 @@ fn shown_settings<T: Target>(alloc: Global, subject: &Subject<'_, T>) -> Result<
     }
 }
 
-/// Each run is one of a twin of the target.
+/// To show a run, a twin of the target is run once more.
 impl<'a, T: Target> Teller for Subject<'a, T> {
     ghost use Rattle.campaign_core.specs.Forms.{telling};
     ghost use Rattle.campaign_core.specs.Headline.{campaign_in};
@@ -119,7 +121,7 @@ impl<'a, T: Target> Teller for Subject<'a, T> {
     }
 }
 
-/// The plans that grew, where any did.
+/// The plans that grew, if any did.
 fn grown_part<'p>(planned: &'p Planned<'_>) -> Option<&'p GrownPlans>
     ensures { option_copied result ≡ option_map (λ g. g.list.plans) planned.now.grown }
 {

@@ -7,7 +7,7 @@ use std::thread::Threads;
 use target_trait::Target;
 use work_gate::Gate;
 
-/// What runs take from outside: the threads that workers are, the memory, and the gate at which workers arrive with what they take.
+/// What runs are given from outside: the threads of the workers, the memory, and the gate at which workers arrive with what they take.
 #[derive(Drop)]
 pub struct Host<'a, G: Gate, R: Threads + Wait + Sync> {
     pub rt: &'a R,
@@ -15,8 +15,7 @@ pub struct Host<'a, G: Gate, R: Threads + Wait + Sync> {
     pub gate: &'a G,
 }
 
-/// What is tried: a target, with the workload that its runs are given and the settings of the campaign. The target itself isn't run: each
-/// run is one of a twin.
+/// What is tested: a target, the workload of its runs, and the settings of the campaign. Only twins of the target are run.
 #[derive(Drop)]
 pub struct Subject<'a, T: Target> {
     pub target: &'a T,

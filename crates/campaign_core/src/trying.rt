@@ -31,13 +31,14 @@ fn try_text<N: Names>(alloc: Global, names: &N, outcome: &Outcome) -> Result<Str
     Ok(text)
 }
 
-/// Runs the scenario on a twin of the target, and writes the five lines of `try`: the verdict, the number of points asked, the words taken,
-/// the simulated milliseconds and the number of notes.
+/// Runs the scenario on a twin of the target, and writes the five lines of `try`: the verdict, the number of points asked, the words taken, the
+/// simulated milliseconds and the number of notes.
 ///
-/// The seed of the settings and the stream number are those of the run's words: a plan of a campaign runs under its own number. After the
-/// settings' `max_hits` answered hits the run is stopped and unresolved. Nothing is written before the text stands whole: for want of memory
-/// the sink is unchanged and hasn't failed. A failed write tells how many bytes of the text, fewer than all, went out. The caller's target
-/// isn't touched.
+/// The run draws its words by the seed of the settings and this stream number; a plan of a campaign runs under its own number. After the settings'
+/// `max_hits` answered hits the run is stopped, and is unresolved. The caller's target isn't touched.
+///
+/// Nothing is written before the whole text is made: if memory was refused, the sink is as it was and hasn't failed. `Write` says how many bytes of
+/// the text, fewer than all, went out before the sink failed.
 pub fn try_one<T: Target, W: Sink>(
     alloc: Global,
     subject: &Subject<'_, T>,

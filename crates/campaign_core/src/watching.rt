@@ -1,4 +1,4 @@
-//! Points that no run asks.
+//! Points that no run hits.
 ghost use Rattle.std.specs.Prelude.{◌≡◌, ◌<◌, ◌^◌, ◌++◌, [], ◌∷◌, filter, if◌then◌else◌, length, IfOk, OnOk};
 ghost use Rattle.std.specs.List.{list_all};
 ghost use Rattle.result_book.specs.Runs.{is_asked};
@@ -8,7 +8,7 @@ use result_book::PlanRange;
 use std::alloc::{AllocError, Global};
 use target_trait::Target;
 
-/// Adds a point where it is to be kept.
+/// Adds a point, if it is to be kept.
 fn keep_if(points: &mut Vec<u32>, point: u32, is_kept: bool) -> Result<(), AllocError>
     ensures { OnOk result (points.new.items ≡ points.old.items ++ (if is_kept then point ∷ [] else [])) }
 {
@@ -18,7 +18,7 @@ fn keep_if(points: &mut Vec<u32>, point: u32, is_kept: bool) -> Result<(), Alloc
     Ok(())
 }
 
-/// The numbers of the points that have no hit, by the counts of all points. An error means that memory was refused.
+/// The numbers of the points whose count is 0. An error means that memory was refused.
 pub fn uncounted(alloc: Global, counts: &[u32]) -> Result<Vec<u32>, AllocError>
     requires { length counts.now < 2 ^ 32 }
     ensures { IfOk result (λ points. points.items ≡ uncounted counts.now) }
@@ -30,7 +30,7 @@ pub fn uncounted(alloc: Global, counts: &[u32]) -> Result<Vec<u32>, AllocError>
     Ok(points)
 }
 
-/// Whether no run of these ranges asks a point that they watch.
+/// Whether no run of these ranges hits this point, which they watch.
 fn is_left_in_list<T: Target>(list: &[(u32, PlanRange<'_, T>)], point: u32) -> bool
     ensures { result ≡ list_all (λ p. is_asked point p.1.unreached) list.now }
 {
@@ -42,6 +42,7 @@ fn is_left_in_list<T: Target>(list: &[(u32, PlanRange<'_, T>)], point: u32) -> b
     true
 }
 
+/// The same for the ranges of all these lists.
 fn is_left<T: Target>(lists: &[Vec<(u32, PlanRange<'_, T>)>], point: u32) -> bool
     ensures { result ≡ is_left_in lists.now point }
 {
@@ -53,7 +54,7 @@ fn is_left<T: Target>(lists: &[Vec<(u32, PlanRange<'_, T>)>], point: u32) -> boo
     true
 }
 
-/// Those of the points that these ranges watch which no run of them asks. An error means that memory was refused.
+/// Those of the points watched by these ranges that no run of them hits. An error means that memory was refused.
 pub fn left_of<T: Target>(
     alloc: Global,
     watched: &[u32],

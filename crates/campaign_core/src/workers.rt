@@ -16,7 +16,7 @@ use std::thread::Threads;
 use target_trait::{Target, Verdict};
 use work_gate::{Gate, Stage};
 
-/// A job for each worker, with a twin of the target, for the plans from this number on. An error means that memory was refused.
+/// A job for each worker, with a twin of the target, to run the plans from this number on. An error means that memory was refused.
 fn runners<'a, 'g, T: Target + Send, G: Gate, R: Threads + Wait + Sync>(
     host: &Host<'g, G, R>,
     target: &T,
@@ -46,10 +46,11 @@ where
     Ok(all)
 }
 
-/// Runs each plan of an input whose verdict isn't known, with a thread for each worker and a twin of the target for each, and puts all
-/// verdicts into a book. It is the book of one thread. Beside it stand those of the input's watched points that no run made here asks. The book is
-/// made once all have run, when the workers' tickets are gone. A range at which a worker was refused memory is run again. An error means that memory
-/// was refused.
+/// Runs each plan of an input whose verdict isn't known, with one thread and one twin of the target for each worker, and puts all verdicts into a
+/// book. The book is the same as with one thread. It is returned with those of the input's watched points that no run made here hits.
+///
+/// The book is made once all plans have run and the workers' tickets are gone. If a worker was refused memory, its range is run again. An error means
+/// that memory was refused.
 pub fn run_plans<T: Target + Send, G: Gate, R: Threads + Wait + Sync>(
     host: &Host<'_, G, R>,
     target: &T,

@@ -7,8 +7,8 @@ use crate::ending::CampaignFault;
 use report::write_report;
 use target_trait::{Sink, Verdict};
 
-/// Writes the whole text of a run with this verdict, and answers the verdict. A failed write tells how many bytes of the text, fewer than
-/// all, went out; it is the only fault.
+/// Writes the whole text of a run with this verdict, and returns the verdict. The only fault is `Write`, which says how many bytes of the text, fewer
+/// than all, went out before the sink failed.
 pub fn write_judged<W: Sink>(
     verdict: Verdict,
     text: &str,

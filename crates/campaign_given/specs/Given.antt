@@ -1,4 +1,4 @@
--- What a campaign is given by its settings.
+-- What settings say of a campaign.
 use Rattle.std.specs.Prelude.{ℕ, Bool, ◌≡◌, ◌≤◌, false, List, [], Option, None, IfSome, length}
 use Rattle.scenario_values.specs.Scenario.{Entries}
 use Rattle.action_eval.specs.Answers.{Reply}
@@ -7,9 +7,9 @@ use Rattle.target_trait.specs.Outcomes.{verdict_with}
 use Rattle.target_trait.specs.Play.{Move}
 use Rattle.plan_gen.specs.PlanList.{Asked}
 
--- how many workers there are; how many hits of a run are answered; up to how many faults each behaviour is tried with, where plans grow from
--- each run's own hits; whether each run ends with a power cut that asks which pending writes it keeps; what is asked of the list of plans, the
--- seed of every draw among it; and the text that all of it was read from
+-- How many workers there are; how many hits of a run are answered; up to how many faults each behaviour is tried with, if plans grow from each run's
+-- own hits; whether each run ends with a power cut that asks which pending writes it keeps; what the list of plans is made from, with the seed of
+-- every draw; and the text from which all of it was read.
 pub record Given : Type 0 where
   pub workers : ℕ
   pub max_hits : ℕ
@@ -18,7 +18,7 @@ pub record Given : Type 0 where
   pub plans : Asked
   pub source : List ℕ
 
--- what holds where nothing else is given
+-- The defaults.
 abbrev pub defaults : Given
 defaults = record {
   workers = 1;
@@ -29,7 +29,7 @@ defaults = record {
   source = [];
 }
 
--- the same, as read from a text
+-- The same, as read from a text.
 abbrev pub read_from : List ℕ → Given → Given
 read_from text g = record {
   workers = g.workers;
@@ -40,7 +40,7 @@ read_from text g = record {
   source = text;
 }
 
--- the same with so many workers
+-- The same, with this many workers.
 abbrev pub with_workers : ℕ → Given → Given
 with_workers workers g = record {
   workers = workers;
@@ -51,7 +51,7 @@ with_workers workers g = record {
   source = g.source;
 }
 
--- the ranges; with a depth there are no pairs
+-- The ranges of the values. With a depth there are no pairs.
 pub record IsGiven (g : Given) : Type 0 where
   pub seed : g.plans.seed ≤ 9223372036854775807
   pub some_workers : 1 ≤ g.workers
@@ -65,6 +65,6 @@ pub record IsGiven (g : Given) : Type 0 where
   pub rate : g.plans.rate ≤ 1000
   pub few_listed : length g.plans.listed ≤ 1000
 
--- the verdict of a scenario under a stream number, of what is asked over the names of the points
+-- The verdict of a scenario under a stream number, for a component over points with these names.
 abbrev pub verdict_on : (List Reply → Move) → List (List ℕ) → Given → ℕ → Entries → Verdict
 verdict_on asks names given = verdict_with asks names given.plans.seed given.max_hits

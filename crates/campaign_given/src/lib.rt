@@ -1,4 +1,5 @@
-//! What a campaign is given by its settings, whatever it runs; and what a component is that somebody else runs.
+//! The settings of a campaign as values, whatever it runs, and the description of a component that somebody else runs. How a text spells them is no
+//! matter of this crate.
 #![tactic(auto)]
 
 mod outside;

@@ -4,7 +4,7 @@ ghost use Rattle.std.specs.Prelude.{◌≡◌};
 use scenario_values::Text;
 use std::marker::Model;
 
-/// A fault that is tried at a point: a return, with its text if it has one, or a panic.
+/// A kind of fault that is tried at a point: a return, with its text if it has one, or a panic.
 #[derive(Debug, Drop, PartialEq, Eq)]
 pub enum TriedFault {
     /// The text is a lawful argument in a scenario, without ASCII control characters and of up to 32 bytes. No text and an empty one are
@@ -44,19 +44,19 @@ impl TriedFaults {
     }
 }
 
-/// A component that somebody else runs, as settings tell of it. No text has an ASCII control character.
+/// A component that somebody else runs, as settings describe it. No text has an ASCII control character.
 #[derive(Drop)]
 pub struct Outside {
     /// What the component is, in up to 200 bytes.
     pub label: Text,
-    /// The names of its failures, up to 64, distinct and each of 1 to 200 bytes. The number of a code is its place, from 0.
+    /// The codes of its failures, up to 64, distinct and each of 1 to 200 bytes. The number of a code is its place, from 0.
     pub codes: Vec<Text>,
     /// The names of its points, 1 to 64, distinct, each lawful in a scenario and of up to 200 bytes.
     pub points: Vec<Text>,
-    /// How often each point is hit in a run without faults, 0 to 100000. With a depth answers tell that: settings give 0 for each point then.
+    /// How often each point is hit in a run without faults, 0 to 100000. With a depth the answers give the hits, and this is 0 for each point.
     pub hits: Vec<u32>,
-    /// The faults that are tried at each point, up to 8, none twice; none where the usual ones are tried, a return and a panic, of which the
-    /// point `power::keep` has the return alone. Settings give some with a depth only.
+    /// The kinds of faults that are tried at each point, up to 8, none twice. An empty list stands for the usual ones, a return and a panic; for the
+    /// point `power::keep` that is the return alone. Settings give kinds only with a depth.
     pub kinds: Vec<TriedFaults>,
 }
 

@@ -9,25 +9,25 @@ use std::alloc::Global;
 use std::marker::Model;
 use target_trait::Case;
 
-/// The seed where none is given.
+/// The default seed.
 pub const SEED_IF_MISSING: u64 = 0;
 
-/// How many workers there are where nothing is given.
+/// The default number of workers.
 pub const WORKERS_IF_MISSING: u32 = 1;
 
-/// How many hits of a run are answered where nothing is given.
+/// How many hits of a run are answered by default.
 pub const MAX_HITS_IF_MISSING: u32 = 1000;
 
-/// Whether there is a plan for each two sites where nothing is given.
+/// Whether there is a plan for each two sites by default.
 pub const PAIRS_IF_MISSING: bool = false;
 
-/// How many storms there are where nothing is given.
+/// The default number of storms.
 pub const STORMS_IF_MISSING: u32 = 0;
 
-/// How many of a thousand sites a storm takes where nothing is given.
+/// How many of a thousand sites a storm takes by default.
 pub const RATE_IF_MISSING: u32 = 100;
 
-/// Whether a power cut asks which pending writes it keeps, where nothing is given.
+/// Whether a power cut asks by default which pending writes it keeps.
 pub const CRASH_STATES_IF_MISSING: bool = false;
 
 /// Which plans a campaign has, and how they are run. Each value keeps the ranges that stand at its fields.
@@ -35,25 +35,25 @@ pub const CRASH_STATES_IF_MISSING: bool = false;
 pub struct CampaignSettings {
     /// The seed of every draw, 0 to 9223372036854775807, which is the greatest integer of TOML.
     pub seed: u64,
-    /// How many workers there are, 1 to 64. Of a component that somebody else runs this and `max_hits` mean nothing: they are 1 and 1000.
+    /// How many workers there are, 1 to 64. For a component that somebody else runs this and `max_hits` mean nothing: they are 1 and 1000.
     pub workers: u32,
     /// How many hits of a run are answered, 1 to 100000. A run that hits more often is unresolved.
     pub max_hits: u32,
     /// Whether there is a plan for each two sites.
     pub pairs: bool,
-    /// How many plans are drawn, 0 to 10000.
+    /// How many storms are drawn, 0 to 10000.
     pub storms: u32,
-    /// How many of a thousand sites such a plan takes, 0 to 1000.
+    /// How many of a thousand sites a storm takes, 0 to 1000.
     pub rate: u32,
-    /// Up to how many faults each behaviour is tried with, 1 to 64; `None` where plans come from the run without faults. With a depth `pairs`
-    /// is false.
+    /// The depth, 1 to 64: each behaviour in which at most this many faults act is tried. `None` if plans come from the run without faults. With a
+    /// depth `pairs` is false.
     pub depth: Option<u32>,
-    /// Whether each run ends with a power cut that asks which pending writes it keeps. It is for whoever chooses the target: `WithCut` of it, or
-    /// the target alone. A target that isn't `WithCut` has nothing pending, and for it this changes nothing.
+    /// Whether each run ends with a power cut that asks which pending writes it keeps. It only says so to whoever makes the target: `WithCut` of it,
+    /// or the target alone. It changes nothing by itself: a target that isn't `WithCut` has nothing pending.
     pub crash_states: bool,
-    /// The scenarios that are tried besides, up to 1000.
+    /// The listed scenarios, up to 1000, which are tried too.
     pub scenarios: Vec<Scenario>,
-    /// The text that the settings were read from, which a page shows. It is empty where a program made them.
+    /// The text from which the settings were read, which a page shows. It is empty if a program made them.
     pub source: Text,
     ghost seed_high: { seed ≤ 9223372036854775807 },
     ghost workers_low: { 1 ≤ workers },
@@ -84,8 +84,8 @@ impl Model for CampaignSettings {
 }
 
 impl CampaignSettings {
-    /// What holds where nothing is given: seed 0, one worker, at most 1000 hits, no pairs, no storms, 100 of a thousand sites for a storm, no
-    /// depth, no crash states, no listed scenarios, and no text. A program that brings a target of its own sets from here what differs.
+    /// The defaults: seed 0, one worker, at most 1000 hits, no pairs, no storms, 100 of a thousand sites for a storm, no depth, no crash states, no
+    /// listed scenarios, and no text. A program that brings its own target starts from these, and sets what differs.
     pub fn new(alloc: Global) -> Self
         ensures { result ≡ defaults }
     {
@@ -120,7 +120,7 @@ impl CampaignSettings {
         self.workers as usize
     }
 
-    /// What is asked of the list of plans.
+    /// The settings of the list of plans.
     pub fn plan_settings(&self) -> PlanSettings<'_>
         ensures asked { result ≡ self.now.plans }
         ensures ranges { IsGiven self.now }

@@ -3,6 +3,7 @@ use Rattle.std.proofs.Common.{◌≡◌, ◌≤◌, ◌<◌, ◌∙◌, ℕ, Boo
 use Rattle.std.proofs.lemmas.Bool.{le-ltb, lt-ltb}
 use Rattle.std.specs.Io.KnownBytes.{Appends}
 use Rattle.scenario_values.specs.Scenario.{Entries}
+use Rattle.action_eval.specs.Answers.{Given}
 use Rattle.scenario_grammar.specs.declared.fault.ScenarioFault.TheVariants as scenario
 use Rattle.target_trait.specs.declared.judgement.Verdict.{Verdict}
 use Rattle.plan_gen.specs.PlanList.{most_plans}
@@ -158,9 +159,10 @@ module _ (c : Campaign) where
   unfolding try_answer
   try-is stream scenario = refl
 
-  pub explain-is : (stream : ℕ) (scenario : Entries) → explain_answer c stream scenario ≡ Ok (explained c stream scenario, of_verdict (tried_verdict stream scenario), notes_of c.points scenario)
+  pub explain-is : (end : Given → List (List ℕ)) (stream : ℕ) (scenario : Entries)
+      → explain_answer end c stream scenario ≡ Ok (explained end c stream scenario, of_verdict (tried_verdict stream scenario), notes_of c.points scenario)
   unfolding explain_answer
-  explain-is stream scenario = refl
+  explain-is end stream scenario = refl
 
   pub reduce-is : (stream : ℕ) (scenario : Entries) → reduce_answer c stream scenario ≡ Ok (reduce_text c stream scenario, of_verdict (say c stream scenario), notes_of c.points scenario)
   unfolding reduce_answer
@@ -201,7 +203,7 @@ untaken-short answer read w (faults.Plan number) untouched h = (untouched, ap (t
 untaken-short answer read w (faults.Campaign campaign.TooManyPlans) untouched h = (untouched, ap (taken_answer answer) h)
 untaken-short answer read w (faults.Campaign campaign.Memory) untouched h = untouched
 untaken-short answer read w (faults.Campaign (campaign.Write n)) untouched h = absurd h
-untaken-short answer read w (faults.Unsteady line) untouched h = absurd h
+untaken-short answer read w (faults.Unlawful line) untouched h = absurd h
 untaken-short answer read w faults.Outside untouched h = absurd h
 untaken-short answer read w faults.OutsideWithDepth untouched h = absurd h
 

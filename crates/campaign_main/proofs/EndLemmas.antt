@@ -130,7 +130,7 @@ module _ (answer : Answer) (w : Change) where
     fault-ends (command.Campaign campaign.TooManyPlans) end short is = let P : Exit → Type 0 = λ e. EndsAs e answer w in subst P (sym is.0) short.0
     fault-ends (command.Campaign campaign.Memory) end short is = let P : Exit → Type 0 = λ e. EndsAs e answer w in subst P (sym is.0) short
     fault-ends (command.Campaign (campaign.Write n)) end short is = let P : Exit → Type 0 = λ e. EndsAs e answer w in subst P (sym is.0) short
-    fault-ends (command.Unsteady told) end short is = absurd short
+    fault-ends (command.Unlawful told) end short is = absurd short
     fault-ends command.Outside end short is = let P : Exit → Type 0 = λ e. EndsAs e answer w in subst P (sym is.0) short.0
     fault-ends command.OutsideWithDepth end short is = let P : Exit → Type 0 = λ e. EndsAs e answer w in subst P (sym is.0) short.0
 
@@ -148,7 +148,7 @@ module _ (answer : Answer) (w : Change) where
         subst P (sym is.0) (subst Q (sym short.1) is.1)
     fault-tells (command.Campaign campaign.Memory) end short is = let P : Exit → Type 0 = λ e. TellsAs e answer v in subst P (sym is.0) is.1
     fault-tells (command.Campaign (campaign.Write n)) end short is = let P : Exit → Type 0 = λ e. TellsAs e answer v in subst P (sym is.0) is.1
-    fault-tells (command.Unsteady told) end short is = absurd short
+    fault-tells (command.Unlawful told) end short is = absurd short
     fault-tells command.Outside end short is =
         let P : Exit → Type 0 = λ e. TellsAs e answer v in
         let Q : Answer → Type 0 = λ a. TellsRefusal a v in
@@ -166,7 +166,7 @@ fault-whole v claim (command.Plan number) end is = refuses-whole (refusal_line (
 fault-whole v claim (command.Campaign campaign.TooManyPlans) end is = let P : Exit → Type 0 = λ e. OnWhole e claim in subst P (sym is.0) tt
 fault-whole v claim (command.Campaign campaign.Memory) end is = let P : Exit → Type 0 = λ e. OnWhole e claim in subst P (sym is.0) tt
 fault-whole v claim (command.Campaign (campaign.Write n)) end is = let P : Exit → Type 0 = λ e. OnWhole e claim in subst P (sym is.0) tt
-fault-whole v claim (command.Unsteady told) end is = let P : Exit → Type 0 = λ e. OnWhole e claim in subst P (sym is.0) tt
+fault-whole v claim (command.Unlawful told) end is = let P : Exit → Type 0 = λ e. OnWhole e claim in subst P (sym is.0) tt
 fault-whole v claim command.Outside end is = let P : Exit → Type 0 = λ e. OnWhole e claim in subst P (sym is.0) tt
 fault-whole v claim command.OutsideWithDepth end is = let P : Exit → Type 0 = λ e. OnWhole e claim in subst P (sym is.0) tt
 

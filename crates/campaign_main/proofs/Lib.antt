@@ -7,6 +7,7 @@ pub mod ToldLemmas
 mod TextLemmas
 mod RunLemmas
 mod StrictLemmas
-pub mod TellingLemmas
+mod ShownLemmas
 pub mod KeepLemmas
 mod SteadyLemmas
+mod PlanQuestions

@@ -4,8 +4,15 @@ use Rattle.std.specs.Prelude.{nat_lt}
 use Rattle.scenario_values.specs.Scenario.{Entries}
 use Rattle.plan_gen.specs.PlanList.{most_plans}
 use Rattle.action_eval.specs.Answers.{Given as Run}
+use Rattle.commit_target.specs.Crash.{calls_of as commit_calls}
+use Rattle.commit_target.specs.Words.{point_names as commit_points}
+use Rattle.file_replace.specs.Crash.{calls_of as replace_calls}
+use Rattle.file_replace.specs.Words.{point_names as replace_points}
+use Rattle.maildir_target.specs.Crash.{calls_of as maildir_calls}
+use Rattle.maildir_target.specs.Words.{point_names as maildir_points}
 use Rattle.campaign_core.specs.Headline.{Campaign}
 use Rattle.campaign_core.specs.Writes.{Change}
+use Rattle.run_explained.specs.Explained.{no_end}
 use Rattle.campaign_settings.specs.Own.{own_settings_of}
 use Rattle.campaign_given.specs.Given.{Given}
 use Rattle.campaign_settings.specs.Settings.{Read, settings_of}
@@ -18,7 +25,7 @@ use Rattle.command_words.specs.declared.words.Order.TheVariants as order
 use Rattle.command_words.specs.declared.words.Which.{Which}
 use Rattle.campaign_main.specs.declared.exit.Exit.{Exit}
 use Rattle.campaign_main.specs.declared.exit.Exit.TheVariants as exit
-use Rattle.campaign_main.specs.Commands.{Answer, Refusal, bundled_answer, choice_answer, cut_answer, cut_explain_answer, explain_answer, given_answer, of_few_plans, order_answer, outside_answer, plans_answer, reduce_answer, run_answer, taken, taken_answer, text_answer, too_many_plans, try_answer}
+use Rattle.campaign_main.specs.Commands.{Answer, Refusal, answer_with, bundled_answer, choice_answer, committing_in, cut_answer, cut_end, delivering_in, explain_answer, given_answer, of_few_plans, order_answer, outside_answer, plans_answer, reduce_answer, replacing_in, run_answer, taken, taken_answer, text_answer, too_many_plans, try_answer}
 use Rattle.campaign_main.specs.Ends.{IsNoted, IsTold, OnWhole, TellsANote, TellsARefusal, TellsAs, TellsNotes, TellsRefusal, Tells}
 use Rattle.campaign_main.specs.declared.exit.Conclusion.{Conclusion}
 use Rattle.campaign_main.specs.declared.exit.Conclusion.TheVariants.{Clean, Failed, Doubtful}
@@ -70,35 +77,23 @@ module _ (c : Campaign) where
   may-reduce which (Ok t) = (c.points, (t.1, refl))
   may-reduce which (Err refusal) = tt
 
-  may-explain : (which : Which) (read : Result (ℕ × Entries) Refusal) → NotesFor (order.Explain which) (taken_answer (explain_answer c) read)
+  may-explain : (end : Run → List (List ℕ)) (which : Which) (read : Result (ℕ × Entries) Refusal) → NotesFor (order.Explain which) (taken_answer (explain_answer end c) read)
   unfolding explain_answer
-  may-explain which (Ok t) = (c.points, (t.1, refl))
-  may-explain which (Err refusal) = tt
+  may-explain end which (Ok t) = (c.points, (t.1, refl))
+  may-explain end which (Err refusal) = tt
 
-  pub may-order : (o : Order) → NotesFor o (order_answer o c)
-  may-order (order.Run form strict recheck) = may-run form strict recheck
-  may-order order.Plans = may-plans
-  may-order (order.Try which) = may-try which (taken c which)
-  may-order (order.Reduce which) = may-reduce which (taken c which)
-  may-order (order.Explain which) = may-explain which (taken c which)
+  pub may-with : (end : Run → List (List ℕ)) (o : Order) → NotesFor o (answer_with end o c)
+  may-with end (order.Run form strict recheck) = may-run form strict recheck
+  may-with end order.Plans = may-plans
+  may-with end (order.Try which) = may-try which (taken c which)
+  may-with end (order.Reduce which) = may-reduce which (taken c which)
+  may-with end (order.Explain which) = may-explain end which (taken c which)
 
 module _ (calls : Run → List (List ℕ)) (points : List (List ℕ)) where
-  may-explain-cut : (c : Campaign) (which : Which) (read : Result (ℕ × Entries) Refusal) → NotesFor (order.Explain which) (taken_answer (cut_explain_answer calls points c) read)
-  unfolding cut_explain_answer
-  may-explain-cut c which (Ok t) = (c.points, (t.1, refl))
-  may-explain-cut c which (Err refusal) = tt
-
-  may-cut : (c : Campaign) (o : Order) → NotesFor o (cut_answer calls points o c)
-  may-cut c (order.Explain which) = may-explain-cut c which (taken c which)
-  may-cut c (order.Run form strict recheck) = may-order c (order.Run form strict recheck)
-  may-cut c order.Plans = may-order c order.Plans
-  may-cut c (order.Try which) = may-order c (order.Try which)
-  may-cut c (order.Reduce which) = may-order c (order.Reduce which)
-
   may-bundled-answer : (given : Given) (c : Campaign) (o : Order) → NotesFor o (bundled_answer calls points given o c)
   may-bundled-answer given c o = elim given.crash_states as (λ b. NotesFor o (if b then cut_answer calls points o c else order_answer o c)) [
-    | true ↦ may-cut c o
-    | false ↦ may-order c o
+    | true ↦ may-with c (cut_end calls points c.asks) o
+    | false ↦ may-with c no_end o
   ]
 
 may-outside : (o : Order) (depth : Option ℕ) (plans : List Entries) (points : List (List ℕ)) (listed : List Entries) → NotesFor o (outside_answer o depth plans (listed_notes points listed))
@@ -111,9 +106,9 @@ may-outside (order.Reduce which) depth plans points listed = tt
 may-outside (order.Explain which) depth plans points listed = tt
 
 may-choice : (o : Order) (given : Given) (chosen : Choice) → NotesFor o (choice_answer o given chosen)
-may-choice o given (choice.Replace variant work) = may-bundled-answer _ _ given _ o
-may-choice o given (choice.Maildir variant messages) = may-bundled-answer _ _ given _ o
-may-choice o given (choice.Commit variant work) = may-bundled-answer _ _ given _ o
+may-choice o given (choice.Replace variant work) = may-bundled-answer (replace_calls variant work) replace_points given (replacing_in given variant work) o
+may-choice o given (choice.Maildir variant messages) = may-bundled-answer (maildir_calls variant messages) maildir_points given (delivering_in given variant messages) o
+may-choice o given (choice.Commit variant work) = may-bundled-answer (commit_calls variant work) commit_points given (committing_in given variant work) o
 may-choice o given (choice.Outside outside) = may-outside o given.depth _ outside.points given.plans.listed
 
 may-given : (o : Order) (read : Read Settings) → NotesFor o (given_answer o read)
@@ -125,7 +120,7 @@ unfolding text_answer
 may-text o text = may-given o (settings_of text)
 
 may-own-given : (o : Order) (campaign : Given → Campaign) (read : Read Given) → NotesFor o (own_given_answer o campaign read)
-may-own-given o campaign (Ok given) = may-order (campaign given) o
+may-own-given o campaign (Ok given) = may-with (campaign given) no_end o
 may-own-given o campaign (Err cause) = tt
 
 pub may-own : (o : Order) (campaign : Given → Campaign) (text : List ℕ) → NotesFor o (own_text_answer o campaign text)

@@ -1,30 +1,24 @@
 -- Ends of questions, by what they came to and by what was read.
-use Rattle.std.proofs.Common.{Global, String, string_bytes, ◌∙◌, ◌≡◌, ◌≤◌, ◌<◌, ◌==◌, [], ℕ, Bool, true, false, List, Option, Some, None, IfSome, IfOk, IfErr, IsErrAnd, Result, Ok, Err, length, refl, sym, ap, inl, inr, subst, if◌then◌else◌}
+use Rattle.std.proofs.Common.{◌≡◌, ◌≤◌, ◌<◌, ◌==◌, [], ℕ, Bool, true, false, List, Option, Some, None, IfSome, Result, Ok, Err, length, refl, sym, ap, inl, inr, subst, if◌then◌else◌}
 use Rattle.std.specs.Str.{IsUtf8}
 use Rattle.std.specs.Prelude.{is_some}
-use Rattle.scenario_grammar.specs.declared.fault.ScenarioFault.{ScenarioFault}
 use Rattle.scenario_grammar.specs.declared.fault.ScenarioFault.TheVariants as scenario
 use Rattle.answer_text.specs.Answers.{most_bytes}
 use Rattle.answer_text.specs.declared.fault.AnswersFault.{AnswersFault}
 use Rattle.answer_text.specs.declared.fault.AnswersFault.TheVariants as answers
 use Rattle.std.specs.List.{slice_split}
 use Rattle.std.proofs.lemmas.Bool.{lt-ltb}
-use Rattle.campaign_given.specs.Description.{Description}
-use Rattle.campaign_given.specs.Given.{Given}
 use Rattle.campaign_settings.specs.Settings.{Cause, Read, RefusedBy, settings_of, too_long}
 use Rattle.campaign_settings.specs.declared.fault.SettingsFault.{SettingsFault}
 use Rattle.campaign_settings.specs.declared.fault.SettingsFault.TheVariants as settings
 use Rattle.campaign_settings.specs.declared.settings.Settings.{Settings}
-use Rattle.campaign_core.specs.Writes.{Change, IsUntouched}
+use Rattle.campaign_core.specs.Writes.{Change, IsUntouched, WritesWhole}
 use Rattle.campaign_core.specs.declared.ending.CampaignFault.TheVariants as campaign
-use Rattle.command_words.specs.declared.words.AskedPart.{AskedPart}
 use Rattle.command_words.specs.declared.words.Question.{Question}
 use Rattle.command_words.specs.declared.words.Question.TheVariants.{Asks, Report, Explain}
-use Rattle.command_words.specs.declared.words.Shown.{Shown}
 use Rattle.answer_text.specs.Runs.{pieces_from, reading_of}
 use Rattle.answer_text.specs.declared.runs.RunLine.{RunLine}
-use Rattle.answered_campaigns.specs.Explained.{ExplainRefused, IsExplained}
-use Rattle.answered_campaigns.specs.Questions.{AsksRefused, IsAskedInPart, IsAskedTo, IsKnownInPart, IsKnownTo, IsReportedInPart, IsReportedTo, KnownRefused, Refuses, ReportRefused}
+use Rattle.answered_campaigns.specs.Questions.{Refuses, RefusesYet}
 use Rattle.answered_campaigns.specs.declared.fault.QuestionFault.{QuestionFault}
 use Rattle.answered_campaigns.specs.declared.fault.QuestionFault.TheVariants as fault
 use Rattle.report_forms.specs.declared.forms.Form.{Form}
@@ -36,271 +30,129 @@ use Rattle.campaign_main.specs.declared.exit.Exit.TheVariants as exit
 use Rattle.campaign_main.specs.declared.input.ReadFault.{ReadFault}
 use Rattle.campaign_main.specs.declared.input.ReadFault.TheVariants as read
 use Rattle.campaign_main.specs.Commands.{Refusal, bad_answers, bad_scenario, bad_settings, broken_run, not_answered, not_text, other_census, too_many_plans, unseen_hits}
-use Rattle.campaign_main.specs.Ends.{IsNoted, Leaves, OnWhole, RefusesWith, TellsOf}
-use Rattle.campaign_main.specs.Exit.{concluded, exit_of}
+use Rattle.campaign_main.specs.Ends.{EndsAs, IsNoted, Leaves, OnWhole, RefusesWith, TellsAs, TellsOf}
+use Rattle.campaign_main.specs.Exit.{exit_of}
 use Rattle.campaign_main.specs.FaultLines.{answers_read_line, read_fault_line, refusal_line, settings_line, unreadable_answers_line, unreadable_line}
-use Rattle.campaign_main.specs.QuestionNotes.{is_question_doubted, question_notes}
-use Rattle.campaign_main.specs.Questions.{ComesToText, ConcludesText, EndsAnswered, EndsQuestion, FallsShortOf, IsAnswered, IsConcluded, IsEndOfQuestion, IsNotAnswered, IsPart, IsUnnoted, IsUnnotedTo, NotesText, RefusesAnswers, RefusesQuestion, Subject, TellsOfQuestion, TellsWhy, chosen_subject, given_subject, subject_of, text_subject, IsToldIn, IsToldInPart, WaitsIn, asked_part, report_form}
+use Rattle.campaign_main.specs.QuestionNotes.{question_notes}
+use Rattle.campaign_main.specs.Questions.{EndsAnswered, EndsQuestion, IsAnswer, IsEndOfQuestion, IsNotAnswered, IsUnanswered, RefusesAnswers, RefusesQuestion, RefusesShown, Subject, TellsOfQuestion, TellsWhy, chosen_subject, given_subject, report_form, subject_of, text_subject, written_for}
+use Rattle.answered_campaigns.proofs.ReadFaults.{at_all}
 use Rattle.campaign_main.proofs.EndLemmas.{broken-meaning, if_some, long-meaning, memory-apart, read-meaning, tells-of, text-meaning, settings-fault-cause}
 
--- ---- by what the lower crate came to
+-- ---- by the answer to a question
 
--- what an answer alone is refused for, a campaign never is
-never-scenario : {A : Type 0} (depth : Option ℕ) (d : Description) (s : Given) (answers : List ℕ) (f : ScenarioFault) → Refuses depth d s answers (fault.Scenario f) → A
-never-scenario None d s answers f h = absurd h
-never-scenario (Some depth) d s answers f h = absurd h.2
+-- a text that was written whole, with its notes
+pub whole-ends : (text notes : List ℕ) (c : Conclusion) (w : Change) → WritesWhole text w → EndsAs (exit_of c) (Ok (text, c, notes)) w
+whole-ends text notes Clean w h = (h, refl)
+whole-ends text notes Failed w h = (h, refl)
+whole-ends text notes Doubtful w h = (h, refl)
 
-never-unseen : {A : Type 0} (depth : Option ℕ) (d : Description) (s : Given) (answers : List ℕ) (line : ℕ) → Refuses depth d s answers (fault.Unseen line) → A
-never-unseen None d s answers line h = absurd h
-never-unseen (Some depth) d s answers line h = absurd h.2
+pub whole-tells : (text notes : List ℕ) (c : Conclusion) (w : Change) → IsNoted notes w → TellsAs (exit_of c) (Ok (text, c, notes)) w
+whole-tells text notes Clean w h = h
+whole-tells text notes Failed w h = h
+whole-tells text notes Doubtful w h = h
 
-module _ (s : Given) (d : Description) (answers : List ℕ) (w : Change) where
-  asks-short : (part : AskedPart) (f : QuestionFault) → AsksRefused (asked_part part) d s answers w f → FallsShortOf (Asks part) (s, d) answers w f
-  asks-short part (fault.Outside (outside.Answers f)) h = h
-  asks-short part (fault.Outside (outside.Census line)) h = h
-  asks-short part (fault.Outside (outside.NotAnswered t)) h = absurd h
-  asks-short part (fault.Outside (outside.Campaign campaign.TooManyPlans)) h = h
-  asks-short part (fault.Outside (outside.Campaign campaign.Memory)) h = h.0
-  asks-short part (fault.Outside (outside.Campaign (campaign.Write n))) h = h
-  asks-short part (fault.Broken b) h = h
-  asks-short part (fault.Scenario f) h = never-scenario s.depth d s answers f h.1
-  asks-short part (fault.Unseen line) h = never-unseen s.depth d s answers line h.1
+module _ (question : Question) (s : Subject) (answers text : List ℕ) (found : Bool) (h : IsAnswer question s answers text found) where
+  -- what an end says of the output
+  pub answer-ends : (end : Exit) (w : Change) → EndsAs end (written_for question text found (question_notes question s.0 s.1 answers)) w → EndsAnswered question s answers end w
+  answer-ends exit.Kept w is = (found, (text, h, is.0), sym is.1)
+  answer-ends exit.Found w is = (found, (text, h, is.0), sym is.1)
+  answer-ends exit.Doubted w is = (found, (text, h, is.0), sym is.1)
+  answer-ends exit.Refused w is = is
+  answer-ends exit.Memory w is = is
+  answer-ends (exit.Write n) w is = (text, (found, h), is)
 
-  report-short : (form : Shown) (shown : Form) (f : QuestionFault) → report_form form ≡ Some shown → ReportRefused shown d s answers w f
-      → FallsShortOf (Report form false) (s, d) answers w f
-  report-short form shown (fault.Outside (outside.Answers f)) is h = h
-  report-short form shown (fault.Outside (outside.Census line)) is h = h
-  report-short form shown (fault.Outside (outside.NotAnswered t)) is h = let P : Option Form → Type 0 = λ o. WaitsIn o (s, d) answers t in (h.0, subst P (sym is) h.1)
-  report-short form shown (fault.Outside (outside.Campaign campaign.TooManyPlans)) is h = h
-  report-short form shown (fault.Outside (outside.Campaign campaign.Memory)) is h = h.0
-  report-short form shown (fault.Outside (outside.Campaign (campaign.Write n))) is h = let P : Option Form → Type 0 = λ o. IsToldInPart o (s, d) answers w n in subst P (sym is) h
-  report-short form shown (fault.Broken b) is h = h
-  report-short form shown (fault.Scenario f) is h = never-scenario s.depth d s answers f h.1
-  report-short form shown (fault.Unseen line) is h = never-unseen s.depth d s answers line h.1
+-- what it tells
+pub answer-tells : (question : Question) (text notes : List ℕ) (found : Bool) (refusal : Type 0) (end : Exit) (w : Change) → TellsAs end (written_for question text found notes) w
+    → TellsOf (IsNoted notes w) refusal end w
+answer-tells question text notes found refusal exit.Kept w told = told
+answer-tells question text notes found refusal exit.Found w told = told
+answer-tells question text notes found refusal exit.Doubted w told = told
+answer-tells question text notes found refusal exit.Refused w told = absurd told
+answer-tells question text notes found refusal exit.Memory w told = told
+answer-tells question text notes found refusal (exit.Write n) w told = told
 
-  known-short : (form : Shown) (f : QuestionFault) → report_form form ≡ None → KnownRefused d s answers w f → FallsShortOf (Report form false) (s, d) answers w f
-  known-short form (fault.Outside (outside.Answers f)) is h = h
-  known-short form (fault.Outside (outside.Census line)) is h = h
-  known-short form (fault.Outside (outside.NotAnswered t)) is h = absurd h
-  known-short form (fault.Outside (outside.Campaign campaign.TooManyPlans)) is h = h
-  known-short form (fault.Outside (outside.Campaign campaign.Memory)) is h = h.0
-  known-short form (fault.Outside (outside.Campaign (campaign.Write n))) is h = let P : Option Form → Type 0 = λ o. IsToldInPart o (s, d) answers w n in subst P (sym is) h
-  known-short form (fault.Broken b) is h = h
-  known-short form (fault.Scenario f) is h = never-scenario s.depth d s answers f h.1
-  known-short form (fault.Unseen line) is h = never-unseen s.depth d s answers line h.1
+-- ---- by a fault
 
-  explain-short : (text : String Global) (f : QuestionFault) → ExplainRefused (string_bytes text) d s answers w f → FallsShortOf (Explain text) (s, d) answers w f
-  explain-short text (fault.Outside (outside.Answers f)) h = h
-  explain-short text (fault.Outside (outside.Census line)) h = absurd h.1
-  explain-short text (fault.Outside (outside.NotAnswered t)) h = h
-  explain-short text (fault.Outside (outside.Campaign campaign.TooManyPlans)) h = absurd h.1
-  explain-short text (fault.Outside (outside.Campaign campaign.Memory)) h = h.0
-  explain-short text (fault.Outside (outside.Campaign (campaign.Write n))) h = h
-  explain-short text (fault.Broken b) h = absurd h.1
-  explain-short text (fault.Scenario scenario.Memory) h = h.0
-  explain-short text (fault.Scenario (scenario.Bad kind entry term)) h = h
-  explain-short text (fault.Unseen line) h = h
+-- what refuses a text that waits for nothing refuses a report too
+pub yet-shown : (depth : Option ℕ) (form : Option Form) (s : Subject) (answers : List ℕ) (f : QuestionFault) → RefusesYet depth s.1 s.0 answers f → RefusesShown depth form s answers f
+yet-shown depth None s answers f h = h
+yet-shown depth (Some form) s answers f h = at_all s.1 answers depth s.0 f h
 
-  pub explained : (text : String Global) (result : Result Bool QuestionFault) → IfOk result (IsExplained (string_bytes text) d s answers w)
-      → IfErr result (ExplainRefused (string_bytes text) d s answers w) → ComesToText (Explain text) (s, d) answers w result
-  explained text (Ok found) ok err = ok
-  explained text (Err e) ok err = explain-short text e err
+module _ (s : Subject) (answers : List ℕ) where
+  -- an answer is made before anything is written
+  never-yet : {A : Type 0} (depth : Option ℕ) (n : ℕ) → RefusesYet depth s.1 s.0 answers (fault.Outside (outside.Campaign (campaign.Write n))) → A
+  never-yet None n h = absurd h
+  never-yet (Some depth) n h = absurd h.2
 
-  -- a fault that is passed up
-  short-of-up : (question : Question) (result : Result Bool QuestionFault) (f : QuestionFault) → IsErrAnd result (λ e. e ≡ f)
-      → FallsShortOf question (s, d) answers w f → ComesToText question (s, d) answers w result
-  short-of-up question (Ok found) f is short = absurd is
-  short-of-up question (Err e) f is short = let P : QuestionFault → Type 0 = λ x. FallsShortOf question (s, d) answers w x in subst P (sym is) short
+  never-at-all : {A : Type 0} (depth : Option ℕ) (n : ℕ) → Refuses depth s.1 s.0 answers (fault.Outside (outside.Campaign (campaign.Write n))) → A
+  never-at-all None n h = absurd h
+  never-at-all (Some depth) n h = absurd h.2
 
-  pub asks-up : (part : AskedPart) (result : Result Bool QuestionFault) (f : QuestionFault) → IsErrAnd result (λ e. e ≡ f) → AsksRefused (asked_part part) d s answers w f
-      → ComesToText (Asks part) (s, d) answers w result
-  asks-up part result f is h = short-of-up (Asks part) result f is (asks-short part f h)
+  never-shown : {A : Type 0} (form : Option Form) (n : ℕ) → RefusesShown s.0.depth form s answers (fault.Outside (outside.Campaign (campaign.Write n))) → A
+  never-shown None n h = never-yet s.0.depth n h
+  never-shown (Some form) n h = never-at-all s.0.depth n h
 
-  pub report-up : (form : Shown) (shown : Form) (result : Result Bool QuestionFault) (f : QuestionFault) → report_form form ≡ Some shown → IsErrAnd result (λ e. e ≡ f)
-      → ReportRefused shown d s answers w f → ComesToText (Report form false) (s, d) answers w result
-  report-up form shown result f told is h = short-of-up (Report form false) result f is (report-short form shown f told h)
+  never-cut : {A : Type 0} (question : Question) (n : ℕ) → IsUnanswered question s answers (fault.Outside (outside.Campaign (campaign.Write n))) → A
+  never-cut (Asks part) n h = never-yet s.0.depth n h
+  never-cut (Report what strict) n h = never-shown (report_form what) n h
+  never-cut (Explain text) n h = absurd h
 
-  -- the report was written
-  pub report-told : (form : Shown) (shown : Form) (found : Bool) → report_form form ≡ Some shown → IsToldIn (Some shown) (s, d) answers w found
-      → ComesToText (Report form false) (s, d) answers w (Ok found)
-  report-told form shown found is h = let P : Option Form → Type 0 = λ o. IsToldIn o (s, d) answers w found in subst P (sym is) h
+module _ (question : Question) (s : Subject) (answers : List ℕ) (v : Change) where
+  module _ (w : Change) (untouched : IsUntouched w) where
+    refused-ends : (text : List ℕ) (end : Exit) → RefusesWith text end v → EndsAnswered question s answers end w
+    refused-ends text exit.Kept is = absurd is
+    refused-ends text exit.Found is = absurd is
+    refused-ends text exit.Doubted is = absurd is
+    refused-ends text exit.Refused is = untouched
+    refused-ends text exit.Memory is = untouched
+    refused-ends text (exit.Write n) is = absurd is
 
-  -- and what is known so far
-  known-told : (form : Shown) (found : Bool) → report_form form ≡ None → IsToldIn None (s, d) answers w found → ComesToText (Report form false) (s, d) answers w (Ok found)
-  known-told form found is h = let P : Option Form → Type 0 = λ o. IsToldIn o (s, d) answers w found in subst P (sym is) h
+    abbrev ends : Exit → Type 0
+    ends e = EndsAnswered question s answers e w
 
-  pub known-up : (form : Shown) (result : Result Bool QuestionFault) → report_form form ≡ None → IfOk result (λ found. IsToldIn None (s, d) answers w found)
-      → IfErr result (KnownRefused d s answers w) → ComesToText (Report form false) (s, d) answers w result
-  known-up form (Ok found) is ok err = known-told form found is ok
-  known-up form (Err e) is ok err = known-short form e is err
+    pub fault-ends : (f : QuestionFault) (end : Exit) → IsUnanswered question s answers f → IsEndOfQuestion f end v → EndsAnswered question s answers end w
+    fault-ends (fault.Outside (outside.Answers f)) end why is = refused-ends _ end is
+    fault-ends (fault.Outside (outside.Census line)) end why is = refused-ends _ end is
+    fault-ends (fault.Outside (outside.NotAnswered t)) end why is = refused-ends _ end is
+    fault-ends (fault.Outside (outside.Campaign campaign.TooManyPlans)) end why is = subst ends (sym is.0) untouched
+    fault-ends (fault.Outside (outside.Campaign campaign.Memory)) end why is = subst ends (sym is.0) untouched
+    fault-ends (fault.Outside (outside.Campaign (campaign.Write n))) end why is = never-cut s answers question n why
+    fault-ends (fault.Broken b) end why is = refused-ends _ end is
+    fault-ends (fault.Scenario scenario.Memory) end why is = subst ends (sym is.0) untouched
+    fault-ends (fault.Scenario (scenario.Bad kind entry term)) end why is = refused-ends _ end is
+    fault-ends (fault.Unseen line) end why is = refused-ends _ end is
 
--- ---- by what is noted
+  -- a refusal whose line is told
+  why-of : (refusal : Refusal) (end : Exit) → RefusesQuestion question (Ok s) answers refusal → RefusesWith (refusal_line refusal) end v → end ≡ exit.Refused → TellsWhy question (Ok s) answers v
+  why-of refusal end because is refused =
+      let P : Exit → Type 0 = λ e. RefusesWith (refusal_line refusal) e v in (refusal, because, subst P refused is)
 
-module _ (s : Subject) (answers : List ℕ) (w : Change) (untouched : IsUntouched w) where
-  -- nothing is written before notes stand
-  never-cut : {A : Type 0} (depth : Option ℕ) (n : ℕ) → Refuses depth s.1 s.0 answers (fault.Outside (outside.Campaign (campaign.Write n))) → A
-  never-cut None n h = absurd h
-  never-cut (Some depth) n h = absurd h.2
+  module _ (noted : Type 0) where
+    abbrev tells : Exit → Type 0
+    tells e = TellsOf noted (TellsWhy question (Ok s) answers v) e v
 
-  -- a fault that is passed up, before anything is written
-  strict-short : (what : Shown) (f : QuestionFault) → IsUnnotedTo s.0.depth s answers f → FallsShortOf (Report what true) s answers w f
-  strict-short what (fault.Outside (outside.Answers f)) h = (untouched, h)
-  strict-short what (fault.Outside (outside.Census line)) h = (untouched, h)
-  strict-short what (fault.Outside (outside.NotAnswered t)) h = absurd h
-  strict-short what (fault.Outside (outside.Campaign campaign.TooManyPlans)) h = (untouched, h)
-  strict-short what (fault.Outside (outside.Campaign campaign.Memory)) h = untouched
-  strict-short what (fault.Outside (outside.Campaign (campaign.Write n))) h = never-cut s.0.depth n h
-  strict-short what (fault.Broken b) h = (untouched, h)
-  strict-short what (fault.Scenario f) h = never-scenario s.0.depth s.1 s.0 answers f h
-  strict-short what (fault.Unseen line) h = never-unseen s.0.depth s.1 s.0 answers line h
+    pub fault-tells : (f : QuestionFault) (end : Exit) → IsUnanswered question s answers f → IsEndOfQuestion f end v → tells end
+    fault-tells (fault.Outside (outside.Answers f)) end why is = tells-of _ _ _ end v is (why-of (bad_answers f) end why is)
+    fault-tells (fault.Outside (outside.Census line)) end why is = tells-of _ _ _ end v is (why-of (other_census line) end why is)
+    fault-tells (fault.Outside (outside.NotAnswered t)) end why is = tells-of _ _ _ end v is (why-of (not_answered t) end why is)
+    fault-tells (fault.Outside (outside.Campaign campaign.TooManyPlans)) end why is = subst tells (sym is.0) (too_many_plans, why, is.1)
+    fault-tells (fault.Outside (outside.Campaign campaign.Memory)) end why is = subst tells (sym is.0) is.1
+    fault-tells (fault.Outside (outside.Campaign (campaign.Write n))) end why is = never-cut s answers question n why
+    fault-tells (fault.Broken b) end why is = tells-of _ _ _ end v is (why-of (broken_run b) end why is)
+    fault-tells (fault.Scenario scenario.Memory) end why is = subst tells (sym is.0) is.1
+    fault-tells (fault.Scenario (scenario.Bad kind entry term)) end why is = tells-of _ _ _ end v is (why-of (bad_scenario _) end why is)
+    fault-tells (fault.Unseen number) end why is = tells-of _ _ _ end v is (why-of (unseen_hits number) end why is)
 
-  memory-short : (question : Question) (f : QuestionFault) → f ≡ fault.Outside (outside.Campaign campaign.Memory) → FallsShortOf question s answers w f
-  memory-short question f is = let P : QuestionFault → Type 0 = λ x. FallsShortOf question s answers w x in subst P (sym is) untouched
+-- ---- by what an end says
 
-  unnoted-short : (question : Question) (f : QuestionFault) → IsUnnoted question s answers f → FallsShortOf question s answers w f
-  unnoted-short (Report what true) f h = strict-short what f h
-  unnoted-short (Report what false) f h = memory-short (Report what false) f h
-  unnoted-short (Asks part) f h = memory-short (Asks part) f h
-  unnoted-short (Explain text) f h = memory-short (Explain text) f h
-
-module _ (question : Question) (s : Subject) (answers : List ℕ) where
-  pub fault-up : (result : Result Conclusion QuestionFault) (f : QuestionFault) (w : Change) → IsErrAnd result (λ e. e ≡ f)
-      → FallsShortOf question s answers w f → ConcludesText question s answers w result
-  fault-up (Ok c) f w is short = absurd is
-  fault-up (Err e) f w is short = let P : QuestionFault → Type 0 = λ x. FallsShortOf question s answers w x in subst P (sym is) short
-
-  pub unnoted-up : (result : Result Conclusion QuestionFault) (f : QuestionFault) (w : Change) → IsErrAnd result (λ e. e ≡ f)
-      → IsUntouched w → IsUnnoted question s answers f → ConcludesText question s answers w result
-  unnoted-up result f w is untouched h = fault-up result f w is (unnoted-short s answers w untouched question f h)
-
-  pub up-notes : (result : Result Conclusion QuestionFault) (f : QuestionFault) (w : Change) → IsErrAnd result (λ e. e ≡ f) → IsUntouched w → NotesText question s answers w result
-  up-notes (Ok c) f w is untouched = absurd is
-  up-notes (Err e) f w is untouched = untouched
-
-  -- what a text comes to that was written whole
-  pub text-concluded : (found doubted : Bool) (notes : List ℕ) (conclusion : Conclusion) (w : Change)
-      → IsAnswered question s answers w found → notes ≡ question_notes question s.0 s.1 answers → doubted ≡ is_question_doubted question notes
-      → conclusion ≡ concluded found doubted → IsConcluded question s answers w conclusion
-  text-concluded found doubted notes conclusion w h same is ends =
-      (found, h, ends ∙ ap (concluded found) (is ∙ ap (is_question_doubted question) same))
-
--- ---- by what a question came to
-
-module _ (question : Question) (s : Subject) (answers : List ℕ) where
-  module _ (w : Change) where
-    pub concluded-ends : (conclusion : Conclusion) → IsConcluded question s answers w conclusion → EndsAnswered question s answers (exit_of conclusion) w
-    concluded-ends Clean h = h
-    concluded-ends Failed h = h
-    concluded-ends Doubtful h = h
-
-    asked-sound : (depth : Option ℕ) (part : AskedPart) → IsAskedTo depth (asked_part part) s.1 s.0 answers w → w.failed ≡ false
-    asked-sound None part h = h.text.1
-    asked-sound (Some depth) part h = h.2.1
-
-    reported-sound : (depth : Option ℕ) (form : Form) (first : Option ℕ) → IsReportedTo depth form s.1 s.0 answers w first → w.failed ≡ false
-    reported-sound None form first h = (h.text h.some.0 h.some.1).1
-    reported-sound (Some depth) form first h = h.2.1
-
-    known-sound : (depth : Option ℕ) (found : Bool) → IsKnownTo depth s.1 s.0 answers w found → w.failed ≡ false
-    known-sound None found h = h.text.1
-    known-sound (Some depth) found h = h.2.1
-
-    asked-broken : (depth : Option ℕ) (part : AskedPart) (n : ℕ) → IsAskedInPart depth (asked_part part) s.1 s.0 answers w n → w.failed ≡ true
-    asked-broken None part n h = h.2
-    asked-broken (Some depth) part n h = h.2.2
-
-    reported-broken : (depth : Option ℕ) (form : Form) (n : ℕ) → IsReportedInPart depth form s.1 s.0 answers w n → w.failed ≡ true
-    reported-broken None form n h = h.1
-    reported-broken (Some depth) form n h = h.2.2
-
-    known-broken : (depth : Option ℕ) (n : ℕ) → IsKnownInPart depth s.1 s.0 answers w n → w.failed ≡ true
-    known-broken None n h = h.2
-    known-broken (Some depth) n h = h.2.2
-
-    told-sound : (form : Option Form) (found : Bool) → IsToldIn form s answers w found → w.failed ≡ false
-    told-sound (Some form) found h = reported-sound s.0.depth form h.0 h.1
-    told-sound None found h = known-sound s.0.depth found h
-
-    told-broken : (form : Option Form) (n : ℕ) → IsToldInPart form s answers w n → w.failed ≡ true
-    told-broken (Some form) n h = reported-broken s.0.depth form n h
-    told-broken None n h = known-broken s.0.depth n h
-
-    answered-sound : (q : Question) (found : Bool) → IsAnswered q s answers w found → w.failed ≡ false
-    answered-sound (Asks part) found h = asked-sound s.0.depth part h.0
-    answered-sound (Report what strict) found h = told-sound (report_form what) found h
-    answered-sound (Explain text) found h = h.2.1
-
-    part-broken : (q : Question) (n : ℕ) → IsPart q s answers w n → w.failed ≡ true
-    part-broken (Asks part) n h = asked-broken s.0.depth part n h
-    part-broken (Report what strict) n h = told-broken (report_form what) n h
-    part-broken (Explain text) n h = h.2.2
-
-    pub answered-leaves : (end : Exit) → EndsAnswered question s answers end w → Leaves end w
-    answered-leaves exit.Kept h = answered-sound question h.0 h.1
-    answered-leaves exit.Found h = answered-sound question h.0 h.1
-    answered-leaves exit.Doubted h = answered-sound question h.0 h.1
-    answered-leaves exit.Refused h = h
-    answered-leaves exit.Memory h = h
-    answered-leaves (exit.Write n) h = part-broken question n h
-
-    module _ (v : Change) where
-      pub refused-ends : (text : List ℕ) (end : Exit) → IsUntouched w → RefusesWith text end v → EndsAnswered question s answers end w
-      refused-ends text exit.Kept h is = absurd is
-      refused-ends text exit.Found h is = absurd is
-      refused-ends text exit.Doubted h is = absurd is
-      refused-ends text exit.Refused h is = h
-      refused-ends text exit.Memory h is = h
-      refused-ends text (exit.Write n) h is = absurd is
-
-      pub short-ends : (f : QuestionFault) (end : Exit) → FallsShortOf question s answers w f → IsEndOfQuestion f end v → EndsAnswered question s answers end w
-      short-ends (fault.Outside (outside.Answers f)) end short is = refused-ends _ end short.0 is
-      short-ends (fault.Outside (outside.Census line)) end short is = refused-ends _ end short.0 is
-      short-ends (fault.Outside (outside.NotAnswered t)) end short is = refused-ends _ end short.0 is
-      short-ends (fault.Outside (outside.Campaign campaign.TooManyPlans)) end short is = let P : Exit → Type 0 = λ e. EndsAnswered question s answers e w in subst P (sym is.0) short.0
-      short-ends (fault.Outside (outside.Campaign campaign.Memory)) end short is = let P : Exit → Type 0 = λ e. EndsAnswered question s answers e w in subst P (sym is.0) short
-      short-ends (fault.Outside (outside.Campaign (campaign.Write n))) end short is = let P : Exit → Type 0 = λ e. EndsAnswered question s answers e w in subst P (sym is.0) short
-      short-ends (fault.Broken b) end short is = refused-ends _ end short.0 is
-      short-ends (fault.Scenario scenario.Memory) end short is = let P : Exit → Type 0 = λ e. EndsAnswered question s answers e w in subst P (sym is.0) short
-      short-ends (fault.Scenario (scenario.Bad kind entry term)) end short is = refused-ends _ end short.0 is
-      short-ends (fault.Unseen line) end short is = refused-ends _ end short.0 is
-
-      -- a refusal whose line is told
-      why : (refusal : Refusal) (end : Exit) → RefusesQuestion question (Ok s) answers refusal → RefusesWith (refusal_line refusal) end v → end ≡ exit.Refused → TellsWhy question (Ok s) answers v
-      why refusal end because is refused =
-          let P : Exit → Type 0 = λ e. RefusesWith (refusal_line refusal) e v in (refusal, because, subst P refused is)
-
-      module _ (noted : Type 0) where
-        abbrev tells : Exit → Type 0
-        tells e = TellsOf noted (TellsWhy question (Ok s) answers v) e v
-
-        pub short-tells : (f : QuestionFault) (end : Exit) → FallsShortOf question s answers w f → IsEndOfQuestion f end v → tells end
-        short-tells (fault.Outside (outside.Answers f)) end short is = tells-of _ _ _ end v is (why (bad_answers f) end short.1 is)
-        short-tells (fault.Outside (outside.Census line)) end short is = tells-of _ _ _ end v is (why (other_census line) end short.1 is)
-        short-tells (fault.Outside (outside.NotAnswered t)) end short is = tells-of _ _ _ end v is (why (not_answered t) end short.1 is)
-        short-tells (fault.Outside (outside.Campaign campaign.TooManyPlans)) end short is = subst tells (sym is.0) (too_many_plans, short.1, is.1)
-        short-tells (fault.Outside (outside.Campaign campaign.Memory)) end short is = subst tells (sym is.0) is.1
-        short-tells (fault.Outside (outside.Campaign (campaign.Write n))) end short is = subst tells (sym is.0) is.1
-        short-tells (fault.Broken b) end short is = tells-of _ _ _ end v is (why (broken_run b) end short.1 is)
-        short-tells (fault.Scenario scenario.Memory) end short is = subst tells (sym is.0) is.1
-        short-tells (fault.Scenario (scenario.Bad kind entry term)) end short is = tells-of _ _ _ end v is (why (bad_scenario _) end short.1 is)
-        short-tells (fault.Unseen number) end short is = tells-of _ _ _ end v is (why (unseen_hits number) end short.1 is)
-
-  -- the same where nothing was told before
-  pub short-told : (w u : Change) (new : Option (List ℕ)) (broken : Bool) (f : QuestionFault) (end : Exit) → IsUntouched u → FallsShortOf question s answers w f
-      → IsEndOfQuestion f end (record { old = u.new; new = new; failed = broken })
-      → (let v : Change = record { old = u.old; new = new; failed = broken } in TellsOf (IsNoted (question_notes question s.0 s.1 answers) v) (TellsWhy question (Ok s) answers v) end v)
-  short-told w u new broken f end untouched short is =
-      let P : Option (List ℕ) → Type 0 =
-      λ o. let v : Change = record { old = o; new = new; failed = broken } in TellsOf (IsNoted (question_notes question s.0 s.1 answers) v) (TellsWhy question (Ok s) answers v) end v in
-      let v : Change = record { old = u.new; new = new; failed = broken } in
-      subst P untouched.0 (short-tells w v (IsNoted (question_notes question s.0 s.1 answers) v) f end short is)
-
--- an end of a text that was written whole tells the notes
-pub concluded-tells : (refusal : Type 0) (notes : List ℕ) (conclusion : Conclusion) (w : Change) → IsNoted notes w
-    → TellsOf (IsNoted notes w) refusal (exit_of conclusion) w
-concluded-tells refusal notes Clean w h = h
-concluded-tells refusal notes Failed w h = h
-concluded-tells refusal notes Doubtful w h = h
+module _ (question : Question) (s : Subject) (answers : List ℕ) (w : Change) where
+  pub answered-leaves : (end : Exit) → EndsAnswered question s answers end w → Leaves end w
+  answered-leaves exit.Kept h = h.1.2.1
+  answered-leaves exit.Found h = h.1.2.1
+  answered-leaves exit.Doubted h = h.1.2.1
+  answered-leaves exit.Refused h = h
+  answered-leaves exit.Memory h = h
+  answered-leaves (exit.Write n) h = h.2.2
 
 pub whole-noted : (noted refusal : Type 0) (end : Exit) (w : Change) → TellsOf noted refusal end w → OnWhole end noted
 whole-noted noted refusal exit.Kept w h = h
@@ -347,9 +199,13 @@ refuses-long : (depth : Option ℕ) (s : Subject) (text : List ℕ) → most_byt
 refuses-long None s text many = long-reading false s.1.codes s.1.points text many
 refuses-long (Some depth) s text many = long-reading true s.1.codes s.1.points text many
 
+shown-long : (form : Option Form) (s : Subject) (text : List ℕ) → most_bytes < length text → RefusesShown s.0.depth form s text (fault.Outside (outside.Answers answers.TooLong))
+shown-long None s text many = refuses-long s.0.depth s text many
+shown-long (Some form) s text many = refuses-long s.0.depth s text many
+
 too-long : (question : Question) (s : Subject) (text : List ℕ) → most_bytes < length text → RefusesAnswers question s text (bad_answers answers.TooLong)
 too-long (Asks part) s text many = refuses-long s.0.depth s text many
-too-long (Report what strict) s text many = refuses-long s.0.depth s text many
+too-long (Report what strict) s text many = shown-long (report_form what) s text many
 too-long (Explain words) s text many = long-reading (is_some s.0.depth) s.1.codes s.1.points text many
 
 -- ---- by the answers that a reader gave

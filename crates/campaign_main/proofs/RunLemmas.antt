@@ -1,30 +1,22 @@
 -- What is noted of a campaign with a depth, by the runs that answers tell: the places of counts that are 0, and what notes come to.
-use Rattle.std.proofs.Common.{◌≡◌, ◌∙◌, ◌++◌, ◌+◌, ◌<◌, ◌≤◌, ◌==◌, ℕ, zero, suc, Bool, true, false, List, Option, Some, None, Result, Ok, Err, [], ◌∷◌, All, length, ap, arith, refl, sym, filter, if◌then◌else◌, slice_index_or, subst}
+use Rattle.std.proofs.Common.{◌≡◌, ◌∙◌, ◌++◌, ◌+◌, ◌<◌, ◌≤◌, ℕ, zero, suc, Bool, true, false, List, Some, [], ◌∷◌, All, length, ap, arith, refl, sym, filter, if◌then◌else◌, subst}
 use Rattle.std.proofs.lemmas.List.Elements.{All-filter}
 use Rattle.std.proofs.lemmas.List.FromFn.{get_or-range_with_len, length-range_with_len}
-use Rattle.std.specs.Prelude.{IsErrAnd}
 use Rattle.std.specs.List.{range_with_len}
 use Rattle.action_eval.specs.declared.rig.Kind.{Kind}
-use Rattle.plan_gen.specs.PlanList.{Asked}
-use Rattle.answer_text.specs.Runs.{KnownRuns, TellsAnswers, known_runs, told_in}
-use Rattle.answer_text.specs.declared.fault.AnswersFault.{AnswersFault}
-use Rattle.answer_text.specs.declared.fault.AnswersFault.TheVariants as answers
+use Rattle.answer_text.specs.Runs.{KnownRuns, known_runs, told_in}
 use Rattle.plan_gen.specs.declared.list.PlanFault.{PlanFault}
 use Rattle.plan_gen.specs.declared.list.PlanFault.TheVariants as planning
 use Rattle.answered_runs.specs.Answered.{Answered, known_plans}
 use Rattle.campaign_given.specs.Description.{Description}
 use Rattle.campaign_given.specs.Given.{Given}
-use Rattle.campaign_core.specs.declared.ending.CampaignFault.TheVariants as campaign
-use Rattle.outside_campaign.specs.Results.{answers_fault}
 use Rattle.outside_campaign.specs.declared.refusal.OutsideFault.TheVariants as outside
 use Rattle.outside_grown.specs.Further.{AreTooMany}
 use Rattle.campaign_core.specs.CommandTexts.{plan_fault}
 use Rattle.answered_campaigns.specs.Kinds.{listed_kinds}
-use Rattle.answered_campaigns.specs.Questions.{IsReadingFault, Tells}
-use Rattle.answered_campaigns.specs.declared.fault.QuestionFault.{QuestionFault}
+use Rattle.answered_campaigns.specs.Questions.{RefusesYet, Tells}
 use Rattle.answered_campaigns.specs.declared.fault.QuestionFault.TheVariants as fault
 use Rattle.campaign_main.specs.QuestionNotes.{run_doubts, strict_doubts}
-use Rattle.campaign_main.specs.Questions.{IsUnnotedTo}
 
 abbrev kept : Bool → ℕ → List ℕ → List ℕ
 kept b p more = if b then p ∷ more else more
@@ -83,13 +75,6 @@ below a n m h =
 pub places_below : (t : ℕ → Bool) (n m : ℕ) (places : List ℕ) → n ≡ m → places ≡ filter t (range_with_len 0 n) → All (λ p. p < m) places
 places_below t n m places many is = subst (λ (xs : List ℕ). All (λ p. p < m) xs) (sym is) (All-filter t (λ p. p < m) (range_with_len 0 n) (below 0 n m (omega (arith, many))))
 
--- too many plans that are passed up
-pub many_up : {T : Type 0} (a : Answered) (asks asked : Asked) (n : ℕ) (result : Result T PlanFault) (f : PlanFault) → asks ≡ asked → IsErrAnd result (λ e. e ≡ f)
-    → (f ≡ planning.TooManyPlans → AreTooMany a asks n) → result ≡ Err planning.TooManyPlans → AreTooMany a asked n
-many_up a asks asked n (Ok x) f same up many is = absurd up
-many_up a asks asked n (Err e) f same up many is =
-    let cause : e ≡ planning.TooManyPlans = cc in subst (λ (x : Asked). AreTooMany a x n) same (many (sym up ∙ cause))
-
 -- ---- by the text of answers
 
 module _ (d : Description) (given : Given) (depth : ℕ) (text : List ℕ) where
@@ -101,30 +86,8 @@ module _ (d : Description) (given : Given) (depth : ℕ) (text : List ℕ) where
       ∙ ap (λ (kinds : List (List Kind)). run_doubts d.points kinds (told_in a.book) depth given) listed
       ∙ ap (λ (runs : KnownRuns). run_doubts d.points (listed_kinds d) runs depth given) told
 
-  -- why nothing is noted: answers with a fault
-  pub reading_is_unnoted : (why : QuestionFault) → IsReadingFault d text why → IsUnnotedTo (Some depth) (given, d) text why
-  reading_is_unnoted (fault.Outside (outside.Answers f)) h = h
-  reading_is_unnoted (fault.Outside (outside.Campaign campaign.Memory)) h = tt
-  reading_is_unnoted (fault.Outside (outside.Campaign campaign.TooManyPlans)) h = absurd h
-  reading_is_unnoted (fault.Outside (outside.Campaign (campaign.Write n))) h = absurd h
-  reading_is_unnoted (fault.Outside (outside.NotAnswered t)) h = absurd h
-  reading_is_unnoted (fault.Outside (outside.Census line)) h = absurd h
-  reading_is_unnoted (fault.Broken b) h = absurd h
-  reading_is_unnoted (fault.Scenario f) h = absurd h
-  reading_is_unnoted (fault.Unseen line) h = absurd h
-
-  pub many_runs : (a : Answered) → Tells d text a → (cause : PlanFault) → (cause ≡ planning.TooManyPlans → AreTooMany a given.plans (length (known_plans a depth)))
-      → IsUnnotedTo (Some depth) (given, d) text (fault.Outside (outside.Campaign (plan_fault cause)))
-  many_runs a tells planning.TooManyPlans many = (a, tells, many refl)
-  many_runs a tells planning.Memory many = tt
-
-  pub answers_fault_is_unnoted : (f : AnswersFault) → TellsAnswers f d.codes d.points text
-      → IsUnnotedTo None (given, d) text (fault.Outside (answers_fault f))
-  answers_fault_is_unnoted answers.TooLong h = h
-  answers_fault_is_unnoted (answers.Line number f) h = h
-  answers_fault_is_unnoted answers.Memory h = tt
-
-  pub answers_fault_is_unnoted_by_names : (f : AnswersFault) (codes points : List (List ℕ)) → codes ≡ d.codes → points ≡ d.points → TellsAnswers f codes points text
-      → IsUnnotedTo None (given, d) text (fault.Outside (answers_fault f))
-  answers_fault_is_unnoted_by_names f codes points codes_are points_are h =
-      answers_fault_is_unnoted f (subst (λ (names : List (List ℕ)). TellsAnswers f d.codes names text) points_are (subst (λ (names : List (List ℕ)). TellsAnswers f names points text) codes_are h))
+  -- too many plans, or want of memory, by the runs that answers record
+  pub many_yet : (a : Answered) → Tells d text a → (cause : PlanFault) → (cause ≡ planning.TooManyPlans → AreTooMany a given.plans (length (known_plans a depth)))
+      → RefusesYet (Some depth) d given text (fault.Outside (outside.Campaign (plan_fault cause)))
+  many_yet a tells planning.TooManyPlans many = (a, tells, many refl)
+  many_yet a tells planning.Memory many = tt

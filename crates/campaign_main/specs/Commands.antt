@@ -1,4 +1,4 @@
--- What a command answers to the bytes of its settings: its text and its end, or why it is refused.
+-- What a command answers to the bytes of its settings: its text, what the text comes to, and the notes on it; or why the command is refused.
 use Rattle.std.specs.Prelude.{ℕ, ◌+◌, ◌==◌, Bool, false, List, [], ◌∷◌, ◌++◌, codes, count_by, length, take, Option, Some, None, is_some, Result, Ok, Err, nat_lt}
 use Rattle.std.specs.Prelude.{if◌then◌else◌, slice_get, string_bytes}
 use Rattle.std.specs.Fmt.{decimal}
@@ -10,6 +10,7 @@ use Rattle.action_eval.specs.Answers.{Given as Run, Reply, given_of}
 use Rattle.target_trait.specs.Play.{Move}
 use Rattle.target_trait.specs.declared.target.Target.{Ghosts}
 use Rattle.target_trait.specs.Cuts.{Cut, asks_with, with_keep}
+use Rattle.target_trait.specs.Outcomes.{outcome}
 use Rattle.file_replace.specs.declared.variant.Variant.{Variant as ReplaceVariant}
 use Rattle.file_replace.specs.Work.{Work as Replacing}
 use Rattle.file_replace.specs.Crash.{cut_of as replace_cut, calls_of as replace_calls}
@@ -26,6 +27,7 @@ use Rattle.commit_target.specs.Steps.{asks_of as committing}
 use Rattle.commit_target.specs.Words.{point_names as commit_points, code_text as commit_codes, label as commit_label}
 use Rattle.plan_gen.specs.PlanList.{most_plans, plan_list}
 use Rattle.report.specs.ReportText.{text_of}
+use Rattle.run_explained.specs.Explained.{no_end}
 use Rattle.answer_text.specs.declared.fault.AnswersFault.{AnswersFault}
 use Rattle.answered_runs.specs.declared.broken.BrokenRun.{BrokenRun}
 use Rattle.campaign_given.specs.Description.{Description}
@@ -55,10 +57,10 @@ use Rattle.campaign_main.specs.Notes.{is_doubted, listed_notes, notes_of, report
 
 -- ---- answers
 
--- why a command is refused: its settings are no UTF-8 or have a fault, its scenario has one, there are too many plans, or none of this
--- number; it would run a component from outside, would list the plans of one that grow from what answers tell, or asks about a target that isn't
--- from outside; the answers have a fault, this line of them tells another census than the settings, or they lack this scenario; a run that they tell
--- breaks with another, or this line tells the one that is to be explained without its hits
+-- Why a command is refused. Its settings aren't UTF-8 or have a fault; its scenario has a fault; there are too many plans; or no plan has this
+-- number. Somebody else runs the component, but the command would have to run it, or to list plans that grow from answers. A question is about a
+-- target that the program runs itself. The answers have a fault, have another census than the settings in this line, or lack this scenario. A
+-- recorded run doesn't begin like the one that it has to, or this line records the run to be explained without its hits.
 pub data Refusal : Type 0 where
   not_text : Refusal
   bad_settings : Cause → Refusal
@@ -74,21 +76,21 @@ pub data Refusal : Type 0 where
   broken_run : BrokenRun → Refusal
   unseen_hits : ℕ → Refusal
 
--- a command's text, what it comes to, and what is noted beside it; or why the command is refused
+-- A command's text, what the text comes to, and the notes on it; or why the command is refused.
 abbrev pub Answer : Type 0
 Answer = Result (List ℕ × Conclusion × List ℕ) Refusal
 
--- ---- a command on what a campaign is given
+-- ---- a command in a campaign
 
--- what comes of a list of plans that isn't too long
+-- The text, unless there are more plans than a list may have.
 abbrev pub of_few_plans : List Entries → List ℕ × Conclusion × List ℕ → Answer
 of_few_plans plans text = if nat_lt most_plans (length plans) then Err too_many_plans else Ok text
 
--- what a document tells of the program, of who told the runs, and of its command
+-- What a document says of the program: its version, whether `target` or `answers` shows the runs, and the command.
 abbrev pub notes_with : List ℕ → List ℕ → NotesFacts
 notes_with told_by command = record { version = codes "0.4.0"; told_by = told_by; command = command }
 
--- the form that a command's words name
+-- The form that a command's words name.
 abbrev pub form_in : Form → ReportForm
 form_in Whole = forms.Whole
 form_in Brief = forms.Brief
@@ -96,42 +98,42 @@ form_in Json = forms.Json (notes_with (codes "target") (codes "paklour run --jso
 form_in Junit = forms.Junit
 form_in Page = forms.Page (notes_with (codes "target") (codes "paklour page FILE"))
 
--- the report of a form
+-- The report in a form.
 abbrev pub report_in : Form → Campaign → List ℕ
 report_in form c = campaign_report (form_in form) c
 
--- the report, whether a plan fails, and what is noted, which counts where the report is to be strict
+-- The report, what it comes to, and the notes on it, which count if the report is strict.
 unfoldable pub run_answer : Form → Bool → Campaign → Answer
 run_answer form strict c =
     of_few_plans (plans c) (report_in form c, concluded (is_some (first_failure c)) (is_doubted strict (report_notes strict c)), report_notes strict c)
 
--- the list of plans, and what is noted of the listed scenarios
+-- The list of plans, and the notes on the listed scenarios.
 unfoldable pub plans_answer : Campaign → Answer
 plans_answer c = of_few_plans (plans c) (plans_text c, Clean, listed_notes c.points c.given.plans.listed)
 
--- what a text with this verdict comes to
+-- What a text with this one verdict comes to.
 abbrev pub of_verdict : Verdict → Conclusion
 of_verdict verdict = concluded (is_fail verdict) false
 
--- a scenario tried under a stream number, whether it fails, and which of its names no point has
+-- The text of a scenario that is tried under a stream number, what it comes to, and the notes on the scenario.
 unfoldable pub try_answer : Campaign → ℕ → Entries → Answer
 try_answer c stream scenario =
     Ok (try_text c.codes (tried c stream scenario), of_verdict (tried c stream scenario).verdict, notes_of c.points scenario)
 
--- a scenario reduced under a stream number, whether it fails, and which of its names no point has
+-- The text of a scenario that is reduced under a stream number, what it comes to, and the notes on the scenario.
 unfoldable pub reduce_answer : Campaign → ℕ → Entries → Answer
 reduce_answer c stream scenario = Ok (reduce_text c stream scenario, of_verdict (say c stream scenario), notes_of c.points scenario)
 
--- a scenario's run under a stream number, told hit by hit, whether it fails, and which of its names no point has
-unfoldable pub explain_answer : Campaign → ℕ → Entries → Answer
-explain_answer c stream scenario = Ok (explained c stream scenario, of_verdict (tried c stream scenario).verdict, notes_of c.points scenario)
+-- The text of a scenario's run under a stream number, hit by hit and with these lines of its end, what it comes to, and the notes on the scenario.
+unfoldable pub explain_answer : (Run → List (List ℕ)) → Campaign → ℕ → Entries → Answer
+explain_answer end c stream scenario = Ok (explained end c stream scenario, of_verdict (tried c stream scenario).verdict, notes_of c.points scenario)
 
--- the stream number and the scenario that a command takes: of a text the one that it spells, under 0
+-- The stream number and the scenario that a command takes. If it takes a text, they are 0 and the scenario that the text spells.
 abbrev pub spelled : Result Entries Fault → Result (ℕ × Entries) Refusal
 spelled (Ok scenario) = Ok (0, scenario)
 spelled (Err f) = Err (bad_scenario f)
 
--- of a number the plan's, under the number, as the campaign runs it
+-- If it takes the number of a plan, they are this number and the plan, as in the campaign's own run of it.
 abbrev pub numbered : ℕ → Option Entries → Result (ℕ × Entries) Refusal
 numbered number (Some scenario) = Ok (number, scenario)
 numbered number None = Err (no_plan number)
@@ -143,25 +145,30 @@ abbrev pub taken : Campaign → Which → Result (ℕ × Entries) Refusal
 taken c (Scenario text) = spelled (reading (string_bytes text))
 taken c (Plan number) = planned c number
 
--- what comes of it
+-- The answer to what the command takes, or why it takes nothing.
 abbrev pub taken_answer : (ℕ → Entries → Answer) → Result (ℕ × Entries) Refusal → Answer
 taken_answer answer (Ok t) = answer t.0 t.1
 taken_answer answer (Err refusal) = Err refusal
 
-abbrev pub order_answer : Order → Campaign → Answer
-order_answer (order.Run form strict recheck) c = run_answer form strict c
-order_answer order.Plans c = plans_answer c
-order_answer (order.Try which) c = taken_answer (try_answer c) (taken c which)
-order_answer (order.Reduce which) c = taken_answer (reduce_answer c) (taken c which)
-order_answer (order.Explain which) c = taken_answer (explain_answer c) (taken c which)
+-- The answer to an order. An explained run has these lines of its end.
+abbrev pub answer_with : (Run → List (List ℕ)) → Order → Campaign → Answer
+answer_with end (order.Run form strict recheck) c = run_answer form strict c
+answer_with end order.Plans c = plans_answer c
+answer_with end (order.Try which) c = taken_answer (try_answer c) (taken c which)
+answer_with end (order.Reduce which) c = taken_answer (reduce_answer c) (taken c which)
+answer_with end (order.Explain which) c = taken_answer (explain_answer end c) (taken c which)
 
--- ---- a command on a target whose runs end with the power cut: by what each write did that is pending at the end of its own run, which is given the
--- same over the target's own points, and by these points, behind which that of the cut stands
+-- The answer to an order. An explained run has no line of its end.
+abbrev pub order_answer : Order → Campaign → Answer
+order_answer order c = answer_with no_end order c
+
+-- ---- a command on a target whose runs end with the power cut
+-- `points` are the target's own points; the cut's point comes after them. `calls` gives the calls of the writes that are pending at the end of a run.
 
 abbrev pub keep_line : ℕ → List ℕ → List ℕ
 keep_line number call = codes "keep " ++ decimal number ++ codes " " ++ call
 
--- a line for each of the calls, numbered from k
+-- A line for each of the calls, numbered from k.
 abbrev pub keep_lines_from : ℕ → List (List ℕ) → List (List ℕ)
 keep_lines_from k [] = []
 keep_lines_from k (call ∷ calls) = keep_line k call ∷ keep_lines_from (k + 1) calls
@@ -169,34 +176,22 @@ keep_lines_from k (call ∷ calls) = keep_line k call ∷ keep_lines_from (k + 1
 abbrev pub keep_lines : List (List ℕ) → List (List ℕ)
 keep_lines calls = keep_lines_from 1 calls
 
--- how often a run asks the cut's point
+-- How often a run asks the cut's point.
 abbrev pub keeps_asked : List (List ℕ) → List ℕ → ℕ
 keeps_asked points asked = count_by (λ p. p == length points) asked
 
--- the calls that a run's hits of the cut stand for
-abbrev pub calls_met : (Run → List (List ℕ)) → List (List ℕ) → Campaign → ℕ → Entries → List (List ℕ)
-calls_met calls points c stream scenario =
-    take (keeps_asked points (tried c stream scenario).asked) (calls (given_of scenario points c.given.plans.seed stream c.given.max_hits))
+-- The lines of the end of a run: for each hit of the cut, the call of the write that it stands for.
+abbrev pub cut_end : (Run → List (List ℕ)) → List (List ℕ) → (List Reply → Move) → Run → List (List ℕ)
+cut_end calls points asks g =
+    keep_lines (take (keeps_asked points (outcome asks g).asked) (calls (given_of g.scenario points g.seed g.stream g.limit)))
 
--- a scenario's run under a stream number, told hit by hit, and which write each hit of the cut stands for
-unfoldable pub cut_explain_answer : (Run → List (List ℕ)) → List (List ℕ) → Campaign → ℕ → Entries → Answer
-cut_explain_answer calls points c stream scenario = Ok (
-  explained c stream scenario ++ text_of (keep_lines (calls_met calls points c stream scenario)),
-  of_verdict (tried c stream scenario).verdict,
-  notes_of c.points scenario,
-)
-
--- the answer to an order: that of any target, but for explained runs
+-- The answer to an order.
 abbrev pub cut_answer : (Run → List (List ℕ)) → List (List ℕ) → Order → Campaign → Answer
-cut_answer calls points (order.Explain which) c = taken_answer (cut_explain_answer calls points c) (taken c which)
-cut_answer calls points (order.Run form strict recheck) c = order_answer (order.Run form strict recheck) c
-cut_answer calls points order.Plans c = order_answer order.Plans c
-cut_answer calls points (order.Try which) c = order_answer (order.Try which) c
-cut_answer calls points (order.Reduce which) c = order_answer (order.Reduce which) c
+cut_answer calls points order c = answer_with (cut_end calls points c.asks) order c
 
 -- ---- a command on a component that somebody else runs
 
--- its plans can be listed, with these notes, where they don't grow from what answers tell; what runs it is refused
+-- The list of its plans, with these notes, if they don't grow from answers. An order to run it is refused.
 unfoldable pub outside_answer : Order → Option ℕ → List Entries → List ℕ → Answer
 outside_answer order.Plans None plans notes = of_few_plans plans (text_of (plan_lines 0 plans), Clean, notes)
 outside_answer order.Plans (Some depth) plans notes = Err outside_with_depth
@@ -207,16 +202,16 @@ outside_answer (order.Explain which) depth plans notes = Err outside_target
 
 -- ---- by the settings
 
--- what a campaign is given by what its target asks, where each run ends with its power cut, which asks as well
+-- The campaign of a target each of whose runs ends with the power cut. The cut's hits come after those of the target.
 abbrev pub campaign_with_cut : (List Reply → Move) → Cut → List (List ℕ) → (ℕ → List ℕ) → List ℕ → Given → Campaign
 campaign_with_cut asks cut points codes label given = campaign_of (asks_with asks cut (length points)) (with_keep points) codes label given
 
--- the same by whether the settings ask for crash states
+-- The same if the settings ask for crash states. Otherwise runs end without the cut.
 abbrev pub campaign_to_cut : (List Reply → Move) → Cut → List (List ℕ) → (ℕ → List ℕ) → List ℕ → Given → Campaign
 campaign_to_cut asks cut points codes label given =
     if given.crash_states then campaign_with_cut asks cut points codes label given else campaign_of asks points codes label given
 
--- the same two by what is tried
+-- The same two for what is tried: a target, its workload and the settings.
 abbrev pub campaign_with_cut_in : {T W : Type 0} → Ghosts T W → (T → W → Cut) → Subject T W → Campaign
 campaign_with_cut_in target cut tried =
     campaign_with_cut (target.asks tried.target.now tried.workload.now) (cut tried.target.now tried.workload.now) target.names target.code_text
@@ -227,7 +222,7 @@ campaign_to_cut_in target cut tried =
     campaign_to_cut (target.asks tried.target.now tried.workload.now) (cut tried.target.now tried.workload.now) target.names target.code_text
     (target.label_of tried.target.now) tried.settings.now
 
--- on each bundled target with its workload
+-- The campaign of each bundled target on its workload.
 abbrev pub replacing_in : Given → ReplaceVariant → Replacing → Campaign
 replacing_in given variant work =
     campaign_to_cut (replacing variant work) (replace_cut variant work) replace_points replace_codes (replace_label variant) given
@@ -240,18 +235,18 @@ abbrev pub committing_in : Given → CommitVariant → Committing → Campaign
 committing_in given variant work =
     campaign_to_cut (committing variant work) (commit_cut variant work) commit_points commit_codes (commit_label variant) given
 
--- on the one that is chosen; a component from outside isn't run here
+-- The campaign of the target that the settings choose. A component that somebody else runs isn't run here.
 abbrev pub campaign_for : Given → Choice → Option Campaign
 campaign_for given (choice.Replace variant work) = Some (replacing_in given variant work)
 campaign_for given (choice.Maildir variant messages) = Some (delivering_in given variant messages)
 campaign_for given (choice.Commit variant work) = Some (committing_in given variant work)
 campaign_for given (choice.Outside outside) = None
 
--- the plans over the points and the counts that the settings tell of a component from outside
+-- The plans of a component that somebody else runs, over the points and the counts that the settings describe.
 abbrev pub outside_plans : Given → Description → List Entries
 outside_plans given outside = plan_list outside.points outside.hits given.plans
 
--- the answer on a bundled target, which tells what is pending
+-- The answer on a bundled target. With crash states an explained run also has the calls of the pending writes.
 abbrev pub bundled_answer : (Run → List (List ℕ)) → List (List ℕ) → Given → Order → Campaign → Answer
 bundled_answer calls points given order c = if given.crash_states then cut_answer calls points order c else order_answer order c
 
@@ -269,15 +264,15 @@ abbrev pub given_answer : Order → Read Settings → Answer
 given_answer order (Ok s) = choice_answer order s.campaign s.choice
 given_answer order (Err cause) = Err (bad_settings cause)
 
--- the answer to a text of settings
+-- The answer to a text of settings.
 unfoldable pub text_answer : Order → List ℕ → Answer
 text_answer order text = given_answer order (settings_of text)
 
--- what comes of bytes, which are no text where they are no UTF-8; that there are too many comes first
+-- What bytes mean. First they are refused if there are too many, then if they aren't UTF-8.
 abbrev pub of_text : {A : Type 0} → (List ℕ → Result A Refusal) → List ℕ → Result A Refusal
 of_text meaning bytes = if nat_lt 1048576 (length bytes) then Err (bad_settings too_long)
     else (if is_utf8 bytes then meaning bytes else Err not_text)
 
--- the answer to the bytes of settings
+-- The answer to the bytes of settings.
 unfoldable pub answer_of : Order → List ℕ → Answer
 answer_of order bytes = of_text (text_answer order) bytes

@@ -20,37 +20,37 @@ use Rattle.campaign_main.specs.declared.input.ReadFault.{ReadFault}
 use Rattle.campaign_main.specs.declared.input.ReadFault.TheVariants as read
 use Rattle.campaign_main.specs.Commands.{Refusal, not_text, bad_settings, bad_scenario, no_plan, too_many_plans, outside_target, outside_with_depth, bundled_target, bad_answers, other_census, not_answered, broken_run, unseen_hits}
 
--- a line on the settings, and one more where a control character stands in it, as in a key that has a line feed
+-- A line on the settings. If it has a control character, such as a line feed in a key, a second line says so.
 abbrev pub told_line : List ℕ → List ℕ
 told_line line = ended line ++ text_if (has_control line) (codes "settings: a control character: what follows it may look like a line of its own")
 
--- what is wrong with the settings
+-- The line for a fault of the settings.
 abbrev pub settings_line : SettingsFault → List ℕ
 settings_line fault = told_line (line_of fault)
 
--- what is wrong with a scenario's text, and where
+-- The line for a fault of a scenario's text.
 abbrev pub scenario_line : ScenarioFault → List ℕ
 scenario_line fault = ended (codes "scenario: " ++ fault_text fault)
 
--- that memory was refused
+-- The line if memory was refused.
 abbrev pub memory_line : List ℕ
 memory_line = codes "no memory\n"
 
--- that the settings couldn't be read
+-- The line if the settings couldn't be read.
 abbrev pub unreadable_line : List ℕ
 unreadable_line = codes "settings: not readable\n"
 
--- that the answers couldn't be read
+-- The line if the answers couldn't be read.
 abbrev pub unreadable_answers_line : List ℕ
 unreadable_answers_line = codes "answers: not readable\n"
 
--- after how many bytes of the text a write failed
+-- The line if a write failed after this many bytes of the text.
 abbrev pub cut_off_line : ℕ → List ℕ
 cut_off_line written = codes "write failed after " ++ (decimal written ++ codes " bytes\n")
 
--- ---- by the definition of the answers
+-- ---- the lines of refusals
 
--- the line of a fault that the settings have
+-- The line for the fault that makes settings refused.
 abbrev pub cause_line : Cause → List ℕ
 cause_line too_long = settings_line settings.TooLong
 cause_line not_toml = settings_line settings.NotToml
@@ -60,7 +60,7 @@ cause_line (wrong key fault.WrongType) = settings_line (settings.WrongType key)
 cause_line (wrong key fault.OutOfRange) = settings_line (settings.OutOfRange key)
 cause_line (listed number f) = settings_line (settings.Scenario number f.kind f.entry f.term)
 
--- the line of a refusal
+-- The line for a refusal.
 abbrev pub refusal_line : Refusal → List ℕ
 refusal_line not_text = codes "settings: not UTF-8\n"
 refusal_line (bad_settings cause) = cause_line cause
@@ -76,14 +76,14 @@ refusal_line (not_answered s) = ended (codes "not answered " ++ scenario_text s)
 refusal_line (broken_run b) = ended (broken_text b)
 refusal_line (unseen_hits line) = codes "answers: line " ++ (decimal line ++ codes ": hits unknown\n")
 
--- the line of a reader that gave no text
+-- The line if the settings' reader gave no text.
 abbrev pub read_fault_line : ReadFault → List ℕ
 read_fault_line read.TooLong = cause_line too_long
 read_fault_line read.NotUtf8 = refusal_line not_text
 read_fault_line read.NotReadable = unreadable_line
 read_fault_line read.Memory = memory_line
 
--- the line of answers that couldn't be read
+-- The line if the answers' reader gave no text.
 abbrev pub answers_read_line : ReadFault → List ℕ
 answers_read_line read.TooLong = refusal_line (bad_answers answers.TooLong)
 answers_read_line read.NotUtf8 = unreadable_answers_line

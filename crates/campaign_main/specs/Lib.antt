@@ -7,3 +7,4 @@ pub mod Promises
 pub mod OwnTarget
 pub mod QuestionNotes
 pub mod Questions
+pub mod inside

@@ -1,5 +1,5 @@
--- What is noted beside a command's text: which names of scenarios no point of the target has, and which scenarios have control characters; and what makes
--- a report say less than it seems to.
+-- The notes on a command's text: names in scenarios that no point of the target has, scenarios with control characters, and what a strict report
+-- doesn't show.
 use Rattle.std.specs.Prelude.{◌≡◌, ◌++◌, ◌+◌, ◌==◌, ◌&&◌, [], ◌∷◌, ℕ, Bool, true, false, List, codes, count_by, flat_map, length, map, nat_lt, slice_index_or, if◌then◌else◌}
 use Rattle.std.specs.Fmt.{decimal}
 use Rattle.std.specs.List.{list_all, list_any}
@@ -18,53 +18,53 @@ use Rattle.campaign_main.specs.declared.notes.Origin.TheVariants.{Taken, Listed,
 use Rattle.command_words.specs.declared.words.Order.{Order}
 use Rattle.command_words.specs.declared.words.Order.TheVariants as order
 
--- whether a point has the name
+-- Whether a point has the name.
 abbrev pub is_point : List (List ℕ) → List ℕ → Bool
 is_point points name = list_any (λ point. bytes_eq point name) points
 
--- the words that say which scenario a note is of
+-- The words that say which scenario a note is about.
 abbrev pub origin_text : Origin → List ℕ
 origin_text Taken = codes "scenario"
 origin_text (Listed number) = codes "settings: scenario " ++ decimal number
 origin_text (Answered number) = codes "answers: line " ++ decimal number
 
--- the line for a name that no point has, by the scenario in which it stands
+-- The line for a name that no point has, which says in which scenario it stands: `settings: scenario 1: no point is named NAME`.
 abbrev pub stranger_line : Origin → List ℕ → List ℕ
 stranger_line origin name = origin_text origin ++ codes ": no point is named " ++ name
 
 abbrev pub stranger_of : List (List ℕ) → Origin → List ℕ → List (List ℕ)
 stranger_of points origin name = if is_point points name then [] else stranger_line origin name ∷ []
 
--- the lines for the names of a scenario, in its order
+-- The lines for the names of a scenario that no point has, in the scenario's order.
 abbrev pub strangers_in : List (List ℕ) → Origin → Entries → List (List ℕ)
 strangers_in points origin scenario = flat_map (λ e. stranger_of points origin e.0) scenario
 
--- the line for a scenario with a control character, as a line feed: it stands in a text as it is, and what follows may look like a line of the text's own
+-- The line for a scenario with a control character. A text has the character as it is, so after a line feed the rest looks like another line.
 abbrev pub control_line : Origin → List ℕ
 control_line origin = origin_text origin ++ codes ": a control character: what follows it in the text may look like a line of its own"
 
 abbrev pub control_lines : Origin → Entries → List (List ℕ)
 control_lines origin scenario = if has_control (printed scenario) then control_line origin ∷ [] else []
 
--- what is noted of a scenario
+-- The notes on a scenario.
 unfoldable pub scenario_notes : List (List ℕ) → Origin → Entries → List ℕ
 scenario_notes points origin scenario = text_of (strangers_in points origin scenario) ++ text_of (control_lines origin scenario)
 
--- of the scenario that a command takes
+-- The notes on the scenario that a command takes.
 abbrev pub notes_of : List (List ℕ) → Entries → List ℕ
 notes_of points scenario = scenario_notes points Taken scenario
 
--- what is noted of scenarios that the settings list, numbered from n on
+-- The notes on scenarios that the settings list, numbered from n.
 abbrev pub listed_from : List (List ℕ) → ℕ → List Entries → List ℕ
 listed_from points n [] = []
 listed_from points n (scenario ∷ more) =
     scenario_notes points (Listed n) scenario ++ listed_from points (n + 1) more
 
--- of all of them
+-- The notes on all of them, numbered from 0.
 abbrev pub listed_notes : List (List ℕ) → List Entries → List ℕ
 listed_notes points listed = listed_from points 0 listed
 
--- ---- what makes a report say less than it seems to
+-- ---- what a report doesn't show
 
 abbrev pub unresolved_line : ℕ → ℕ → List ℕ
 unresolved_line unresolved plans = codes "strict: " ++ (decimal unresolved ++ (codes " of " ++ (decimal plans ++ codes " plans unresolved")))
@@ -80,15 +80,16 @@ doubt_notes d =
     ++ (text_if d.unhit (codes "strict: no hits without faults")
     ++ text_if d.unstormed (codes "strict: storms of rate 0")))
 
--- storms that draw nothing
+-- There are storms, and they draw nothing, as their rate is 0.
 abbrev pub draws_nothing : Asked → Bool
 draws_nothing asked = nat_lt 0 asked.storms && asked.rate == 0
 
--- no point is hit
+-- No point is hit.
 abbrev pub is_unhit : List ℕ → Bool
 is_unhit counts = list_all (λ count. count == 0) counts
 
--- of a campaign: the run without faults is unresolved, so many runs of its plans are, its census is without a hit, its storms draw nothing
+-- What a campaign's report doesn't show: whether the run without faults is unresolved, how many plans are, whether no point is hit without faults,
+-- and whether there are storms that draw nothing.
 abbrev pub doubts_of : Campaign → Doubts
 doubts_of c = record {
   clean = is_unresolved (report c).clean;
@@ -98,36 +99,36 @@ doubts_of c = record {
   unstormed = draws_nothing c.given.plans;
 }
 
--- the line for a point that no run of a plan asks
+-- The line for a point that no run of a plan reaches.
 abbrev pub unreached_line : List ℕ → List ℕ
 unreached_line name = codes "strict: no run reaches " ++ name
 
 abbrev pub unreached_lines : List (List ℕ) → List ℕ → List (List ℕ)
 unreached_lines points unreached = map (λ p. unreached_line (slice_index_or points p [])) unreached
 
--- what is noted of a campaign whose report is to be strict
+-- The notes on what a strict report doesn't show.
 abbrev pub strict_notes : Campaign → List ℕ
 strict_notes c = doubt_notes (doubts_of c) ++ text_of (unreached_lines c.points (unreached c))
 
--- what is noted beside a report
+-- The notes on a report: those on listed scenarios and, if it is strict, on what it doesn't show.
 abbrev pub report_notes : Bool → Campaign → List ℕ
 report_notes true c = listed_notes c.points c.given.plans.listed ++ strict_notes c
 report_notes false c = listed_notes c.points c.given.plans.listed
 
--- something is noted that is to count
+-- There are notes, and they count, as the report is strict.
 abbrev pub is_doubted : Bool → List ℕ → Bool
 is_doubted strict notes = strict && nat_lt 0 (length notes)
 
 -- ---- which notes there may be
 
--- of some scenario over some points, or of some listed ones
+-- The notes are those on some scenario, over some points; or, by the second definition, those on some listed scenarios.
 abbrev pub NotesAScenario : List ℕ → Type 0
 NotesAScenario notes = (points : List (List ℕ)) × ((scenario : Entries) × (notes ≡ notes_of points scenario))
 
 abbrev pub NotesListed : List ℕ → Type 0
 NotesListed notes = (points : List (List ℕ)) × ((listed : List Entries) × (notes ≡ listed_notes points listed))
 
--- what an order may note: `run` what is noted beside some campaign's report, `plans` of listed scenarios, and the others of one
+-- Which notes an order may have: `run` those on some campaign's report, `plans` those on listed scenarios, the others those on one scenario.
 abbrev pub MayNote : Order → List ℕ → Type 0
 MayNote (order.Run form strict recheck) notes = (c : Campaign) × (notes ≡ report_notes strict c)
 MayNote order.Plans notes = NotesListed notes

@@ -1,26 +1,21 @@
-//! What is noted beside the answer to a question on a component that somebody else runs.
-ghost use Rattle.std.specs.Prelude.{◌≡◌, ◌≤◌, ◌<◌, ◌==◌, ◌++◌, [], None, Some, true, count_by, length, slice_index_or, string_bytes, IfErr, IfOk, OnOk, if◌then◌else◌};
-ghost use Rattle.std.specs.List.{slice_split};
+//! The notes on the answer to a question on a component that somebody else runs.
+ghost use Rattle.std.specs.Prelude.{◌≡◌, ◌<◌, ◌==◌, ◌++◌, [], None, Some, true, count_by, length, slice_index_or, string_bytes, IfOk, OnOk, if◌then◌else◌};
 ghost use Rattle.action_eval.specs.Answers.{texts};
 ghost use Rattle.report.specs.ReportText.{ended, text_of};
-ghost use Rattle.answer_text.specs.FirstFault.{answer_in};
 ghost use Rattle.answer_text.specs.Known.{verdicts_in};
 ghost use Rattle.answer_text.specs.Runs.{told_in};
 ghost use Rattle.campaign_main.specs.Commands.{outside_plans};
-ghost use Rattle.campaign_main.specs.QuestionNotes.{answer_strangers, answered_doubts, census_doubts, doubts_by, is_left_open, is_question_doubted, name_notes, question_notes, strangers_from, strict_doubts, unhit_line, unhit_lines, unhit_of, unmet_line, unmet_notes};
-ghost use Rattle.campaign_main.specs.Questions.{IsUnnoted, IsUnnotedTo, subject_in};
+ghost use Rattle.campaign_main.specs.Notes.{listed_notes};
+ghost use Rattle.campaign_main.specs.QuestionNotes.{census_doubts, doubts_by, is_left_open, is_question_doubted, stranger_notes, unhit_line, unhit_lines, unhit_of, unmet_line, unmet_notes};
 
 use crate::notes::{
-    Doubts, Origin, draws_nothing, is_doubted, is_some_number, is_unhit, listed_on, write_doubts,
-    write_strangers,
+    Doubts, Origin, draws_nothing, is_doubted, is_some_number, is_unhit, listed_outside,
+    write_doubts, write_strange,
 };
-use crate::run_notes::run_doubts;
-use answer_text::{LineError, Runs, answer_in, read};
-use answered_campaigns::{QuestionFault, ReadRuns};
-use campaign_given::Outside;
+use answer_text::{Runs, Stranger};
 use campaign_plans::CampaignPlans;
 use command_words::Question;
-use outside_campaign::{OutsideCampaign, borrowed, count_unmet, outside_plans};
+use outside_campaign::{OutsideCampaign, borrowed, count_unmet};
 use plan_gen::PlanList;
 use scenario_grammar::Scenario;
 use scenario_values::build;
@@ -28,66 +23,31 @@ use std::alloc::{AllocError, Global};
 use std::fmt::Write;
 use target_trait::Verdict;
 
-/// A line for each name that no point has, of the scenario in the line of answers of this number; where its verdict or its scenario has a fault there
-/// is none. Its hits aren't looked at.
-fn write_line_strangers(
-    alloc: Global,
-    out: &mut String,
-    points: &[&str],
-    outside: &Outside,
-    number: usize,
-    line: &[u8],
-) -> Result<(), AllocError>
-    ensures { OnOk result (string_bytes out.new ≡ string_bytes out.old
-        ++ text_of (answer_strangers (texts points.now) number (answer_in outside.now.codes line.now))) }
+/// Appends the notes on names in answered scenarios.
+fn write_all_strange(out: &mut String, strangers: &[Stranger]) -> Result<(), AllocError>
+    ensures { OnOk result (string_bytes out.new ≡ string_bytes out.old ++ stranger_notes strangers.now) }
 {
-    match answer_in(alloc, outside.codes.as_slice(), line) {
-        Ok(((scenario, _), _)) => write_strangers(out, points, Origin::Answered(number), &scenario),
-        Err(LineError::Bad(_)) => Ok(()),
-        Err(LineError::Memory) => Err(AllocError),
-    }
-}
-
-/// The pieces of a text between its line feeds.
-fn pieces(alloc: Global, text: &[u8]) -> Result<Vec<&[u8]>, AllocError>
-    ensures { IfOk result (λ pieces. texts pieces.items ≡ slice_split (λ b. b == 10) text.now) }
-{
-    text.split(|b| *b == b'\n').collect(alloc)
-}
-
-/// What is noted of a text of answers, whose lines are numbered from 1.
-fn write_answers_strangers(
-    alloc: Global,
-    out: &mut String,
-    points: &[&str],
-    outside: &Outside,
-    answers: &[u8],
-) -> Result<(), AllocError>
-    ensures { OnOk result (string_bytes out.new ≡ string_bytes out.old
-        ++ strangers_from (texts points.now) outside.now.codes 1 (slice_split (λ b. b == 10) answers.now)) }
-{
-    let lines = pieces(alloc, answers)?;
-    for place in 0..lines.len() {
-        write_line_strangers(alloc, out, points, outside, place + 1, lines[place])?;
+    for stranger in strangers {
+        let origin = Origin::Answered(stranger.line as usize);
+        write_strange(out, origin, stranger.name.as_str())?;
     }
     Ok(())
 }
 
-/// What is noted of names that no point has: those of the listed scenarios, and then those of the answers.
-fn name_notes_on(
+/// The notes on an answer: those on the listed scenarios, then those on names in the answers, and then these doubts.
+pub fn all_notes(
     alloc: Global,
     campaign: &OutsideCampaign<'_>,
-    answers: &[u8],
+    strangers: &[Stranger],
+    doubts: &str,
 ) -> Result<String, AllocError>
-    ensures { IfOk result (λ lines. string_bytes lines ≡ name_notes campaign.now.settings.now campaign.now.outside.now answers.now) }
+    ensures { IfOk result (λ notes. string_bytes notes
+        ≡ (listed_notes campaign.now.outside.now.points campaign.now.settings.now.plans.listed ++ stranger_notes strangers.now) ++ doubts.now) }
 {
-    let outside = campaign.outside;
-    let settings = campaign.settings;
-    let points = borrowed(alloc, outside.points.as_slice())?;
-    let points = points.as_slice();
-    let mut lines = listed_on(alloc, points, settings.scenarios.as_slice())?;
-    write_answers_strangers(alloc, &mut lines, points, outside, answers)?;
-    Ok(lines)
+    let mut notes = listed_outside(alloc, campaign)?;
+    write_all_strange(&mut notes, strangers)?;
+    notes.push_str(doubts)?;
+    Ok(notes)
 }
 
 /// Whether a scenario is answered as unresolved.
@@ -100,7 +60,7 @@ fn is_left_open(alloc: Global, known: &Runs, scenario: &Scenario) -> Result<bool
     }
 }
 
-/// One, where the plan of this number is answered as unresolved.
+/// 1 if the plan of this number is answered as unresolved, else 0.
 fn count_of(
     alloc: Global,
     known: &Runs,
@@ -129,7 +89,7 @@ fn count_left_open(alloc: Global, known: &Runs, plans: &PlanList<'_>) -> Result<
     Ok(count)
 }
 
-/// What makes a report by these answers say less than it seems to.
+/// What a report by these answers doesn't show.
 fn doubts_known(
     alloc: Global,
     known: &Runs,
@@ -150,6 +110,7 @@ fn doubts_known(
     })
 }
 
+/// Appends the line of how many plans pass without meeting all of their faults.
 fn write_unmet_line(out: &mut String, unmet: u32, plans: u32) -> Result<(), AllocError>
     ensures { OnOk result (string_bytes out.new ≡ string_bytes out.old ++ ended (unmet_line unmet plans)) }
 {
@@ -159,6 +120,7 @@ fn write_unmet_line(out: &mut String, unmet: u32, plans: u32) -> Result<(), Allo
     )
 }
 
+/// The same, if there are any.
 fn write_unmet(out: &mut String, unmet: u32, plans: u32) -> Result<(), AllocError>
     ensures { OnOk result (string_bytes out.new ≡ string_bytes out.old ++ unmet_notes unmet plans) }
 {
@@ -168,6 +130,7 @@ fn write_unmet(out: &mut String, unmet: u32, plans: u32) -> Result<(), AllocErro
     Ok(())
 }
 
+/// Appends the line of a point that isn't hit without faults.
 fn write_unhit(out: &mut String, name: &str) -> Result<(), AllocError>
     ensures { OnOk result (string_bytes out.new ≡ string_bytes out.old ++ ended (unhit_line name.now)) }
 {
@@ -180,6 +143,7 @@ fn is_never(hits: u32) -> bool
     hits == 0
 }
 
+/// The same, if the point has no hits.
 fn write_if_unhit(out: &mut String, name: &str, hits: u32) -> Result<(), AllocError>
     ensures { OnOk result (string_bytes out.new ≡ string_bytes out.old ++ text_of (unhit_of name.now hits)) }
 {
@@ -189,7 +153,7 @@ fn write_if_unhit(out: &mut String, name: &str, hits: u32) -> Result<(), AllocEr
     Ok(())
 }
 
-/// A line for each point that isn't hit without faults.
+/// Appends a line for each point that isn't hit without faults.
 fn write_all_unhit(out: &mut String, points: &[&str], hits: &[u32]) -> Result<(), AllocError>
     requires { length hits.now ≡ length points.now }
     ensures { OnOk result (string_bytes out.new ≡ string_bytes out.old ++ text_of (unhit_lines (texts points.now) hits.now)) }
@@ -200,27 +164,21 @@ fn write_all_unhit(out: &mut String, points: &[&str], hits: &[u32]) -> Result<()
     Ok(())
 }
 
-/// What is noted besides of a report without a depth that is to be strict.
-fn strict_by_census(
+/// What a strict report without a depth doesn't show, by these answers.
+pub fn census_doubts(
     alloc: Global,
     campaign: &OutsideCampaign<'_>,
-    answers: &[u8],
-) -> Result<String, QuestionFault>
-    ensures ok { IfOk result (λ lines. string_bytes lines ≡ census_doubts campaign.now.settings.now campaign.now.outside.now answers.now) }
-    ensures fault { IfErr result (IsUnnotedTo None (subject_in campaign.now) answers.now) }
+    known: &Runs,
+    plans: &PlanList<'_>,
+) -> Result<String, AllocError>
+    requires { plans.now ≡ outside_plans campaign.now.settings.now campaign.now.outside.now }
+    ensures { IfOk result (λ lines. string_bytes lines ≡ census_doubts campaign.now.settings.now campaign.now.outside.now (told_in known.now)) }
 {
     let outside = campaign.outside;
-    let known = read(
-        alloc,
-        outside.codes.as_slice(),
-        outside.points.as_slice(),
-        answers,
-    )?;
     let points = borrowed(alloc, outside.points.as_slice())?;
     let points = points.as_slice();
-    let plans = outside_plans(alloc, points, campaign)?;
-    let doubts = doubts_known(alloc, &known, campaign, &plans)?;
-    let unmet = count_unmet(alloc, &known, points, &CampaignPlans::by_census(&plans))?;
+    let doubts = doubts_known(alloc, known, campaign, plans)?;
+    let unmet = count_unmet(alloc, known, points, &CampaignPlans::by_census(plans))?;
     let mut lines = String::new(alloc);
     write_doubts(&mut lines, &doubts)?;
     write_unmet(&mut lines, unmet, doubts.plans)?;
@@ -228,60 +186,7 @@ fn strict_by_census(
     Ok(lines)
 }
 
-/// What is noted besides of a report with this depth that is to be strict.
-fn strict_by_runs(
-    alloc: Global,
-    campaign: &OutsideCampaign<'_>,
-    depth: u32,
-    answers: &[u8],
-) -> Result<String, QuestionFault>
-    requires { depth ≤ 64 }
-    ensures ok { IfOk result (λ lines. string_bytes lines
-        ≡ strict_doubts (Some depth) campaign.now.settings.now campaign.now.outside.now answers.now) }
-    ensures fault { IfErr result (IsUnnotedTo (Some depth) (subject_in campaign.now) answers.now) }
-{
-    let read = ReadRuns::read(alloc, campaign.outside, answers)?;
-    let runs = read.table(alloc);
-    let lines = run_doubts(alloc, &runs, campaign.settings, depth)?;
-    Ok(lines)
-}
-
-/// What is noted besides of a report that is to be strict.
-fn strict_answered(
-    alloc: Global,
-    campaign: &OutsideCampaign<'_>,
-    answers: &[u8],
-) -> Result<String, QuestionFault>
-    ensures ok { IfOk result (λ lines. string_bytes lines ≡ answered_doubts true campaign.now.settings.now campaign.now.outside.now answers.now) }
-    ensures fault { IfErr result (IsUnnotedTo campaign.now.settings.now.depth (subject_in campaign.now) answers.now) }
-{
-    let settings = campaign.settings;
-    match settings.depth {
-        None => strict_by_census(alloc, campaign, answers),
-        Some(depth) => strict_by_runs(alloc, campaign, depth, answers),
-    }
-}
-
-/// What is noted beside the answer to a question. A fault is one that the answer has.
-pub fn question_notes_on(
-    alloc: Global,
-    question: &Question,
-    campaign: &OutsideCampaign<'_>,
-    answers: &[u8],
-) -> Result<String, QuestionFault>
-    ensures ok { IfOk result (λ lines. string_bytes lines
-        ≡ question_notes question.now campaign.now.settings.now campaign.now.outside.now answers.now) }
-    ensures fault { IfErr result (IsUnnoted question.now (subject_in campaign.now) answers.now) }
-{
-    let mut lines = name_notes_on(alloc, campaign, answers)?;
-    if let Question::Report { strict: true, .. } = question {
-        let more = strict_answered(alloc, campaign, answers)?;
-        lines.push_str(more.as_str())?;
-    }
-    Ok(lines)
-}
-
-/// Whether something is noted that is to count.
+/// Whether there are notes, and the question is strict.
 pub fn is_question_doubted(question: &Question, notes: &str) -> bool
     ensures { result ≡ is_question_doubted question.now notes.now }
 {

@@ -6,8 +6,8 @@ ghost use Rattle.campaign_main.specs.Ends.{ComesTo};
 ghost use Rattle.campaign_main.specs.Promises.{KeepsPromises};
 
 use crate::command::command;
+use crate::cut_end::CutEnd;
 use crate::exit::Answered;
-use crate::explaining::explain_to_cut;
 use crate::fault::CommandFault;
 use crate::outside::outside_command;
 use crate::pending::TellsWrites;
@@ -18,12 +18,14 @@ use commit_target::Commit;
 use file_replace::Replace;
 use maildir_target::Maildir;
 use outside_campaign::OutsideCampaign;
+use run_explained::NoEnd;
 use std::sync::Wait;
 use std::thread::Threads;
 use target_trait::{Sink, Target, WithCut};
 use work_gate::Gate;
 
-/// Does what is ordered with a bundled target, each of whose runs ends with the power cut. An explained run tells what the cut's hits stand for.
+/// Does what is ordered with a bundled target, each of whose runs ends with the power cut. An explained run says which write each hit of the cut
+/// stands for.
 fn command_to_cut<T: TellsWrites + Send, W: Sink, H: Threads + Wait + Sync, G: Gate>(
     host: &Host<'_, G, H>,
     subject: &Subject<'_, T>,
@@ -44,13 +46,13 @@ where
         workload: subject.workload,
         settings: subject.settings,
     };
-    match order {
-        Order::Explain(which) => { explain_to_cut(host, &to_cut, subject.target, which, output) }
-        _ => command(host, &to_cut, order, output),
-    }
+    let end = CutEnd {
+        target: subject.target,
+    };
+    command(host, &to_cut, &end, order, output)
 }
 
-/// Does what is ordered with a bundled target; with crash states each of its runs ends with the power cut.
+/// Does what is ordered with a bundled target. With crash states each of its runs ends with the power cut.
 fn bundled_command<T: TellsWrites + Send, W: Sink, H: Threads + Wait + Sync, G: Gate>(
     host: &Host<'_, G, H>,
     subject: &Subject<'_, T>,
@@ -69,11 +71,11 @@ where
     if settings.crash_states {
         command_to_cut(host, subject, order, output)
     } else {
-        command(host, subject, order, output)
+        command(host, subject, &NoEnd, order, output)
     }
 }
 
-/// Does what is ordered with a bundled target and its workload, or with a component from outside.
+/// Does what is ordered with a bundled target and its workload, or with a component that somebody else runs.
 pub fn chosen_command<W: Sink, H: Threads + Wait + Sync, G: Gate>(
     host: &Host<'_, G, H>,
     order: &Order,

@@ -4,7 +4,7 @@ ghost use Rattle.campaign_core.specs.CommandTexts.{IsReducedToMinimal, LeavesOnl
 ghost use Rattle.campaign_core.specs.Headline.{campaign_in, first_failure};
 ghost use Rattle.campaign_core.specs.Ran.{IsRan};
 ghost use Rattle.campaign_core.specs.Writes.{WritesWhole, change};
-ghost use Rattle.campaign_main.specs.Commands.{explain_answer, form_in, notes_with, order_answer, plans_answer, reduce_answer, report_in, run_answer, taken, taken_answer, try_answer};
+ghost use Rattle.campaign_main.specs.Commands.{answer_with, explain_answer, form_in, notes_with, plans_answer, reduce_answer, report_in, run_answer, taken, taken_answer, try_answer};
 ghost use Rattle.campaign_main.specs.Ends.{ComesTo, IsUntaken};
 ghost use Rattle.campaign_main.specs.Notes.{notes_of};
 ghost use Rattle.campaign_main.specs.Promises.{KeepsPromises, RunKeepsPromises};
@@ -14,19 +14,20 @@ use crate::fault::CommandFault;
 use crate::notes::{is_doubted, listed_of, notes_on, report_notes_on};
 use crate::steady::check_steady;
 use campaign_core::{
-    CampaignFault, Ending, Host, Ran, Subject, explain_one, plan_list, plan_scenario, reduce_one,
-    run_campaign, try_one, write_campaign,
+    CampaignFault, Ending, Host, Ran, Subject, ToExplain, explain_one, plan_list, plan_scenario,
+    reduce_one, run_campaign, try_one, write_campaign,
 };
 use command_words::{Form, Order, VERSION, Which};
 use report_forms::Form as ReportForm;
 use report_json::Notes;
+use run_explained::RunEnd;
 use scenario_grammar::{Scenario, parse};
 use std::sync::Wait;
 use std::thread::Threads;
 use target_trait::{Sink, Target};
 use work_gate::Gate;
 
-/// What a document tells of the program, of who tells the runs, `target` or `answers`, and of its command.
+/// What a document says of the program: its version, its command, and whether `target` or `answers` shows the runs.
 pub fn notes_with(told_by: &'static str, command: &'static str) -> Notes<'static>
     ensures { result ≡ notes_with told_by.entry.now command.entry.now }
 {
@@ -70,22 +71,34 @@ where
     write_campaign(host, subject, &form_in(form), ran, output)
 }
 
-/// Runs a campaign, and writes its report in this form. Where it is to be strict, the same runs tell what is to be noted; with `recheck` each plan
-/// that fails is run once more before anything is written.
-fn run_plans<T: Target + Send, W: Sink, H: Threads + Wait + Sync, G: Gate>(
+/// How a campaign is run and reported.
+#[derive(Clone, Copy)]
+pub struct Running {
+    pub form: Form,
+    /// Whether the report is strict. The same runs then show which points none of them hits.
+    pub strict: bool,
+    /// Whether each plan that fails is run once more before anything is written.
+    pub recheck: bool,
+}
+
+/// Runs a campaign, and writes its report.
+pub fn run_plans<T: Target + Send, W: Sink, H: Threads + Wait + Sync, G: Gate>(
     host: &Host<'_, G, H>,
     subject: &Subject<'_, T>,
-    form: Form,
-    strict: bool,
-    recheck: bool,
+    running: Running,
     output: &mut W,
 ) -> Result<Answered, CommandFault>
 where
     T::Workload: Sync,
     requires { W.has_failed output.old ≡ false }
-    ensures text { ComesTo (run_answer form strict (campaign_in T.Target subject.now)) (change W.Sink output.old output.new) result }
+    ensures text { ComesTo (run_answer running.form running.strict (campaign_in T.Target subject.now)) (change W.Sink output.old output.new) result }
     ensures promises { OnOk result (RunKeepsPromises (campaign_in T.Target subject.now)) }
 {
+    let Running {
+        form,
+        strict,
+        recheck,
+    } = running;
     let ran = run_campaign(host, subject, strict)?;
     if recheck {
         check_steady(host.alloc, subject, &ran)?;
@@ -97,7 +110,7 @@ where
     Ok(Answered { conclusion, notes })
 }
 
-/// Writes the list of a campaign's plans. What is noted is of the listed scenarios.
+/// Writes the list of a campaign's plans. The notes are on the listed scenarios.
 fn list_plans<T: Target + Send, W: Sink, H: Threads + Wait + Sync, G: Gate>(
     host: &Host<'_, G, H>,
     subject: &Subject<'_, T>,
@@ -139,8 +152,8 @@ where
     }
 }
 
-/// The same with what is noted beside the command's text. Nothing is written.
-pub fn take_noted<T: Target + Send, H: Threads + Wait + Sync, G: Gate>(
+/// The same, with the notes on the scenario. Nothing is written.
+fn take_noted<T: Target + Send, H: Threads + Wait + Sync, G: Gate>(
     host: &Host<'_, G, H>,
     subject: &Subject<'_, T>,
     which: &Which,
@@ -174,21 +187,28 @@ where
     Ok(judged(verdict, notes))
 }
 
-/// Tells the run of the scenario that the command takes.
-fn explain_which<T: Target + Send, W: Sink, H: Threads + Wait + Sync, G: Gate>(
+/// Explains the run of the scenario that the command takes, and its end.
+fn explain_which<T: Target + Send, D: RunEnd<T>, W: Sink, H: Threads + Wait + Sync, G: Gate>(
     host: &Host<'_, G, H>,
     subject: &Subject<'_, T>,
+    end: &D,
     which: &Which,
     output: &mut W,
 ) -> Result<Answered, CommandFault>
 where
     T::Workload: Sync,
     requires { W.has_failed output.old ≡ false }
-    ensures { let c = campaign_in T.Target subject.now in
-        ComesTo (taken_answer (explain_answer c) (taken c which.now)) (change W.Sink output.old output.new) result }
+    ensures { let s = subject.now in let c = campaign_in T.Target s in
+        ComesTo (taken_answer (explain_answer (D.lines end.now s.target.now s.workload.now) c) (taken c which.now))
+        (change W.Sink output.old output.new) result }
 {
     let (stream, scenario, notes) = take_noted(host, subject, which)?;
-    let verdict = explain_one(host.alloc, subject, stream, &scenario, output)?;
+    let what = ToExplain {
+        stream,
+        scenario: &scenario,
+        end,
+    };
+    let verdict = explain_one(host.alloc, subject, &what, output)?;
     Ok(judged(verdict, notes))
 }
 
@@ -212,31 +232,38 @@ where
     Ok(judged(verdict, notes))
 }
 
-/// Does what is ordered with this target, and writes the command's text.
+/// Does what is ordered with this target, and writes the command's text. An explained run prints this end. No plan is run once more, whatever the
+/// order says: a proved target's verdict is the same each time.
 ///
-/// It answers what the text comes to and what is noted beside it, where the whole text was written. Else nothing was written, or the fault
-/// tells how many bytes of the text, fewer than all, went out. Only then the output has failed.
-pub fn command<T: Target + Send, W: Sink, H: Threads + Wait + Sync, G: Gate>(
+/// If the whole text was written, it returns what the text comes to, and the notes on it. Otherwise nothing was written, or the fault says how many
+/// bytes of the text, fewer than all, went out. Only in the latter case the output has failed.
+pub fn command<T: Target + Send, D: RunEnd<T>, W: Sink, H: Threads + Wait + Sync, G: Gate>(
     host: &Host<'_, G, H>,
     subject: &Subject<'_, T>,
+    end: &D,
     order: &Order,
     output: &mut W,
 ) -> Result<Answered, CommandFault>
 where
     T::Workload: Sync,
     requires { W.has_failed output.old ≡ false }
-    ensures text { ComesTo (order_answer order.now (campaign_in T.Target subject.now)) (change W.Sink output.old output.new) result }
+    ensures text { let s = subject.now in
+        ComesTo (answer_with (D.lines end.now s.target.now s.workload.now) order.now (campaign_in T.Target s))
+        (change W.Sink output.old output.new) result }
     ensures promises { OnOk result (KeepsPromises order.now (campaign_in T.Target subject.now)) }
 {
     match order {
-        Order::Run {
-            form,
-            strict,
-            recheck,
-        } => run_plans(host, subject, *form, *strict, *recheck, output),
+        Order::Run { form, strict, .. } => {
+            let running = Running {
+                form: *form,
+                strict: *strict,
+                recheck: false,
+            };
+            run_plans(host, subject, running, output)
+        }
         Order::Plans => list_plans(host, subject, output),
         Order::Try(which) => try_which(host, subject, which, output),
         Order::Reduce(which) => reduce_which(host, subject, which, output),
-        Order::Explain(which) => explain_which(host, subject, which, output),
+        Order::Explain(which) => explain_which(host, subject, end, which, output),
     }
 }

@@ -1,9 +1,9 @@
 //! How a command ended.
 ghost use Rattle.std.specs.Prelude.{◌≡◌};
-ghost use Rattle.target_trait.specs.Verdicts.{is_fail};
 ghost use Rattle.campaign_main.specs.Commands.{of_verdict};
 ghost use Rattle.campaign_main.specs.Exit.{status_of, concluded, exit_of};
 
+use report::is_fail;
 use target_trait::Verdict;
 
 /// How a command ended.
@@ -19,27 +19,27 @@ pub enum Exit {
     Memory,
     /// A write failed after this many bytes of the text.
     Write(u64),
-    /// The command's text was written, and no verdict in it is fail; it was to be strict, and something was told beside the text.
+    /// The command's text was written, and no verdict in it is fail, but the command is strict and there are notes.
     Doubted,
 }
 
-/// What a text comes to that was written whole.
+/// What a text comes to, once it was written whole.
 #[derive(Clone, Copy, Debug, PartialEq, Eq)]
 pub enum Conclusion {
     /// No verdict in it is fail.
     Clean,
     /// A verdict in it is fail.
     Failed,
-    /// No verdict in it is fail, and what was told beside it makes that say less.
+    /// No verdict in it is fail, but there are notes that count, as the command is strict.
     Doubtful,
 }
 
-/// What a command answers whose text was written whole.
+/// What a command returns whose text was written whole.
 #[derive(Debug, Drop)]
 pub struct Answered {
     /// What its text comes to.
     pub conclusion: Conclusion,
-    /// What is noted beside it: lines, or nothing.
+    /// The notes on it: lines, or nothing.
     pub notes: String,
 }
 
@@ -57,7 +57,7 @@ pub fn status(exit: &Exit) -> u8
     }
 }
 
-/// What a text comes to, by whether a verdict in it is fail, and whether what is told beside it is to count.
+/// Failed if a verdict in the text is fail; Doubtful if there are notes that count; else Clean.
 pub(crate) fn concluded(found: bool, doubted: bool) -> Conclusion
     ensures { result ≡ concluded found doubted }
 {
@@ -68,7 +68,7 @@ pub(crate) fn concluded(found: bool, doubted: bool) -> Conclusion
     }
 }
 
-/// How a command ends whose text was written.
+/// How a command ends whose text was written: Found if a verdict fails; Doubted if a strict command has notes; else Kept.
 pub(crate) fn exit_of(conclusion: Conclusion) -> Exit
     ensures { result ≡ exit_of conclusion }
 {
@@ -79,17 +79,7 @@ pub(crate) fn exit_of(conclusion: Conclusion) -> Exit
     }
 }
 
-/// Whether a verdict is fail.
-fn is_fail(verdict: Verdict) -> bool
-    ensures { result ≡ is_fail verdict }
-{
-    match verdict {
-        Verdict::Fail(_) => true,
-        Verdict::Pass | Verdict::Unresolved => false,
-    }
-}
-
-/// What a command answers whose text tells one verdict.
+/// What a command returns whose text has one verdict.
 pub(crate) fn judged(verdict: Verdict, notes: String) -> Answered
     ensures conclusion { result.conclusion ≡ of_verdict verdict }
     ensures notes { result.notes ≡ notes }

@@ -1,4 +1,4 @@
-//! Why a command over a target wrote no whole text.
+//! Why a command over a target didn't write its whole text.
 ghost use Rattle.std.specs.Prelude.{◌≡◌};
 ghost use Rattle.campaign_main.specs.declared.fault.CommandFault.TheVariants.{Campaign, Scenario};
 ghost use Rattle.campaign_core.specs.declared.ending.CampaignFault.TheVariants.{Memory};
@@ -7,20 +7,21 @@ use campaign_core::CampaignFault;
 use scenario_grammar::ScenarioFault;
 use std::alloc::AllocError;
 
-/// Why a command over a target wrote no whole text.
+/// Why a command over a target didn't write its whole text.
 #[derive(Debug, Drop)]
 pub enum CommandFault {
-    /// Its own text spells no scenario.
+    /// The text of the command's scenario spells none. Nothing was written.
     Scenario(ScenarioFault),
     /// The campaign has no plan of this number. Nothing was written.
     Plan(u16),
-    /// What it does with the target came to no text, or the text wasn't written whole.
+    /// What was to be done with the target gave no text, or the text wasn't written whole.
     Campaign(CampaignFault),
-    /// The target's verdict on a plan isn't the same twice, as this line says, which ends in its line feed. Nothing was written.
-    Unsteady(String),
-    /// Somebody else runs the component, and the command would run it. Nothing was written.
+    /// The target breaks a law, or its verdict on a plan changed in a second run. The text is the line that says so, with its line feed. Nothing was
+    /// written.
+    Unlawful(String),
+    /// Somebody else runs the component, but the command would have to run it. Nothing was written.
     Outside,
-    /// Somebody else runs the component, and its plans grow from what answers tell. Nothing was written.
+    /// Somebody else runs the component, and with a depth its plans grow from answers, which the command doesn't read. Nothing was written.
     OutsideWithDepth,
 }
 

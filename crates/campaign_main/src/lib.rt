@@ -1,12 +1,13 @@
-//! The program's commands over any reader and any sinks: settings are read, a command is done on the target that they choose, and its
-//! text is written, or the line that says why there is none.
+//! The program's commands over any reader and any sinks: settings are read, a command is done with the target that they choose, and its text is
+//! written, or the line that says why there is none.
 #![tactic(auto)]
 
 mod answer_notes;
+mod answering;
 mod chosen;
 mod command;
+mod cut_end;
 mod exit;
-mod explaining;
 mod fault;
 mod input;
 mod lines;
@@ -21,6 +22,8 @@ mod run_notes;
 mod steady;
 mod telling;
 
+pub use answered_campaigns::QuestionFault;
+pub use answering::{Answer, answer_question};
 pub use campaign_core::{
     CampaignFault, Ending, Host, Subject, campaign, plan_list, plan_scenario, reduce_one, try_one,
 };
@@ -30,13 +33,15 @@ pub use campaign_settings::{
     TargetName,
 };
 pub use command_words::{
-    Form, Line, Order, ProgressForm, Question, Shown, VERSION, Which, WordsFault, read_words,
+    AskedPart, Form, Line, Order, ProgressForm, Question, Shown, VERSION, Which, WordsFault,
+    read_words,
 };
 pub use commit_target::{Transactions, Variant as CommitVariant, Vote, Votes};
 pub use exit::{Exit, status};
 pub use file_replace::{Chunks, Replacements, Variant as ReplaceVariant};
 pub use input::{ReadFault, read_all};
 pub use maildir_target::{Messages, Variant as MaildirVariant};
+pub use outside_campaign::{OutsideCampaign, OutsideFault};
 pub use own::{perform_settings, perform_target, read_own_settings, refuse_own_words};
 pub use performing::perform;
 pub use questions::perform_outside;

@@ -1,4 +1,4 @@
-//! The ends of a command: what is noted beside its text, or the line that says why there is none. A line that can't be written changes no end.
+//! The ends of commands: what is noted on a text, or the line that says why there is none. A line that can't be written changes no end.
 ghost use Rattle.std.specs.Prelude.{◌≡◌, ℕ, List, false, IfOk, string_bytes};
 ghost use Rattle.campaign_settings.specs.declared.fault.SettingsFault.TheVariants as settings;
 ghost use Rattle.campaign_main.specs.Commands.{bad_answers, broken_run, bundled_target, no_plan, not_answered, other_census, unseen_hits};
@@ -21,7 +21,6 @@ use outside_campaign::OutsideFault;
 use report::{WriteFault, write_report, write_scenario};
 use scenario_grammar::{Scenario, ScenarioFault};
 use std::alloc::{AllocError, Global};
-use target_laws::BrokenLaw;
 use target_trait::Sink;
 
 /// Writes a line, or as much of it as the sink takes.
@@ -32,7 +31,7 @@ fn tell<E: Sink>(line: &[u8], faults: &mut E)
     let _ = write_report(line, faults);
 }
 
-/// Writes what is noted beside a text, or as much of it as the sink takes, and nothing where nothing is noted.
+/// Writes the notes on a text, or as much of them as the sink takes. Without notes it writes nothing.
 pub fn note<E: Sink>(lines: &str, faults: &mut E)
     requires { E.has_failed faults.old ≡ false }
     ensures { IsNoted lines.now (change E.Sink faults.old faults.new) }
@@ -52,7 +51,7 @@ pub fn refused<E: Sink>(lines: &str, faults: &mut E) -> Exit
     Exit::Refused
 }
 
-/// Ends for want of memory.
+/// Ends because memory was refused.
 pub fn no_memory<E: Sink>(faults: &mut E) -> Exit
     requires { E.has_failed faults.old ≡ false }
     ensures end { result ≡ Exit.Memory }
@@ -62,14 +61,7 @@ pub fn no_memory<E: Sink>(faults: &mut E) -> Exit
     Exit::Memory
 }
 
-/// Ends as refused with the line of a law that the target breaks.
-pub fn unlawful<E: Sink>(alloc: Global, law: BrokenLaw, faults: &mut E) -> Exit
-    requires { E.has_failed faults.old ≡ false }
-{
-    refused_by(format!(in alloc; "target: {law}\n"), faults)
-}
-
-/// Ends as refused with a line, or for want of the memory that it takes.
+/// Ends as refused, with a line. If memory for the line was refused, that is the end.
 pub fn refused_by<E: Sink>(line: Result<String, AllocError>, faults: &mut E) -> Exit
     requires { E.has_failed faults.old ≡ false }
     ensures { (text : List ℕ) → IfOk line (λ l. string_bytes l ≡ text)
@@ -81,7 +73,7 @@ pub fn refused_by<E: Sink>(line: Result<String, AllocError>, faults: &mut E) -> 
     }
 }
 
-/// Ends where the settings couldn't be read.
+/// Ends because the settings couldn't be read.
 pub fn end_unreadable_settings<E: Sink>(fault: ReadFault, faults: &mut E) -> Exit
     requires { E.has_failed faults.old ≡ false }
     ensures end { RefusesWith (read_fault_line fault) result (change E.Sink faults.old faults.new) }
@@ -95,7 +87,7 @@ pub fn end_unreadable_settings<E: Sink>(fault: ReadFault, faults: &mut E) -> Exi
     }
 }
 
-/// The line for a fault of the settings, and one more where a control character stands in it.
+/// The line for a fault of the settings, and one more if it has a control character.
 fn settings_line(alloc: Global, fault: &SettingsFault) -> Result<String, AllocError>
     ensures { IfOk result (λ line. string_bytes line ≡ settings_line fault.now) }
 {
@@ -110,7 +102,7 @@ fn settings_line(alloc: Global, fault: &SettingsFault) -> Result<String, AllocEr
     Ok(line)
 }
 
-/// Ends where a text gives no settings.
+/// Ends because the settings have a fault.
 pub fn end_bad_settings<E: Sink>(alloc: Global, fault: &SettingsFault, faults: &mut E) -> Exit
     requires { E.has_failed faults.old ≡ false }
     ensures end { RefusesWith (settings_line fault.now) result (change E.Sink faults.old faults.new) }
@@ -129,7 +121,7 @@ fn scenario_line(alloc: Global, fault: &ScenarioFault) -> Result<String, AllocEr
     format!(in alloc; "scenario: {fault}\n")
 }
 
-/// Ends where a text spells no scenario.
+/// Ends because a text spells no scenario.
 fn end_bad_scenario<E: Sink>(alloc: Global, fault: &ScenarioFault, faults: &mut E) -> Exit
     requires { E.has_failed faults.old ≡ false }
     ensures { IsEndOf (CommandFault.Scenario fault.now) result (change E.Sink faults.old faults.new) }
@@ -158,7 +150,7 @@ fn write_cut_off<E: Sink>(written: u64, faults: &mut E) -> Result<(), WriteFault
     write_report(b" bytes\n", faults)
 }
 
-/// Ends where a write failed once this many bytes were written.
+/// Ends because a write failed once this many bytes were written.
 pub fn cut_off<E: Sink>(written: u64, faults: &mut E) -> Exit
     requires { E.has_failed faults.old ≡ false }
     ensures end { result ≡ Exit.Write written }
@@ -168,7 +160,7 @@ pub fn cut_off<E: Sink>(written: u64, faults: &mut E) -> Exit
     Exit::Write(written)
 }
 
-/// Ends where what was done with a target came to no whole text.
+/// Ends because what was done with a target gave no whole text.
 fn end_unwritten<E: Sink>(fault: CampaignFault, faults: &mut E) -> Exit
     requires { E.has_failed faults.old ≡ false }
     ensures { IsEndOf (CommandFault.Campaign fault) result (change E.Sink faults.old faults.new) }
@@ -180,7 +172,7 @@ fn end_unwritten<E: Sink>(fault: CampaignFault, faults: &mut E) -> Exit
     }
 }
 
-/// Ends where a command wrote no whole text.
+/// Ends because a command didn't write its whole text.
 fn end_command<E: Sink>(alloc: Global, fault: &CommandFault, faults: &mut E) -> Exit
     requires { E.has_failed faults.old ≡ false }
     ensures { IsEndOf fault.now result (change E.Sink faults.old faults.new) }
@@ -189,7 +181,7 @@ fn end_command<E: Sink>(alloc: Global, fault: &CommandFault, faults: &mut E) -> 
         CommandFault::Scenario(cause) => end_bad_scenario(alloc, cause, faults),
         CommandFault::Plan(number) => refused_by(plan_line(alloc, *number), faults),
         CommandFault::Campaign(cause) => end_unwritten(*cause, faults),
-        CommandFault::Unsteady(line) => refused(line.as_str(), faults),
+        CommandFault::Unlawful(line) => refused(line.as_str(), faults),
         CommandFault::Outside => refused(
             "settings: target outside: only plans, asks and report\n",
             faults,
@@ -201,7 +193,7 @@ fn end_command<E: Sink>(alloc: Global, fault: &CommandFault, faults: &mut E) -> 
     }
 }
 
-/// Ends a command by what it came to: tells what is noted beside its text, or why it wrote no whole text.
+/// Ends a command by what it came to: writes the notes on its text, or why the text wasn't written whole.
 pub fn end_outcome<E: Sink>(
     alloc: Global,
     outcome: Result<Answered, CommandFault>,
@@ -219,7 +211,7 @@ pub fn end_outcome<E: Sink>(
     }
 }
 
-/// Ends where a question is about a bundled target.
+/// Ends because a question is about a bundled target.
 pub fn refuse_bundled<E: Sink>(faults: &mut E) -> Exit
     requires { E.has_failed faults.old ≡ false }
     ensures end { result ≡ Exit.Refused }
@@ -231,7 +223,7 @@ pub fn refuse_bundled<E: Sink>(faults: &mut E) -> Exit
     )
 }
 
-/// Ends where the answers couldn't be read.
+/// Ends because the answers couldn't be read.
 pub fn end_unreadable_answers<E: Sink>(fault: ReadFault, faults: &mut E) -> Exit
     requires { E.has_failed faults.old ≡ false }
     ensures end { RefusesWith (answers_read_line fault) result (change E.Sink faults.old faults.new) }
@@ -252,7 +244,7 @@ fn answers_line(alloc: Global, fault: &AnswersFault) -> Result<String, AllocErro
     format!(in alloc; "{fault}\n")
 }
 
-/// The line for an answer that tells another census than the settings.
+/// The line for an answer that records another census than the settings have.
 fn census_line(alloc: Global, line: u32) -> Result<String, AllocError>
     ensures { IfOk result (λ text. string_bytes text ≡ refusal_line (other_census line)) }
 {
@@ -269,7 +261,7 @@ fn waiting_line(alloc: Global, scenario: &Scenario) -> Result<String, AllocError
     Ok(line)
 }
 
-/// The line for a run that breaks with that of its plan's forerunner.
+/// The line for a run that doesn't begin like that of its plan's forerunner.
 fn broken_line(alloc: Global, broken: &BrokenRun) -> Result<String, AllocError>
     ensures { IfOk result (λ line. string_bytes line ≡ refusal_line (broken_run broken.now)) }
 {
@@ -283,7 +275,7 @@ fn unseen_line(alloc: Global, line: u32) -> Result<String, AllocError>
     format!(in alloc; "answers: line {line}: hits unknown\n")
 }
 
-/// Ends where a question came to no whole text.
+/// Ends because a question wasn't answered by a whole text.
 pub fn end_question<E: Sink>(alloc: Global, fault: &QuestionFault, faults: &mut E) -> Exit
     requires { E.has_failed faults.old ≡ false }
     ensures { IsEndOfQuestion fault.now result (change E.Sink faults.old faults.new) }

@@ -1,5 +1,5 @@
-//! What is noted beside a command's text: names of scenarios that no point of a target has, scenarios with control characters, and what makes a
-//! report say less than it seems to.
+//! The notes on a command's text: names in scenarios that no point of a target has, scenarios with control characters, and what a strict report
+//! doesn't show.
 ghost use Rattle.std.specs.Prelude.{◌≡◌, ◌<◌, ◌^◌, ◌++◌, [], All, Some, count_by, length, nat_lt, slice_index_or, string_bytes, true, IfOk, OnOk};
 ghost use Rattle.action_eval.specs.Answers.{texts};
 ghost use Rattle.answer_text.specs.FirstFault.{has_control};
@@ -19,7 +19,7 @@ use std::alloc::{AllocError, Global};
 use std::fmt::{self, Write};
 use target_trait::{Target, Verdict};
 
-/// What makes a report say less than it seems to.
+/// What a report doesn't show.
 #[derive(Clone, Copy, Debug)]
 pub struct Doubts {
     /// The run without faults is unresolved.
@@ -34,12 +34,12 @@ pub struct Doubts {
     pub unstormed: bool,
 }
 
-/// Which scenario a note is of.
+/// Which scenario a note is about.
 #[derive(Clone, Copy, Debug)]
 pub enum Origin {
     /// The one that a command takes.
     Taken,
-    /// The one of this number, from 0, that the settings list.
+    /// The listed one of this number in the settings, from 0.
     Listed(usize),
     /// The one in the line of answers of this number, from 1.
     Answered(usize),
@@ -69,12 +69,14 @@ fn is_point(points: &[&str], name: &str) -> bool
     false
 }
 
-fn write_strange(out: &mut String, origin: Origin, name: &str) -> Result<(), AllocError>
+/// Appends the line of a name that no point has.
+pub fn write_strange(out: &mut String, origin: Origin, name: &str) -> Result<(), AllocError>
     ensures { OnOk result (string_bytes out.new ≡ string_bytes out.old ++ ended (stranger_line origin name.now)) }
 {
     writeln!(out, "{origin}: no point is named {name}")
 }
 
+/// The same, if no point has this name.
 fn write_if_strange(
     out: &mut String,
     points: &[&str],
@@ -89,8 +91,8 @@ fn write_if_strange(
     write_strange(out, origin, name)
 }
 
-/// A line for each name of the scenario that no point has, in the scenario's order.
-pub fn write_strangers(
+/// Appends a line for each name of the scenario that no point has, in the scenario's order.
+fn write_strangers(
     out: &mut String,
     points: &[&str],
     origin: Origin,
@@ -111,6 +113,7 @@ pub fn has_control(text: &str) -> bool
     text.as_bytes().iter().any(|byte| byte.is_ascii_control())
 }
 
+/// Appends the line of a control character.
 fn write_control(out: &mut String, origin: Origin) -> Result<(), AllocError>
     ensures { OnOk result (string_bytes out.new ≡ string_bytes out.old ++ ended (control_line origin)) }
 {
@@ -120,7 +123,7 @@ fn write_control(out: &mut String, origin: Origin) -> Result<(), AllocError>
     )
 }
 
-/// A line for a scenario in which a control character stands.
+/// Appends a line if a control character stands in the scenario.
 fn write_if_control(
     alloc: Global,
     out: &mut String,
@@ -136,7 +139,7 @@ fn write_if_control(
     Ok(())
 }
 
-/// What is noted of a scenario: a line for each name that no point has, in the scenario's order, and one where a control character stands in it.
+/// Appends the notes on a scenario: a line for each name that no point has, in the scenario's order, and one if a control character stands in it.
 #[tactic(auto, unfolding(crate::specs::Notes::scenario_notes))]
 fn write_notes(
     alloc: Global,
@@ -151,7 +154,7 @@ fn write_notes(
     write_if_control(alloc, out, origin, scenario)
 }
 
-/// What is noted of the scenario that a command takes.
+/// The notes on the scenario that a command takes.
 pub fn notes_on(alloc: Global, points: &[&str], scenario: &Scenario) -> Result<String, AllocError>
     ensures { IfOk result (λ lines. string_bytes lines ≡ notes_of (texts points.now) scenario.now) }
 {
@@ -160,8 +163,8 @@ pub fn notes_on(alloc: Global, points: &[&str], scenario: &Scenario) -> Result<S
     Ok(lines)
 }
 
-/// What is noted of the scenarios that the settings list, numbered from 0.
-pub fn listed_on(alloc: Global, points: &[&str], listed: &[Scenario]) -> Result<String, AllocError>
+/// The notes on the scenarios that the settings list, numbered from 0.
+fn listed_on(alloc: Global, points: &[&str], listed: &[Scenario]) -> Result<String, AllocError>
     ensures { IfOk result (λ lines. string_bytes lines ≡ listed_notes (texts points.now) listed.now) }
 {
     let mut lines = String::new(alloc);
@@ -172,7 +175,7 @@ pub fn listed_on(alloc: Global, points: &[&str], listed: &[Scenario]) -> Result<
     Ok(lines)
 }
 
-/// What is noted of the scenarios that the settings of a target list. An error means that memory was refused.
+/// The notes on the scenarios that the settings of a target list. An error means that memory was refused.
 pub fn listed_of<T: Target>(
     alloc: Global,
     settings: &CampaignSettings,
@@ -182,7 +185,7 @@ pub fn listed_of<T: Target>(
     listed_on(alloc, T::catalogue(), settings.scenarios.as_slice())
 }
 
-/// The same of a component that somebody else runs.
+/// The same for a component that somebody else runs.
 pub fn listed_outside(alloc: Global, campaign: &OutsideCampaign<'_>) -> Result<String, AllocError>
     ensures { IfOk result (λ lines. string_bytes lines ≡ listed_notes campaign.now.outside.now.points campaign.now.settings.now.plans.listed) }
 {
@@ -192,7 +195,7 @@ pub fn listed_outside(alloc: Global, campaign: &OutsideCampaign<'_>) -> Result<S
     listed_on(alloc, points.as_slice(), settings.scenarios.as_slice())
 }
 
-/// Adds a line where the condition holds.
+/// Appends a line if the condition holds.
 pub fn write_if(out: &mut String, condition: bool, line: &str) -> Result<(), AllocError>
     ensures { OnOk result (string_bytes out.new ≡ string_bytes out.old ++ text_if condition line.now) }
 {
@@ -202,12 +205,14 @@ pub fn write_if(out: &mut String, condition: bool, line: &str) -> Result<(), All
     Ok(())
 }
 
+/// Appends the line of how many plans are unresolved.
 fn write_unresolved(out: &mut String, unresolved: u32, plans: u32) -> Result<(), AllocError>
     ensures { OnOk result (string_bytes out.new ≡ string_bytes out.old ++ ended (unresolved_line unresolved plans)) }
 {
     writeln!(out, "strict: {unresolved} of {plans} plans unresolved")
 }
 
+/// The same, if the condition holds.
 fn write_if_unresolved(
     out: &mut String,
     condition: bool,
@@ -222,12 +227,14 @@ fn write_if_unresolved(
     Ok(())
 }
 
+/// Whether a number isn't 0.
 pub fn is_some_number(number: u32) -> bool
     ensures { result ≡ nat_lt 0 number }
 {
     number > 0
 }
 
+/// Appends a line for each of these doubts.
 pub fn write_doubts(out: &mut String, doubts: &Doubts) -> Result<(), AllocError>
     ensures { OnOk result (string_bytes out.new ≡ string_bytes out.old ++ doubt_notes doubts.now) }
 {
@@ -246,12 +253,14 @@ fn point_name<'a>(points: &[&'a str], point: u32) -> &'a str
     points[point as usize]
 }
 
+/// Appends the line of a point that no run reaches, by its name.
 fn write_unreached_name(out: &mut String, name: &str) -> Result<(), AllocError>
     ensures { OnOk result (string_bytes out.new ≡ string_bytes out.old ++ ended (unreached_line name.now)) }
 {
     writeln!(out, "strict: no run reaches {name}")
 }
 
+/// The same, by the number of the point.
 fn write_unreached(out: &mut String, points: &[&str], point: u32) -> Result<(), AllocError>
     requires { point < length points.now }
     ensures { OnOk result (string_bytes out.new ≡ string_bytes out.old ++ ended (unreached_line (slice_index_or (texts points.now) point []))) }
@@ -259,7 +268,7 @@ fn write_unreached(out: &mut String, points: &[&str], point: u32) -> Result<(), 
     write_unreached_name(out, point_name(points, point))
 }
 
-/// A line for each point of these numbers, which no run reaches.
+/// Appends a line for each point of these numbers, which no run reaches.
 pub fn write_all_unreached(
     out: &mut String,
     points: &[&str],
@@ -281,7 +290,7 @@ pub fn is_unhit(counts: &[u32]) -> bool
     counts.iter().all(|count| *count == 0)
 }
 
-/// Whether there are storms that draw nothing.
+/// Whether there are storms that draw nothing, as their rate is 0.
 pub fn draws_nothing(settings: &CampaignSettings) -> bool
     ensures { result ≡ draws_nothing settings.now.plans }
 {
@@ -294,7 +303,7 @@ fn is_unresolved(verdict: Verdict) -> bool
     matches!(verdict, Verdict::Unresolved)
 }
 
-/// What makes the report of a campaign with these verdicts and this census say less than it seems to.
+/// What the report of a campaign with these verdicts and this census doesn't show.
 fn doubts_of(verdicts: &[Verdict], census: &[u32], settings: &CampaignSettings) -> Doubts
     requires some { 0 < length verdicts.now }
     requires few { length verdicts.now < 2 ^ 32 }
@@ -313,7 +322,7 @@ fn doubts_of(verdicts: &[Verdict], census: &[u32], settings: &CampaignSettings) 
     }
 }
 
-/// What is noted of a campaign whose report is to be strict, by what its runs came to. An error means that memory was refused.
+/// The notes on a strict report, by what the campaign's runs came to. An error means that memory was refused.
 fn strict_on<T: Target>(
     alloc: Global,
     subject: &Subject<'_, T>,
@@ -334,8 +343,8 @@ fn strict_on<T: Target>(
     Ok(lines)
 }
 
-/// What is noted beside the report of a campaign whose plans have run. Where it is to be strict, the campaign has to be one that was surveyed. An
-/// error means that memory was refused.
+/// The notes on the report of a campaign whose plans have run. If the report is strict, the campaign has to be one that was surveyed. An error means
+/// that memory was refused.
 pub fn report_notes_on<T: Target>(
     alloc: Global,
     subject: &Subject<'_, T>,
@@ -354,7 +363,7 @@ pub fn report_notes_on<T: Target>(
     Ok(lines)
 }
 
-/// Whether something is noted that is to count.
+/// Whether there are notes, and the report is strict.
 pub fn is_doubted(strict: bool, notes: &str) -> bool
     ensures { result ≡ is_doubted strict notes.now }
 {

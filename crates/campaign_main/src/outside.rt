@@ -13,7 +13,7 @@ use outside_campaign::{OutsideCampaign, list_plans};
 use std::alloc::Global;
 use target_trait::Sink;
 
-/// Writes the list of plans. What is noted is of the listed scenarios.
+/// Writes the list of plans. The notes are on the listed scenarios.
 fn list<W: Sink>(
     alloc: Global,
     campaign: &OutsideCampaign<'_>,
@@ -31,7 +31,7 @@ fn list<W: Sink>(
     })
 }
 
-/// Lists the plans of a component that somebody else runs, where they don't grow from what answers tell, and refuses any other order.
+/// Lists the plans of a component that somebody else runs, unless they grow from answers, and refuses any other order.
 #[tactic(auto, unfolding(crate::specs::Commands::outside_answer))]
 pub fn outside_command<W: Sink>(
     alloc: Global,

@@ -1,23 +1,24 @@
-//! The commands over a target that the program brings itself, by any reader and any sinks.
-ghost use Rattle.std.specs.Prelude.{◌≡◌, ℕ, List, None, false, IfErr, IfOk, IfSome, OnOk, string_bytes};
+//! The commands over a target that the program brings itself, over any reader and any sinks.
+ghost use Rattle.std.specs.Prelude.{◌≡◌, ℕ, List, false, IfErr, IfOk, IfSome, OnOk, string_bytes};
 ghost use Rattle.campaign_core.specs.Headline.{campaign_in, campaign_on};
+ghost use Rattle.campaign_core.specs.declared.ending.CampaignFault.TheVariants.{Memory};
 ghost use Rattle.campaign_settings.specs.declared.own.OwnSettings.{OwnSettings};
-ghost use Rattle.campaign_main.specs.Commands.{Answer, order_answer};
+ghost use Rattle.campaign_main.specs.declared.fault.CommandFault.TheVariants.{Campaign};
+ghost use Rattle.campaign_main.specs.Commands.{Answer, answer_with, order_answer};
 ghost use Rattle.campaign_core.specs.Writes.{change};
-ghost use Rattle.campaign_main.specs.Ends.{EndsAs, EndsBy, IsTold, Leaves, NotesBy, OnWhole, RefusesBy, RefusesWith, Tells, TellsAs, TellsRefusal};
-ghost use Rattle.campaign_main.specs.FaultLines.{memory_line};
+ghost use Rattle.campaign_main.specs.Ends.{ComesTo, EndsAs, EndsBy, Leaves, NotesBy, OnWhole, RefusesBy, RefusesWith, Tells, TellsAs, TellsRefusal};
 ghost use Rattle.campaign_main.specs.Promises.{KeepsPromises};
 ghost use Rattle.campaign_main.specs.OwnTarget.{OwnKeepsPromises, own_text_answer, own_words_line, target_answer, worded_answer, worded_text_answer};
 
-use crate::command::command;
-use crate::exit::Exit;
+use crate::command::{Running, command, run_plans};
+use crate::exit::{Answered, Exit};
+use crate::fault::CommandFault;
 use crate::input::read_all;
-use crate::lines::{
-    end_bad_settings, end_outcome, end_unreadable_settings, no_memory, refused_by, unlawful,
-};
+use crate::lines::{end_bad_settings, end_outcome, end_unreadable_settings, refused_by};
 use campaign_core::{Host, Subject};
 use campaign_settings::{OwnSettings, Settings};
 use command_words::Order;
+use run_explained::{NoEnd, RunEnd};
 use std::alloc::{AllocError, Global};
 use std::io::Read;
 use std::sync::Wait;
@@ -26,33 +27,65 @@ use target_laws::broken_law;
 use target_trait::{Sink, Target};
 use work_gate::Gate;
 
-/// The end of a command over a target that is seen to break a law, whose line is told then, or where memory is refused. No proved target
-/// breaks one.
-pub fn broken_off<T: Target, E: Sink>(
-    alloc: Global,
-    subject: &Subject<'_, T>,
-    faults: &mut E,
-) -> Option<Exit>
-    requires { E.has_failed faults.old ≡ false }
-    ensures end { IfSome result (λ end. (end ≡ Exit.Memory) × IsTold memory_line (change E.Sink faults.old faults.new)) }
-    ensures untold { result ≡ None → faults.new ≡ faults.old }
+/// Checks the laws of a target that may not be proved. If it breaks one, the error is the line that refuses the command.
+///
+/// A proved target breaks none, so the error then means that memory was refused. The caller's target isn't touched.
+fn check_lawful<T: Target>(alloc: Global, subject: &Subject<'_, T>) -> Result<(), CommandFault>
+    ensures { IfErr result (λ fault. fault ≡ Campaign Memory) }
 {
     let Subject {
         target,
         workload,
         settings,
     } = subject;
-    match broken_law(alloc, *target, *workload, settings.seed, settings.max_hits) {
-        Ok(None) => None,
-        Ok(Some(law)) => Some(unlawful(alloc, law, faults)),
-        Err(AllocError) => Some(no_memory(faults)),
+    match broken_law(alloc, *target, *workload, settings.seed, settings.max_hits)? {
+        None => Ok(()),
+        Some(law) => {
+            let line = format!(in alloc; "target: {law}\n")?;
+            Err(CommandFault::Unlawful(line))
+        }
     }
 }
 
-/// Does what is ordered with this target on its workload, under its settings, and writes the command's text to the output: what
-/// [`perform_target`] does once it has read settings, with the same lines and ends.
+/// Does what is ordered with a target that the program brings itself, as [`command`] does. The target's laws are checked first, and with `recheck`
+/// each plan that fails is run once more. If the target breaks a law or changes its verdict, which no proved target does, the command is refused.
+pub fn own_command<T: Target + Send, D: RunEnd<T>, W: Sink, H: Threads + Wait + Sync, G: Gate>(
+    host: &Host<'_, G, H>,
+    subject: &Subject<'_, T>,
+    end: &D,
+    order: &Order,
+    output: &mut W,
+) -> Result<Answered, CommandFault>
+where
+    T::Workload: Sync,
+    requires { W.has_failed output.old ≡ false }
+    ensures text { let s = subject.now in
+        ComesTo (answer_with (D.lines end.now s.target.now s.workload.now) order.now (campaign_in T.Target s))
+        (change W.Sink output.old output.new) result }
+    ensures promises { OnOk result (KeepsPromises order.now (campaign_in T.Target subject.now)) }
+{
+    check_lawful(host.alloc, subject)?;
+    match order {
+        Order::Run {
+            form,
+            strict,
+            recheck: true,
+        } => {
+            let running = Running {
+                form: *form,
+                strict: *strict,
+                recheck: true,
+            };
+            run_plans(host, subject, running, output)
+        }
+        _ => command(host, subject, end, order, output),
+    }
+}
+
+/// Does what is ordered with this target and its workload, by these settings, and writes the command's text to the output. It is what
+/// [`perform_target`] does once it has read the settings, with the same lines and ends.
 ///
-/// The target is looked at first, as there: where it is seen to break a law, which none does that is proved, the command is refused.
+/// The target's laws are checked first, as there: if it breaks one, which no proved target does, the command is refused.
 pub fn perform_settings<T: Target + Send, W: Sink, E: Sink, H: Threads + Wait + Sync, G: Gate>(
     host: &Host<'_, G, H>,
     order: &Order,
@@ -68,10 +101,7 @@ where
     ensures told { TellsAs result (order_answer order.now (campaign_in T.Target subject.now)) (change E.Sink faults.old faults.new) }
     ensures promises { OnWhole result (KeepsPromises order.now (campaign_in T.Target subject.now)) }
 {
-    if let Some(exit) = broken_off(host.alloc, subject, faults) {
-        return exit;
-    }
-    let outcome = command(host, subject, order, output);
+    let outcome = own_command(host, subject, &NoEnd, order, output);
     end_outcome(host.alloc, outcome, faults)
 }
 
@@ -107,18 +137,16 @@ where
     }
 }
 
-/// Reads settings, does what is ordered with this target on this workload, and writes the command's text to the output.
+/// Reads settings, does what is ordered with this target and this workload, and writes the command's text to the output.
 ///
-/// For a program that brings a target of its own: its commands, lines and ends are those of [`crate::perform`], over settings that have
-/// neither `target` nor `variant` nor a target's table; each of these keys is refused as an unknown one is. Where settings are left empty,
-/// each key has its default.
+/// It is for a program that brings its own target. Commands, lines and ends are those of [`crate::perform`]. The settings have neither `target` nor
+/// `variant` nor a target's table; each of these keys is refused as an unknown one is. If the settings are empty, each key has its default.
 ///
-/// A target that isn't proved is looked at first: where it breaks a law of [`target_laws::broken_law`] the command is refused with a line
-/// that names it, `target: asks after a halt`. Where the order is to run with `recheck`, each plan that fails is run once more then, and where
-/// that says something else, the command is refused with the plan and both verdicts: `target: plan 12: fail lost, then pass`.
+/// A target that isn't proved is checked first: if it breaks a law of [`target_laws::broken_law`], the command is refused with a line that names the
+/// law, such as `target: asks after a halt`. If the order is to run with `recheck`, each plan that fails is run once more. If the verdict is another
+/// then, the command is refused with the plan and both verdicts: `target: plan 12: fail lost, then pass`.
 ///
-/// What the answer tells, and for which readers and sinks the contract says which text, which fault and which reduced scenarios, is told
-/// at [`crate::perform`].
+/// [`crate::perform`] says what is returned, and for which readers and sinks the contract says which text, which fault and which reduced scenarios.
 pub fn perform_target<
     T: Target + Send,
     R: Read,
@@ -155,12 +183,12 @@ where
     }
 }
 
-/// Reads the settings of a target that takes words, up to the reader's end: those of [`perform_target`], and beside them a `variant` and a
-/// table `own` ([`Settings::read_worded`]). The program makes its target and its workload of the words, or refuses them by
-/// [`refuse_own_words`], and goes on with [`perform_settings`].
+/// Reads the settings of a target that takes words, up to the reader's end: those of [`perform_target`] and, besides, a `variant` and a table `own`
+/// ([`Settings::read_worded`]). From the words the program makes its target and its workload, and goes on with [`perform_settings`]; or it refuses
+/// them by [`refuse_own_words`].
 ///
-/// `Err` is the end of the command where the settings can't be read or are refused, and its line is told then. Where the answer is `Ok`
-/// nothing is told. A reader that tells its bytes is left at its end then.
+/// `Err` is the end of the command if the settings can't be read or are refused; its line has been written then. With `Ok` nothing has been written,
+/// and a reader whose bytes contracts see is at its end.
 pub fn read_own_settings<R: Read, E: Sink>(
     alloc: Global,
     reader: &mut R,
@@ -198,8 +226,8 @@ fn read_worded_text<E: Sink>(alloc: Global, text: &str, faults: &mut E) -> Resul
     }
 }
 
-/// Ends as refused where a program takes other words than the settings have: `settings: own: ` and the reason are told, or that memory was
-/// refused. The reason is a line without its line feed.
+/// Ends as refused because the program doesn't take the words in the settings, with the line `settings: own: ` and the reason, or because memory was
+/// refused. The reason has no line feed.
 pub fn refuse_own_words<E: Sink>(alloc: Global, reason: &str, faults: &mut E) -> Exit
     requires { E.has_failed faults.old ≡ false }
     ensures { RefusesWith (own_words_line reason.now) result (change E.Sink faults.old faults.new) }
@@ -207,6 +235,7 @@ pub fn refuse_own_words<E: Sink>(alloc: Global, reason: &str, faults: &mut E) ->
     refused_by(own_words_line(alloc, reason), faults)
 }
 
+/// The line for words that the program doesn't take.
 fn own_words_line(alloc: Global, reason: &str) -> Result<String, AllocError>
     ensures { IfOk result (λ line. string_bytes line ≡ own_words_line reason.now) }
 {

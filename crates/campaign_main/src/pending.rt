@@ -1,4 +1,4 @@
-//! Targets that tell what each write did that is pending at the end of a run.
+//! Targets that describe the writes that are pending at the end of a run.
 ghost use Rattle.std.specs.Prelude.{◌≡◌, ℕ, List, map, string_bytes, IfOk};
 ghost use Rattle.action_eval.specs.Answers.{Given, given_of};
 ghost use Rattle.file_replace.specs.Crash.{calls_of as replace_calls};
@@ -11,15 +11,15 @@ use maildir_target::{Maildir, Messages};
 use std::alloc::{AllocError, Global};
 use target_trait::{Case, CrashTarget};
 
-/// A target that tells what each write did that is pending at the end of a run.
+/// A target that describes the writes that are pending at the end of a run.
 pub trait TellsWrites: CrashTarget {
     // What these writes did, for a setup, a workload and what the run is given.
     ghost calls: { Self → Self.Workload → Given → List (List ℕ) };
 
-    /// Plays a case up to its power cut, and tells what each write did that is pending then, in the order in which they were made. Where the cut is
-    /// asked, its hit K at `power::keep` stands for the K-th of them.
+    /// Runs a case up to its power cut, and returns what each write did that is pending then, in the order in which they were made. When the cut is
+    /// made, its hit K at `power::keep` stands for the K-th of them.
     ///
-    /// An error means that memory was refused. The target keeps its setup, after an error too.
+    /// An error means that memory was refused. The target keeps its setup, even after an error.
     fn pending_calls(
         &mut self,
         alloc: Global,

@@ -57,30 +57,35 @@ fn perform_text<W: Sink, E: Sink, H: Threads + Wait + Sync, G: Gate>(
     }
 }
 
-/// Reads settings, does what is ordered with the target that they choose, and writes the command's text to the output.
+/// Reads settings, does what is ordered with the target that they choose, and writes the command's text to the output. This is how it ends:
 ///
-/// It answers Kept, Found where a verdict in the text is fail, or Doubted where none is, the order is strict and something was told beside
-/// the text, where the whole text stands in the output. Else one line on the sink of faults says why there is none: Refused for settings
-/// that can't be read or have a fault, for a scenario with a fault, for a number that no plan has, for more than 65536 plans, and, on a
-/// component that somebody else runs, for any order but to list its plans, and for that too where it has a depth; and Memory where memory
-/// was refused, both with the output unchanged; or Write, which tells how many bytes of the text, fewer than all, went out before the
-/// output failed. Where that line can't be written whole the answer stays. The line of a refusal names the first fault in the order in
-/// which faults are looked for.
+/// | End | When | The output has | The sink of faults has |
+/// |---|---|---|---|
+/// | Kept | no verdict in the text is fail | the whole text | the notes, if any |
+/// | Found | a verdict in the text is fail | the whole text | the notes, if any |
+/// | Doubted | as Kept, but the order is strict and there are notes | the whole text | the notes |
+/// | Refused | the command is refused, as said below | nothing | one line, on the first fault |
+/// | Memory | memory was refused | nothing | one line |
+/// | Write | the output failed | a part of the text, of as many bytes as Write says | one line |
 ///
-/// Beside the text of try, reduce and explain, once it stands there whole, the sink of faults has a line for each name of the scenario that no
-/// point of the target has, in the scenario's order: `scenario: no point is named NAME`; beside that of run and plans such a line for
-/// each scenario that the settings list, `settings: scenario 1: no point is named NAME`. A run that is strict adds what makes its report say
-/// less than it seems to. A line that can't be written changes no end.
+/// A command is refused if the settings can't be read or have a fault, if a scenario has a fault, if no plan has the number that was given, or if
+/// there are more than 65536 plans. On a component that somebody else runs any order is refused except to list its plans, and with a depth that is
+/// refused too. Faults are looked for in a fixed order, and the line names the first. A line that can't be written, or not whole, changes no end.
 ///
-/// Workers arrive at the gate before each plan and each test of a reduction; what comes of the command is the same at every gate.
+/// The notes on the text of try, reduce and explain are a line for each name in the scenario that no point of the target has, in the scenario's
+/// order, `scenario: no point is named NAME`; and one if a control character stands in the scenario. For run and plans there are such lines for each
+/// listed scenario: `settings: scenario 1: no point is named NAME`. A strict run adds what its report doesn't show. Notes are written once the whole
+/// text is in the output.
 ///
-/// Each reduced scenario in a text that was written whole fails with its code, under the same seed, stream number and limit as what it
-/// was reduced from, and no single fault can be left out of it.
+/// Workers arrive at the gate before each plan and each test of a reduction. What comes of the command is the same with every gate.
 ///
-/// Which text, which fault and which reduced scenarios, the contract says for a reader that tells its bytes, as a slice does, and which
-/// bytes were written, for sinks that tell theirs, as [`target_trait::Out`] over a `Vec` does. Of any other reader it says that the end
-/// and the line are those that some settings have; of any other sink, whether it has failed: the output only at Write, and then the
-/// sink of faults only where its line wasn't written whole.
+/// Each reduced scenario in a text that was written whole fails with its code, under the same seed, stream number and limit as what it was reduced
+/// from, and without any single one of its faults it doesn't.
+///
+/// If contracts see the reader's bytes, as those of a slice, the contract says which text, which fault and which reduced scenarios come. If they see
+/// what a sink wrote, as with [`target_trait::Out`] over a `Vec`, it says which bytes were written. For any other reader it says that the end and the
+/// line are those that some settings have. For any other sink it says whether it has failed: the output only at Write, and the sink of faults only if
+/// its line wasn't written whole.
 pub fn perform<R: Read, W: Sink, E: Sink, H: Threads + Wait + Sync, G: Gate>(
     host: &Host<'_, G, H>,
     order: &Order,

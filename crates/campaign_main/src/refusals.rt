@@ -1,4 +1,4 @@
-//! What the program answers where it has no settings to read.
+//! How the program ends if it has no settings to read.
 ghost use Rattle.std.specs.Prelude.{◌≡◌, ◌↔◌, false, codes};
 ghost use Rattle.std.specs.IoError.{error_kind};
 ghost use Rattle.campaign_core.specs.Writes.{change};
@@ -13,8 +13,8 @@ use std::alloc::Global;
 use std::io::{self, ErrorKind};
 use target_trait::Sink;
 
-/// Ends where the file of the settings can't be opened: as refused, or for want of memory, where the error says so. One line on the
-/// sink of faults says which.
+/// Ends because the file of the settings can't be opened: as refused or, if the error says so, because memory was refused. One line on the sink of
+/// faults says which.
 pub fn unreadable_settings<E: Sink>(error: &io::Error, faults: &mut E) -> Exit
     requires { E.has_failed faults.old ≡ false }
     ensures end { RefusesWith unreadable_line result (change E.Sink faults.old faults.new) }
@@ -23,8 +23,8 @@ pub fn unreadable_settings<E: Sink>(error: &io::Error, faults: &mut E) -> Exit
     unreadable(error, "settings: not readable\n", faults)
 }
 
-/// Ends where the program's words can't be had, as where one isn't UTF-8: as refused, or for want of memory, where the error says
-/// so. One line on the sink of faults says which.
+/// Ends because the program's words can't be read, for example since one isn't UTF-8: as refused or, if the error says so, because memory was
+/// refused. One line on the sink of faults says which.
 pub fn unreadable_words<E: Sink>(error: &io::Error, faults: &mut E) -> Exit
     requires { E.has_failed faults.old ≡ false }
     ensures end { RefusesWith (codes "error: invalid UTF-8 was detected in one or more arguments\n") result
@@ -38,6 +38,7 @@ pub fn unreadable_words<E: Sink>(error: &io::Error, faults: &mut E) -> Exit
     )
 }
 
+/// Ends as refused with this line, or because memory was refused.
 fn unreadable<E: Sink>(error: &io::Error, line: &str, faults: &mut E) -> Exit
     requires { E.has_failed faults.old ≡ false }
     ensures end { RefusesWith line.now result (change E.Sink faults.old faults.new) }
@@ -50,11 +51,11 @@ fn unreadable<E: Sink>(error: &io::Error, line: &str, faults: &mut E) -> Exit
     }
 }
 
-/// Writes what the program answers to words that it doesn't take, and ends.
+/// Ends because of words that aren't a command with its settings, and writes what the program says to them.
 ///
-/// Help and the version that were asked for go to the output, and the end is Kept, or Write where the output failed after a part. Any other
-/// refusal goes to the sink of faults, with the output unchanged, and the end is Refused. Where memory was refused the end is Memory,
-/// with the output unchanged. On the sink of faults nothing is written for Kept, and for Memory and Write the line that says so.
+/// Help and the version, if they were asked for, go to the output. The end is Kept, or Write if the output failed after a part of them. The text of
+/// any other refusal goes to the sink of faults, the output is unchanged, and the end is Refused. If memory was refused, the output is unchanged and
+/// the end is Memory. For Memory and Write one line on the sink of faults says so; for Kept nothing is written there.
 pub fn refuse_words<W: Sink, E: Sink>(
     alloc: Global,
     fault: &WordsFault,

@@ -1,4 +1,4 @@
-//! Whether a target says the same of a plan twice.
+//! Whether a target has the same verdict on a plan twice.
 ghost use Rattle.std.specs.Prelude.{◌≡◌, None, IfErr, IfOk};
 ghost use Rattle.campaign_core.specs.Headline.{campaign_in};
 ghost use Rattle.campaign_core.specs.Ran.{IsRan};
@@ -13,8 +13,7 @@ use std::alloc::{AllocError, Global};
 use target_laws::{ChangedVerdict, changed_verdict};
 use target_trait::Target;
 
-/// The first plan that has failed and says something else when it is run once more. The caller's target isn't touched. Of a proved target there
-/// is none.
+/// The first plan that has failed and has another verdict when it is run once more. A proved target has none. The caller's target isn't touched.
 fn first_changed<T: Target>(
     alloc: Global,
     subject: &Subject<'_, T>,
@@ -38,7 +37,7 @@ fn first_changed<T: Target>(
     )
 }
 
-/// The line for a plan whose verdict isn't the same twice.
+/// The line for a plan whose verdict changed.
 fn changed_line<N: Names>(
     alloc: Global,
     names: &N,
@@ -53,9 +52,9 @@ fn changed_line<N: Names>(
     Ok(line)
 }
 
-/// Runs each plan that has failed once more: a target whose verdict isn't the same twice is refused.
+/// Runs each plan that has failed once more, and refuses the target if a verdict changes.
 ///
-/// No proved target is one, so an error means that memory was refused. The caller's target isn't touched.
+/// No proved target changes one, so an error then means that memory was refused. The caller's target isn't touched.
 pub fn check_steady<T: Target>(
     alloc: Global,
     subject: &Subject<'_, T>,
@@ -68,7 +67,7 @@ pub fn check_steady<T: Target>(
         None => Ok(()),
         Some(changed) => {
             let line = changed_line(alloc, subject.target, changed)?;
-            Err(CommandFault::Unsteady(line))
+            Err(CommandFault::Unlawful(line))
         }
     }
 }

@@ -39,6 +39,7 @@ impl<'a> Model for GrownPart<'a> {
 }
 
 impl<'a> GrownPart<'a> {
+    /// These plans, over this catalogue, whose points those of their faults are.
     pub fn new(plans: &'a GrownPlans, catalogue: &'a [&'a str]) -> Self
         requires lawful { IsCatalogue (texts catalogue.now) }
         requires rigs { AllByRecursion (λ plan. CanBeRigged (rigs_of plan)) plans.now }

@@ -1,4 +1,5 @@
-//! The plans of a campaign: those that a census makes, or those that grew with the further ones behind them.
+//! The plans of a campaign by their numbers: those that a census gives, or those that grew, with storms and listed scenarios behind them. It makes
+//! and rigs plans, and runs none of them.
 #![tactic(auto)]
 
 mod grown;

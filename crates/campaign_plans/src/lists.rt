@@ -1,4 +1,4 @@
-//! What serves plan after plan.
+//! The lists into which plan after plan is rigged.
 ghost use Rattle.std.specs.Prelude.{◌≡◌, ◌<◌, [], length, slice_index_or, OnOk};
 ghost use Rattle.grown_plans.specs.GrownPlans.{rigs_of};
 
@@ -6,7 +6,7 @@ use action_eval::Rig;
 use grown_plans::{GrownPlans, rigs_of};
 use std::alloc::{AllocError, Global};
 
-/// What the rigged hits of plans are put into, one plan after another. Whatever stands there before a plan makes no difference to it.
+/// The lists into which the rigged hits of plans are put, one plan after another. What stood there before makes no difference.
 #[derive(Debug, Drop)]
 pub struct RigLists {
     /// The hits that are rigged.

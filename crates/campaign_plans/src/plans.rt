@@ -16,10 +16,10 @@ use scenario_values::Scenario;
 use std::alloc::{AllocError, Global};
 use std::marker::Model;
 
-/// The plans of a campaign, at most 65536: those of a list that a census makes, or those that grew, with the plans of a list behind them. A
-/// plan's number is its place, from 0. Contracts see the list of their scenarios.
+/// The plans of a campaign, at most 65536: those of a list that a census gives, or those that grew, with the plans of a list behind them. A plan's
+/// number is its place, from 0. Contracts see the list of their scenarios.
 ///
-/// It borrows what the plans are kept in: a plan's scenario is made where it is asked for.
+/// It borrows the lists of the plans. A plan's scenario is made when it is asked for.
 #[derive(Debug, Drop)]
 pub struct CampaignPlans<'a> {
     grown_part: Option<GrownPart<'a>>,
@@ -44,7 +44,7 @@ impl<'a> CampaignPlans<'a> {
     pub fn by_census(plans: &'a PlanList<'a>) -> Self
         ensures { result ≡ plans.now }
     {
-        // for its clause alone, that there are few
+        // Called for its contract: there are few.
         let _ = plans.len();
         CampaignPlans {
             grown_part: None,
@@ -52,8 +52,8 @@ impl<'a> CampaignPlans<'a> {
         }
     }
 
-    /// The plans that grew over the points of a catalogue, where plans grew, and behind them those of a list: at most 65536 together. Those
-    /// that grew to a depth of at most 64 can be rigged, as a law of them says.
+    /// The plans that grew over the points of a catalogue, if any grew, and behind them those of a list: at most 65536 together. Plans that grew to a
+    /// depth of at most 64 can be rigged, as `grown_plans::each_plan_can_be_rigged` says.
     pub fn grown(
         plans: Option<&'a GrownPlans>,
         catalogue: &'a [&'a str],
@@ -120,7 +120,7 @@ impl<'a> CampaignPlans<'a> {
     }
 }
 
-/// A plan of a campaign: a scenario that a component is run under. Contracts see it as its scenario.
+/// A plan of a campaign: a scenario under which a component is run. Contracts see the scenario.
 #[derive(Debug, Drop)]
 pub struct CampaignPlan<'a> {
     plans: &'a CampaignPlans<'a>,

@@ -11,8 +11,8 @@ use plan_gen::{PlanList, Rigger};
 use std::alloc::AllocError;
 use std::marker::Model;
 
-/// Rigs the plans of a campaign over the points of a catalogue. That it has the same names as the plans' own is found once, for all plans.
-/// Contracts see the plans, and the names of the points.
+/// Rigs the plans of a campaign over the points of a catalogue. It compares the catalogue's names with the plans' own once, for all plans. Contracts
+/// see the plans, and the names of the points.
 #[derive(Debug, Drop)]
 pub struct CampaignRigger<'a, 'c> {
     grown_part: Option<&'a GrownPart<'a>>,
@@ -40,7 +40,7 @@ impl<'a, 'c> Model for CampaignRigger<'a, 'c> {
 }
 
 impl<'a, 'c> CampaignRigger<'a, 'c> {
-    /// Rigs plans that grew, where there are any, and those of a list behind them.
+    /// Rigs the plans that grew, if there are any, and those of a list behind them.
     pub(crate) fn new(
         grown_part: Option<&'a GrownPart<'a>>,
         listed: &'a PlanList<'a>,
@@ -61,10 +61,10 @@ impl<'a, 'c> CampaignRigger<'a, 'c> {
         }
     }
 
-    /// Rigs the hits of the plan of this number, and tells whether it has. It hasn't where the plan is a listed scenario, or plans are of the
-    /// points of another catalogue: `CampaignPlan::scenario` serves each plan.
+    /// Rigs the hits of the plan with this number, and returns true. It returns false, and rigs nothing, if the plan is a listed scenario or the
+    /// plans are over another catalogue's points: use `CampaignPlan::scenario` then, which serves each plan.
     ///
-    /// The plan's hits are put in place of what stood in the lists, which serve plan after plan as the fault table does. An error means that
+    /// The plan's hits are put into the lists, in place of what stood there. The lists and the fault table serve plan after plan. An error means that
     /// memory was refused.
     pub fn load(
         &self,

@@ -1,4 +1,4 @@
--- What is shown of how far plans or a reduction are.
+-- What the program shows while it runs plans or a reduction.
 use Rattle.std.specs.Prelude.{◌++◌, ◌∷◌, [], ◌||◌, ◌==◌, ◌-◌, ◌*◌, ◌/◌, ◌%◌, ℕ, List, codes, nat_lt, if◌then◌else◌}
 use Rattle.std.specs.Fmt.{decimal}
 use Rattle.std.specs.Int.{div_ceil}
@@ -16,17 +16,17 @@ use Rattle.work_gate.specs.declared.Stage.TheVariants.{Listed, Level, Onward}
 
 -- ---- how fast plans end
 
--- plans a second, rounded down, and the seconds that the rest takes, rounded up, where so many of those that are expected have ended in so many
--- milliseconds
+-- Plans a second, rounded down, and the seconds that the rest takes, rounded up, if `ended` of `expected` plans have ended in `elapsed` milliseconds.
+-- They are unknown in the first second, and before the first plan has ended.
 abbrev pub pace_of : ℕ → ℕ → ℕ → Pace
 pace_of ended expected elapsed = if nat_lt elapsed 1000 || ended == 0 then Unknown
     else Known (ended * 1000 / elapsed) (div_ceil ((expected - ended) * elapsed) (ended * 1000))
 
--- two digits of a number below 100
+-- Two digits of a number below 100.
 abbrev pub two_digits : ℕ → List ℕ
 two_digits n = decimal (n / 10) ++ decimal (n % 10)
 
--- so many seconds as hours, minutes and seconds: 1:02:03
+-- Seconds as hours, minutes and seconds, as in 1:02:03.
 abbrev pub time_text : ℕ → List ℕ
 time_text seconds = decimal (seconds / 3600) ++ (codes ":" ++ (two_digits (seconds / 60 % 60) ++ (codes ":" ++ two_digits (seconds % 60))))
 
@@ -54,14 +54,14 @@ told_text (Tests begun) = codes "reducing: test " ++ decimal begun
 
 -- ---- what begins
 
--- a plan by its number, or a test by that under which its reduction hands it out
+-- A plan by its number, or a test by the number under which its reduction hands it out.
 abbrev pub begun_text : Phase → ℕ → List ℕ
 begun_text phase.Plans number = codes "plan " ++ decimal number
 begun_text phase.Requests number = codes "test " ++ decimal number
 
 -- ---- the bytes on standard error
 
--- back to the left edge, and what stands on the line erased, as terminals take it: a carriage return, and ESC [ K
+-- The bytes that take a terminal back to the left edge and erase the line: a carriage return, and ESC [ K.
 abbrev pub erased : List ℕ
 erased = 13 ∷ 27 ∷ codes "[K"
 

@@ -1,4 +1,4 @@
-//! A sink whose text doesn't mix with the line.
+//! A sink whose text doesn't mix with the line of progress.
 ghost use Rattle.std.specs.Prelude.{◌≡◌};
 
 use crate::progress::Progress;
@@ -6,7 +6,7 @@ use std::io::Eprint;
 use std::rt::Clock;
 use target_trait::Sink;
 
-/// A sink before each write of which the line of a gate is cleared, where one stands there. Else it is the sink that it was made of.
+/// A sink that clears a gate's line, if one stands there, before each write. Otherwise it is the sink of which it was made.
 #[derive(Drop)]
 pub struct Cleared<'g, 'a, S: Sink, H: Clock + Eprint> {
     progress: &'g Progress<'a, H>,

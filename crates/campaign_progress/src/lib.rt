@@ -1,4 +1,5 @@
-//! How far a campaign or a reduction is, told on standard error: in one line that is written over, or in lines of a log; or which plan is run.
+//! Gates that show on standard error how far a campaign or a reduction is, in one line that is written over or in lines of a log; or which plan is
+//! run.
 #![tactic(auto)]
 
 mod cleared;

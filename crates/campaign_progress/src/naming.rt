@@ -27,9 +27,9 @@ impl fmt::Display for Begun {
 
 /// A gate that holds nobody, and names on standard error what is about to begin, in a line of its own: `plan 17`, or `test 3` of a reduction.
 ///
-/// It is for a component without a proof, in which a fault ends the program at once: what was running then is among the last lines. With one
-/// worker it is the last line; of more than 1,024 plans, which are run in rows, it is one of the last 16, and of more than 16,384 one of the
-/// last 64. Where no line stands there, the run without faults was running.
+/// It is for a component without a proof, in which a fault ends the program at once: the plan that was running then is among the last lines. With one
+/// worker it is the last line. If there are more than 1,024 plans, which are run in rows, it is one of the last 16, and with more than 16,384 plans
+/// one of the last 64. If there is no line, the run without faults was running.
 #[derive(Drop)]
 pub struct Naming<'a, H: Eprint> {
     rt: &'a H,
@@ -45,7 +45,7 @@ impl<'a, H: Eprint> Naming<'a, H> {
 impl<'a, H: Eprint + Sync> Gate for Naming<'a, H> {
     fn arrive(&self, phase: Phase, number: u32) {
         let begun = Begun { phase, number };
-        // Where standard error doesn't take it, that changes nothing.
+        // If standard error doesn't take it, nothing else changes.
         let _ = self.rt.eprintln(begun);
     }
 }

@@ -7,14 +7,14 @@ use std::fmt;
 /// How fast the plans of a stage end.
 #[derive(Clone, Copy, Debug)]
 pub enum Pace {
-    /// It can't be told: less than a second of the stage has gone, or none of its plans has ended.
+    /// The pace isn't known: less than a second of the stage has gone, or none of its plans has ended.
     Unknown,
-    /// So many plans end in a second, rounded down, and the rest takes so many seconds more at this rate, rounded up.
+    /// How many plans end in a second, rounded down, and how many seconds the rest takes at this rate, rounded up.
     Known { rate: u64, left: u64 },
 }
 
 impl Pace {
-    /// The pace at which so many of the plans that are expected have ended in so many milliseconds.
+    /// The pace, if `ended` of the expected plans have ended in this many milliseconds.
     pub fn of(ended: u32, expected: u32, elapsed: u32) -> Self
         ensures { result ≡ pace_of ended expected elapsed }
     {
@@ -44,7 +44,7 @@ impl fmt::Display for Pace {
     }
 }
 
-// So many seconds, as hours, minutes and seconds.
+// A number of seconds as hours, minutes and seconds.
 #[derive(Clone, Copy)]
 struct Remaining {
     seconds: u64,

@@ -9,16 +9,16 @@ use std::sync::Mutex;
 use std::sync::atomic::{AtomicBool, AtomicU32, AtomicU64, Ordering};
 use work_gate::{Ended, Gate, Phase, Stage};
 
-/// How many milliseconds stand at least between two texts of the line that is written over.
+/// The least number of milliseconds between two texts of the line that is written over.
 const LINE_PAUSE: u64 = 100;
 
-/// How many stand at least between two plain lines of a stage.
+/// The least number of milliseconds between two plain lines of a stage.
 const PLAIN_PAUSE: u64 = 5000;
 
-/// A gate that holds nobody, and tells on standard error how far plans, or tests of reductions, are.
+/// A gate that holds nobody, and shows on standard error how far plans, or tests of reductions, are.
 ///
-/// It shows one line that is written over, at most ten times a second of the clock; or plain lines, one when the first plan of a stage or the
-/// first test begins, and at most one every five seconds after it. It shows nothing where the clock can't be read or standard error takes nothing.
+/// It shows one line that is written over, at most ten times a second of the clock; or plain lines, one when the first plan of a stage or the first
+/// test begins, and at most one every five seconds after it. It shows nothing if the clock can't be read or standard error takes nothing.
 /// [`crate::Cleared`] clears the line that is written over before anything else is written.
 #[derive(Drop)]
 pub struct Progress<'a, H: Clock + Eprint> {
@@ -26,11 +26,11 @@ pub struct Progress<'a, H: Clock + Eprint> {
     form: ProgressForm,
     counts: Counts,
     tests: AtomicU32,
-    // The stage, which whoever writes holds meanwhile.
+    // The stage. Whoever writes a line holds it meanwhile.
     course: Mutex<Course>,
-    // From when on the next line may be written, in milliseconds of the clock.
+    // The time from which on the next line may be written, in milliseconds of the clock.
     due: AtomicU64,
-    // Whether a line stands there that is written over.
+    // Whether the line that is written over stands there.
     stands: AtomicBool,
 }
 
@@ -39,17 +39,17 @@ pub struct Progress<'a, H: Clock + Eprint> {
 struct Course {
     stage: Stage,
     expected: u32,
-    // When their stage began, in milliseconds of the clock. None where it couldn't be read.
+    // When their stage began, in milliseconds of the clock. None if the clock couldn't be read.
     began: Option<u64>,
 }
 
-// What has been told of plans: of those that are run now, and of all where it says so.
+// What has been heard of plans: of those that are run now, and of all plans where a field says so.
 #[derive(Drop)]
 struct Counts {
     begun: AtomicU32,
     ended: AtomicU32,
     children: AtomicU32,
-    // Of all plans so far.
+    // For all plans so far.
     failing: AtomicU32,
 }
 
@@ -78,7 +78,7 @@ impl Counts {
 }
 
 impl<'a, H: Clock + Eprint> Progress<'a, H> {
-    /// A gate by this clock, before any work, that shows it in this form.
+    /// A gate by this clock that shows the work in this form. No work has begun.
     pub fn new(rt: &'a H, form: ProgressForm) -> Self {
         Progress {
             rt,
@@ -95,21 +95,21 @@ impl<'a, H: Clock + Eprint> Progress<'a, H> {
         }
     }
 
-    /// Clears the line that is written over, where one stands there. To be called where no work runs.
+    /// Clears the line that is written over, if it stands there. Call it when no work runs.
     pub fn clear(&self) {
         if self.stands.swap(false, Ordering::SeqCst) {
             let _ = self.rt.eprint(Shown::Nothing);
         }
     }
 
-    // A log has a line where a stage begins, however soon after the last one.
+    // A log has a line when a stage begins, however soon after the last line.
     fn begin_plain(&self) {
         if self.form == ProgressForm::Plain {
             self.due.store(0, Ordering::SeqCst);
         }
     }
 
-    // What the clock says, in milliseconds. None where it can't be read.
+    // What the clock says, in milliseconds. None if it can't be read.
     fn now(&self) -> Option<u64> {
         match self.rt.monotonic() {
             Ok(time) => Some(
@@ -162,7 +162,7 @@ impl<'a, H: Clock + Eprint> Progress<'a, H> {
         }
     }
 
-    // Writes this. Where standard error doesn't take it, that changes nothing.
+    // Writes this. If standard error doesn't take it, nothing else changes.
     fn write(&self, told: Told, now: u64) {
         let (shown, pause) = match self.form {
             ProgressForm::Off => return,

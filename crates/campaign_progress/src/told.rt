@@ -1,4 +1,4 @@
-//! What is told of how far the work is.
+//! The texts that say how far the work is.
 ghost use Rattle.std.specs.Prelude.{Some};
 ghost use Rattle.campaign_progress.specs.Line.{growth_text, standing_text, title_text, told_text};
 
@@ -14,19 +14,19 @@ pub struct Standing {
     pub begun: u32,
     /// How many there are.
     pub expected: u32,
-    /// How many plans fail of all that have ended, in this stage and before.
+    /// How many of the plans that have ended, in this stage and before, fail.
     pub failing: u32,
     pub pace: Pace,
-    /// How many plans of the next level have grown from those that have ended.
+    /// How many plans of the next level have grown from the plans that have ended.
     pub children: u32,
 }
 
-/// What is told of how far the work is.
+/// How far the work is.
 #[derive(Clone, Copy, Debug)]
 pub enum Told {
-    /// How far the plans of a stage are.
+    /// The plans of a stage.
     Plans(Standing),
-    /// How many tests have begun, of all reductions so far.
+    /// The tests of all reductions so far: how many have begun.
     Tests { begun: u32 },
 }
 

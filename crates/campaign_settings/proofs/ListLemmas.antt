@@ -36,7 +36,7 @@ module _ {X : Type 0} where
       → joined xs (all_in f (items_view (drop i vs))) ≡ None
   item-none f vs i d xs h e = rw (items_view-drop vs i d h, ← e)
 
-  -- all items are something where each is
+  -- all items are something if each is
   some-before : (a : Option X) (o : Option (List X)) → is_some (before a o) ≡ (is_some a && is_some o)
   some-before None o = refl
   some-before (Some x) None = refl
@@ -46,7 +46,7 @@ module _ {X : Type 0} where
   all-some f [] = refl
   all-some f (v ∷ vs) = rw (some-before (f (view v)) (all_in f (items_view vs)), ← all-some f vs)
 
-  -- what each item gives has a property where all that it may give has
+  -- what each item gives has a property if all that it may give has it
   pub before-fits : (P : X → Type 0) (a : Option X) (o : Option (List X)) (xs : List X) → ((x : X) → a ≡ Some x → P x) → ((ys : List X) → o ≡ Some ys → AllByRecursion P ys) → before a o ≡ Some xs → AllByRecursion P xs
   before-fits P None o xs p q e = cc
   before-fits P (Some x) None xs p q e = cc
@@ -68,7 +68,7 @@ module _ {X Y : Type 0} (f : Y → Option X) where
   pub each-none : (ys : List Y) (i : ℕ) (d : Y) (xs : List X) → i < length ys → None ≡ f (get_or ys i d) → joined xs (each f (drop i ys)) ≡ None
   each-none ys i d xs h e = rw (drop_more ys i d h, ← e)
 
-  -- all give something where each does
+  -- all give something if each does
   pub each-some : (ys : List Y) → list_all (λ y. is_some (f y)) ys ≡ is_some (each f ys)
   each-some [] = refl
   each-some (y ∷ ys) = rw (some-before (f y) (each f ys), ← each-some ys)

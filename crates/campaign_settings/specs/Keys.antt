@@ -1,4 +1,4 @@
--- The names of the settings' keys, and which table has which. The keys are this project's own.
+-- The names of the keys of settings, and which table has which keys. The names are this project's own.
 use Rattle.std.specs.Prelude.{◌||◌, ◌++◌, ℕ, Bool, false, List, [], ◌∷◌, Some, None, codes}
 use Rattle.std.specs.List.{list_any}
 use Rattle.std.specs.Str.{bytes_eq}
@@ -18,7 +18,7 @@ target_name Maildir = codes "maildir"
 target_name Commit = codes "commit"
 target_name Outside = codes "outside"
 
--- a key, with its table in front where it stands in a target's table
+-- The name of a key. If it stands in a target's table, the table's name comes first: `commit.participants`.
 abbrev pub key_name : Key → Text
 key_name key.Target = codes "target"
 key_name key.Variant = codes "variant"
@@ -44,21 +44,22 @@ key_name key.Points = codes "outside.points"
 key_name key.Hits = codes "outside.hits"
 key_name key.Kinds = codes "outside.kinds"
 
--- the keys of every target
+-- The keys that the settings of every target have.
 abbrev pub is_shared_key : Text → Bool
 is_shared_key name = list_any (bytes_eq name) (codes "target" ∷ codes "seed" ∷ codes "pairs" ∷ codes "storms" ∷ codes "rate"
     ∷ codes "depth" ∷ codes "scenarios" ∷ [])
 
--- what the program is told of a target that it runs itself; a target from outside has no variant, and somebody else runs it and cuts its power
+-- The keys for a target that the program runs itself. An outside target has no variant, and another program runs it and cuts its power.
 abbrev pub is_bundled_key : Text → Bool
 is_bundled_key name = list_any (bytes_eq name) (codes "variant" ∷ codes "workers" ∷ codes "max_hits" ∷ codes "crash_states" ∷ [])
 
--- the keys of a program with a target of its own, which says itself whether runs end with their power cut
+-- The keys for a program that brings its own target. It has no key for crash states, since the
+-- program decides itself whether runs end with a power cut.
 abbrev pub is_own_key : Text → Bool
 is_own_key name = list_any (bytes_eq name) (codes "seed" ∷ codes "workers" ∷ codes "max_hits" ∷ codes "pairs" ∷ codes "storms"
     ∷ codes "rate" ∷ codes "depth" ∷ codes "scenarios" ∷ [])
 
--- those of one whose target takes words
+-- The further keys if that target takes words.
 abbrev pub is_word_key : Text → Bool
 is_word_key name = list_any (bytes_eq name) (codes "variant" ∷ codes "own" ∷ [])
 
@@ -66,8 +67,8 @@ abbrev pub is_key_of : TargetName → Text → Bool
 is_key_of Outside name = is_shared_key name
 is_key_of target name = is_shared_key name || is_bundled_key name
 
--- whether the table has this key: the table of another target is unknown, and all are where the target is none of the four. The keys of the
--- table of kinds are points, which settings name themselves.
+-- Whether the table has this key. At the top the tables of other targets are unknown keys; if the target isn't one of the four, the tables of all
+-- targets are. The keys of the table `kinds` are points, whose names the settings choose, so no fixed name is known there.
 abbrev pub is_known : Place → Text → Bool
 is_known (Top None) name = is_shared_key name || is_bundled_key name
 is_known (Top (Some target)) name = is_key_of target name || bytes_eq name (target_name target)
@@ -80,7 +81,7 @@ is_known (Within Outside) name = list_any (bytes_eq name) (codes "label" ∷ cod
     ∷ codes "kinds" ∷ [])
 is_known Kinds name = false
 
--- a key of a table, with the table in front
+-- A key of a table, with the table's name first.
 abbrev pub full_name : Place → Text → Text
 full_name (Top target) name = name
 full_name Own name = name

@@ -1,4 +1,4 @@
--- The line of each refusal of the settings, without its line feed; the lines are this project's own.
+-- The line of each refusal of settings, without its line feed. The lines are this project's own.
 use Rattle.std.specs.Prelude.{◌++◌, codes, string_bytes}
 use Rattle.std.specs.Fmt.{decimal}
 use Rattle.scenario_grammar.specs.FaultText.{kind_text}

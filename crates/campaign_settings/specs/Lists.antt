@@ -1,4 +1,4 @@
--- Lists of texts in the data of a TOML text, and what they come to.
+-- Lists of texts in the data of a TOML text, and their meaning.
 use Rattle.std.specs.Prelude.{◌&&◌, ◌||◌, ◌==◌, ℕ, Bool, List, [], ◌∷◌, map, length, Option, Some, None, codes, nat_le, option_and_then, option_map, if◌then◌else◌}
 use Rattle.std.specs.List.{list_all}
 use Rattle.std.specs.Str.{bytes_eq}
@@ -9,17 +9,17 @@ use Rattle.commit_target.specs.declared.work.Vote.TheVariants.{Yes, No}
 
 -- ---- lists
 
--- one more at the front, or none where there is none
+-- The list with one more at the front; none if either is missing.
 abbrev pub before : {X : Type 0} → Option X → Option (List X) → Option (List X)
 before None rest = None
 before (Some x) rest = option_map (λ xs. x ∷ xs) rest
 
--- what each gives, or none where one gives none
+-- What f gives for each member; none if it gives none for one of them.
 abbrev pub each : {X Y : Type 0} → (X → Option Y) → List X → Option (List Y)
 each f [] = Some []
 each f (x ∷ xs) = before (f x) (each f xs)
 
--- what each item is, or none where an item is none
+-- What f gives for each item; none if it gives none for one of them.
 abbrev pub all_in : {X : Type 0} → (Data → Option X) → Items → Option (List X)
 all_in f no_items = Some []
 all_in f (item d ds) = before (f d) (all_in f ds)
@@ -33,9 +33,9 @@ list_in d = option_and_then texts_in (as_array d)
 abbrev pub lists_in : Items → Option (List (List Text))
 lists_in = all_in list_in
 
--- ---- what a list of texts comes to
+-- ---- the meaning of a list of texts
 
--- chunks: up to 1000, of up to 4096 bytes
+-- Chunks: up to 1000, of up to 4096 bytes each.
 abbrev pub is_chunk : Text → Bool
 is_chunk chunk = nat_le (length chunk) 4096
 
@@ -45,7 +45,7 @@ is_chunk_list chunks = nat_le (length chunks) 1000 && list_all is_chunk chunks
 abbrev pub chunks_of : List Text → Option (List Text)
 chunks_of texts = if is_chunk_list texts then Some texts else None
 
--- wishes: one for each participant
+-- Wishes: one for each participant, `yes` or `no`.
 abbrev pub is_wish : Text → Bool
 is_wish word = bytes_eq word (codes "yes") || bytes_eq word (codes "no")
 

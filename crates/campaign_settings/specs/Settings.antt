@@ -1,4 +1,4 @@
--- What the settings' text means: one definition, with the order in which its faults are looked for.
+-- The meaning of a settings text, as one definition that also fixes the order in which faults are looked for.
 use Rattle.std.specs.Prelude.{◌≡◌, ◌+◌, ◌≤◌, ◌&&◌, ℕ, Bool, false, List, [], ◌∷◌, length, Option, Some, None, IfSome, Result, Ok, Err, codes, is_some, nat_lt, replicate, string_bytes, if◌then◌else◌}
 use Rattle.std.specs.Cmp.Lexicographic.{slice_cmp}
 use Rattle.std.specs.List.{list_all}
@@ -46,24 +46,24 @@ pub data Cause : Type 0 where
 abbrev pub Read : Type 0 → Type 0
 Read X = Result X Cause
 
--- what comes next, where there is no fault before it
+-- What comes next, if there was no fault before it.
 abbrev pub after : {X Y : Type 0} → Read X → (X → Read Y) → Read Y
 after (Ok x) next = next x
 after (Err cause) next = Err cause
 
--- a key's value, or the key with its fault
+-- A key's value, or the key with its fault.
 abbrev pub keyed : {X : Type 0} → Key → Result X KeyFault → Read X
 keyed k (Ok x) = Ok x
 keyed k (Err f) = Err (wrong k f)
 
 -- ---- unknown keys
 
--- a key, or one that is less in byte order
+-- The lesser of two keys in byte order. The second may be missing.
 abbrev pub lesser : Text → Option Text → Text
 lesser name None = name
 lesser name (Some other) = match_ordering (slice_cmp nat_cmp name other) name name other
 
--- the least key of the members, in byte order, that isn't known
+-- The first in byte order of the members' keys that aren't known.
 abbrev pub least_unknown : (Text → Bool) → Members → Option Text
 least_unknown known no_members = None
 least_unknown known (member name d ms) =
@@ -76,32 +76,32 @@ all_known place (Some name) = Err (unknown place name)
 abbrev pub known_in : Place → Members → Read (Unit {0})
 known_in place ms = all_known place (least_unknown (is_known place) ms)
 
--- the top, with the target that is named
+-- The top of the settings, with the target that is named.
 abbrev pub top_of : Result TargetName KeyFault → Place
 top_of (Ok t) = Top (Some t)
 top_of (Err f) = Top None
 
 -- ---- listed scenarios
 
--- what the text of this number spells by the grammar of scenarios
+-- The scenario that text number i spells, or its fault with the number.
 abbrev pub listed_as : ℕ → Result Entries Fault → Read Entries
 listed_as i (Ok s) = Ok s
 listed_as i (Err f) = Err (listed i f)
 
--- what the texts spell, or the first that spells nothing, numbered from i
+-- The scenarios that these texts spell, or the fault of the first text that spells none. The texts are numbered from i.
 abbrev pub spelled_from : ℕ → List Text → Read (List Entries)
 spelled_from i [] = Ok []
 spelled_from i (t ∷ ts) =
     after (listed_as i (reading t)) (λ s.
     after (spelled_from (i + 1) ts) (λ rest. Ok (s ∷ rest)))
 
--- those that the target may be given
+-- The scenarios, if the target may be given them.
 abbrev pub allowed_for : Setup → List Entries → Read (List Entries)
 allowed_for setup.Outside scenarios =
     if list_all can_be_handed scenarios then Ok scenarios else Err (wrong key.Scenarios fault.OutOfRange)
 allowed_for s scenarios = Ok scenarios
 
--- those that are listed
+-- The listed scenarios.
 abbrev pub spelled_at : Option Data → Read (List Entries)
 spelled_at o = after (keyed key.Scenarios (texts_at 1000 o)) (spelled_from 0)
 
@@ -127,14 +127,15 @@ committing_in v ms =
     after (keyed key.Transactions (lists_at (wishes_of n) 100 (get_member (codes "transactions") ms))) (λ lists.
     Ok (choice.Commit v (record { participants = n; transactions = lists }))))
 
--- the faults that are tried at each of the points, by a table of points
+-- The faults that are tried at each of the points, by a table of points.
 abbrev pub kinds_by : List Text → Data → Read (List (List TriedFault))
 kinds_by points d =
     after (keyed key.Kinds (table_at (Some d))) (λ ms.
     after (all_known Kinds (least_unknown (is_one_of points) ms)) (λ _.
     keyed key.Kinds (kinds_in points ms)))
 
--- where none is given, the usual ones at each, told as none. Without a depth a table would be read by nothing.
+-- If no table is given, the list of each point is empty, which means the usual faults.
+-- Without a depth a table is refused, since nothing would read it.
 abbrev pub kinds_beside : Option ℕ → List Text → Option Data → Read (List (List TriedFault))
 kinds_beside depth points None = Ok (replicate (length points) [])
 kinds_beside None points (Some d) = Err (wrong key.Kinds fault.OutOfRange)
@@ -151,14 +152,14 @@ described_by depth label ms =
 abbrev pub describing_in : Option ℕ → Members → Read Choice
 describing_in depth ms = after (keyed key.Label (label_at (get_member (codes "label") ms))) (λ label. described_by depth label ms)
 
--- beside a depth, or without one
+-- The work that a target's table describes. For an outside target it depends on whether there is a depth.
 abbrev pub work_in : Setup → Option ℕ → Members → Read Choice
 work_in (setup.Replace v) depth ms = replacing_in v ms
 work_in (setup.Maildir v) depth ms = delivering_in v ms
 work_in (setup.Commit v) depth ms = committing_in v ms
 work_in setup.Outside depth ms = describing_in depth ms
 
--- in the table of the target's name, after its unknown keys
+-- The work from the table with the target's name. Unknown keys of the table are looked for first.
 abbrev pub choice_in : TargetName → Setup → Option ℕ → Members → Read Choice
 choice_in t s depth ms =
     after (keyed (key.Table t) (table_at (get_member (target_name t) ms))) (λ own.
@@ -166,7 +167,7 @@ choice_in t s depth ms =
 
 -- ---- numbers
 
--- how runs are made. Of a target from outside `workers` and `max_hits` are unknown keys: they are 1 and 1000 then, and mean nothing.
+-- How runs are made. For an outside target `workers` and `max_hits` are unknown keys: they get their defaults, which mean nothing.
 abbrev pub running_in : Members → Read Running
 running_in ms =
     after (keyed key.Seed (number_at (Ok defaults.plans.seed) 0 9223372036854775807 (get_member (codes "seed") ms))) (λ seed.
@@ -174,17 +175,17 @@ running_in ms =
     after (keyed key.MaxHits (number_at (Ok defaults.max_hits) 1 100000 (get_member (codes "max_hits") ms))) (λ max_hits.
     Ok (record { seed = seed; workers = workers; max_hits = max_hits }))))
 
--- up to how many faults each behaviour is tried with, which isn't asked for together with pairs
+-- Up to how many faults every run is tried with. Pairs can't be asked for together with a depth.
 abbrev pub depth_beside : Bool → Members → Read (Option ℕ)
 depth_beside pairs ms =
     after (keyed key.Depth (optional_at 1 64 (get_member (codes "depth") ms))) (λ depth.
     if is_some depth && pairs then Err (wrong key.Pairs fault.OutOfRange) else Ok depth)
 
--- whether a run's power cut asks what it keeps. Of a target from outside `crash_states` is an unknown key: it is false then.
+-- Whether the power cut of a run asks what it keeps. For an outside target `crash_states` is an unknown key, and the value is false.
 abbrev pub crash_states_in : Members → Read Bool
 crash_states_in ms = keyed key.CrashStates (boolean_at defaults.crash_states (get_member (codes "crash_states") ms))
 
--- which plans are made, besides those of one fault, and how their runs end
+-- Which plans are made in addition to those of one fault, and how their runs end.
 abbrev pub planning_in : Members → Read Planning
 planning_in ms =
     after (keyed key.Pairs (boolean_at defaults.plans.pairs (get_member (codes "pairs") ms))) (λ pairs.
@@ -194,7 +195,7 @@ planning_in ms =
     after (crash_states_in ms) (λ crash_states.
     Ok (record { pairs = pairs; storms = storms; rate = rate; depth = depth; crash_states = crash_states }))))))
 
--- the ranges of these numbers
+-- The ranges of these numbers.
 pub record IsRunning (r : Running) : Type 0 where
   pub seed : r.seed ≤ 9223372036854775807
   pub some_workers : 1 ≤ r.workers
@@ -209,7 +210,7 @@ pub record IsPlanning (p : Planning) : Type 0 where
   pub low_depth : IfSome p.depth (λ faults. faults ≤ 64)
   pub depth_without_pairs : IfSome p.depth (λ _. p.pairs ≡ false)
 
--- what a campaign is given, by these numbers and the listed scenarios, from no text yet
+-- What a campaign is given: these numbers and the listed scenarios, without the text that they were read from.
 abbrev pub campaign_of : Running → Planning → List Entries → Given
 campaign_of running planning scenarios = record {
   workers = running.workers;
@@ -228,7 +229,7 @@ campaign_of running planning scenarios = record {
 
 -- ---- the whole
 
--- the settings of a target, or their first fault in the order in which faults are looked for
+-- The settings of a target, or their first fault in the order in which faults are looked for.
 abbrev pub settings_for : TargetName → Members → Read Settings
 settings_for t ms =
     after (keyed key.Variant (setup_at t (get_member (codes "variant") ms))) (λ s.
@@ -238,13 +239,13 @@ settings_for t ms =
     after (choice_in t s planning.depth ms) (λ choice.
     Ok (record { choice = choice; campaign = campaign_of running planning scenarios }))))))
 
--- the same of the target that is named, after the unknown keys
+-- The same for the target that the settings name. Unknown keys are looked for first.
 abbrev pub settings_in : Members → Read Settings
 settings_in ms =
     after (known_in (top_of (target_at (get_member (codes "target") ms))) ms) (λ _.
     after (keyed key.Target (target_at (get_member (codes "target") ms))) (λ t. settings_for t ms))
 
--- the members of a text of TOML
+-- The members of a TOML text.
 abbrev pub parsed : Option Members → Read Members
 parsed None = Err not_toml
 parsed (Some ms) = Ok ms
@@ -252,17 +253,17 @@ parsed (Some ms) = Ok ms
 abbrev pub members_of : Text → Read Members
 members_of text = if nat_lt 1048576 (length text) then Err too_long else parsed (parse_document text)
 
--- the settings that were read from a text
+-- The settings with the text that they were read from.
 abbrev pub settings_from : Text → Settings → Settings
 settings_from text s = record { choice = s.choice; campaign = read_from text s.campaign }
 
--- a text's settings, or its first fault
+-- The settings of a text, or its first fault.
 abbrev pub settings_of : Text → Read Settings
 settings_of text = after (after (members_of text) settings_in) (λ s. Ok (settings_from text s))
 
 -- ---- refusals
 
--- the refusal is what is refused, or want of memory
+-- The refusal names the cause. It may also be that memory was refused.
 abbrev pub RefusedBy : {X : Type 0} → Read X → SettingsFault → Type 0
 RefusedBy r TooLong = r ≡ Err too_long
 RefusedBy r NotToml = r ≡ Err not_toml

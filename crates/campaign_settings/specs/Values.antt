@@ -1,4 +1,4 @@
--- What the value at one key means, by its kind and range.
+-- The meaning of the value of a single key, by its kind and range.
 use Rattle.std.specs.Prelude.{◌&&◌, ℕ, ℤ, pos, negsuc, Bool, List, [], length, Option, Some, None, Result, Ok, Err, codes, nat_le, if◌then◌else◌}
 use Rattle.std.specs.Option.{option_map_or}
 use Rattle.std.specs.Result.{result_map_both}
@@ -16,11 +16,11 @@ use Rattle.commit_target.specs.declared.variant.Variant.TheVariants as commit
 use Rattle.campaign_settings.specs.declared.choice.Setup.{Setup}
 use Rattle.campaign_settings.specs.declared.choice.Setup.TheVariants as setup
 
--- what is of the wrong type, or what its value gives
+-- What f makes of a value, or the fault that its type is wrong.
 abbrev pub typed : {X Y : Type 0} → (X → Result Y KeyFault) → Option X → Result Y KeyFault
 typed f o = option_map_or f o (Err WrongType)
 
--- a number from low to high, or what stands for it where there is none
+-- A number from low to high; and below, what it is if the key is missing.
 abbrev pub within : ℕ → ℕ → ℕ → Result ℕ KeyFault
 within low high n = if nat_le low n && nat_le n high then Ok n else Err OutOfRange
 
@@ -32,7 +32,7 @@ abbrev pub number_at : Result ℕ KeyFault → ℕ → ℕ → Option Data → R
 number_at missing low high None = missing
 number_at missing low high (Some d) = typed (in_range low high) (as_integer d)
 
--- the same, where there may be none
+-- The same for a number that may be missing.
 abbrev pub optional_at : ℕ → ℕ → Option Data → Result (Option ℕ) KeyFault
 optional_at low high None = Ok None
 optional_at low high (Some d) = result_map_both (λ n. Some n) (λ fault. fault) (number_at (Err Missing) low high (Some d))
@@ -41,7 +41,7 @@ abbrev pub boolean_at : Bool → Option Data → Result Bool KeyFault
 boolean_at missing None = Ok missing
 boolean_at missing (Some d) = typed (λ b. Ok b) (as_bool d)
 
--- one of the targets
+-- One of the targets.
 abbrev pub target_named : Text → Result TargetName KeyFault
 target_named name = if bytes_eq name (codes "replace") then Ok Replace
     else (if bytes_eq name (codes "maildir") then Ok Maildir
@@ -52,7 +52,7 @@ abbrev pub target_at : Option Data → Result TargetName KeyFault
 target_at None = Err Missing
 target_at (Some d) = typed target_named (as_str d)
 
--- one of the target's variants, which is `sound` where none is given
+-- One of the target's variants. It is `sound` if none is given.
 abbrev pub replace_named : Text → Result Setup KeyFault
 replace_named name = if bytes_eq name (codes "sound") then Ok (setup.Replace replace.Sound)
     else (if bytes_eq name (codes "late_sync") then Ok (setup.Replace replace.LateSync)
@@ -75,7 +75,7 @@ commit_named name = if bytes_eq name (codes "sound") then Ok (setup.Commit commi
     else (if bytes_eq name (codes "two_tries") then Ok (setup.Commit commit.TwoTries)
     else (if bytes_eq name (codes "end_first") then Ok (setup.Commit commit.EndFirst) else Err OutOfRange))))
 
--- a target from outside has none: its settings have no such key
+-- An outside target has no variants: its settings have no such key.
 abbrev pub setup_named : TargetName → Text → Result Setup KeyFault
 setup_named Replace name = replace_named name
 setup_named Maildir name = maildir_named name
@@ -86,35 +86,35 @@ abbrev pub setup_at : TargetName → Option Data → Result Setup KeyFault
 setup_at target None = setup_named target (codes "sound")
 setup_at target (Some d) = typed (setup_named target) (as_str d)
 
--- what is in its range
+-- A value that is in its range.
 abbrev pub ranged : {X : Type 0} → (X → Bool) → X → Result X KeyFault
 ranged fits x = if fits x then Ok x else Err OutOfRange
 
--- up to `most` of something
+-- A list of up to `most` members.
 abbrev pub at_most : {X : Type 0} → ℕ → List X → Result (List X) KeyFault
 at_most most xs = if nat_le (length xs) most then Ok xs else Err OutOfRange
 
--- up to `most` texts, and none where there is no list
+-- Up to `most` texts. If there is no list, there are none.
 abbrev pub texts_at : ℕ → Option Data → Result (List Text) KeyFault
 texts_at most None = Ok []
 texts_at most (Some d) = typed (λ ds. typed (at_most most) (texts_in ds)) (as_array d)
 
--- a text of up to `most` bytes, which has to be there
+-- A text of up to `most` bytes, which is required.
 abbrev pub text_at : ℕ → Option Data → Result Text KeyFault
 text_at most None = Err Missing
 text_at most (Some d) = typed (at_most most) (as_str d)
 
--- values that are each in their range, and all together
+-- Values that are each in their range, and whose list as a whole is in its range too.
 abbrev pub in_ranges : {X Y : Type 0} → (Y → Option X) → (List X → Result (List X) KeyFault) → List Y → Result (List X) KeyFault
 in_ranges f together ys = option_map_or together (each f ys) (Err OutOfRange)
 
--- up to `most` lists of texts, which have to be there, each in its range. The types of all are looked at before any range.
+-- Up to `most` lists of texts, each in its range, which are required. The types of all are checked before any range.
 
 abbrev pub lists_at : {X : Type 0} → (List Text → Option X) → ℕ → Option Data → Result (List X) KeyFault
 lists_at f most None = Err Missing
 lists_at f most (Some d) = typed (λ ds. typed (in_ranges f (at_most most)) (lists_in ds)) (as_array d)
 
--- a table, which has to be there
+-- A table, which is required.
 abbrev pub table_at : Option Data → Result Members KeyFault
 table_at None = Err Missing
 table_at (Some d) = typed (λ ms. Ok ms) (as_table d)

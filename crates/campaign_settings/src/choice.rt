@@ -1,9 +1,10 @@
+//! The target that settings choose.
 use campaign_given::Outside;
 use commit_target::Transactions;
 use file_replace::Replacements;
 use maildir_target::Messages;
 
-/// A bundled target with its variant, or one from outside, which has none.
+/// A bundled target with its variant, or a target from outside, which has no variant.
 #[derive(Clone, Copy)]
 pub enum Setup {
     Replace(file_replace::Variant),
@@ -12,7 +13,7 @@ pub enum Setup {
     Outside,
 }
 
-/// A bundled target with its variant and its workload, or one from outside.
+/// A bundled target with its variant and its workload, or a target from outside.
 #[derive(Drop)]
 pub enum Choice {
     /// Atomic replacement of a file.

@@ -131,7 +131,7 @@ fn copy_counts(alloc: Global, items: &Array) -> Result<Option<Vec<u32>>, AllocEr
     Ok(Some(counts))
 }
 
-// A count for each of so many points.
+// A count for each point.
 fn read_counts(
     alloc: Global,
     points: usize,
@@ -160,7 +160,7 @@ fn read_counts(
     Ok(counts)
 }
 
-// A count of 0 for each of so many points, where none may be given.
+// A count of 0 for each point, if no counts may be given.
 fn read_no_counts(
     alloc: Global,
     points: usize,
@@ -177,7 +177,7 @@ fn read_no_counts(
     Ok(vec![in alloc; 0u32; points]?)
 }
 
-// The counts of so many points, which have to be there without a depth, and may not beside one.
+// The counts of the points. Without a depth they have to be there; with one they may not.
 fn read_hits(
     alloc: Global,
     depth: Option<u32>,
@@ -221,7 +221,7 @@ fn read_described(
     }))
 }
 
-// The description of a component, beside a depth or without one.
+/// The description of a component, with a depth or without one.
 pub fn read_outside(
     alloc: Global,
     depth: Option<u32>,

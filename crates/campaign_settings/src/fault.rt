@@ -16,16 +16,16 @@ pub enum SettingsFault {
     TooLong,
     /// The text is no TOML.
     NotToml,
-    /// The least key, in byte order, that the table doesn't have.
+    /// A key that the table may not have: the least one, in byte order.
     UnknownKey(Place, String),
     /// A key that has to be there is missing.
     Missing(Key),
-    /// A value that isn't of its key's type.
+    /// A value isn't of its key's type.
     WrongType(Key),
-    /// A value of its key's type, but out of its range.
+    /// A value is of its key's type, but out of its range.
     OutOfRange(Key),
-    /// A listed scenario, numbered from 0, whose text spells none: what is wrong, in which piece and in which term, both numbered
-    /// from 1, as the grammar of scenarios tells it.
+    /// The text of a listed scenario, numbered from 0, spells none: what is wrong, in which piece and in which term, both numbered from 1, as
+    /// `scenario_grammar` reports it.
     Scenario {
         number: u32,
         kind: Kind,

@@ -1,4 +1,4 @@
-//! The keys of the settings, and which table has which.
+//! The keys of the settings, and which table has which of them.
 ghost use Rattle.std.specs.Prelude.{◌≡◌, Some};
 ghost use Rattle.std.specs.List.{list_any};
 ghost use Rattle.std.specs.Str.{bytes_eq};
@@ -7,7 +7,7 @@ ghost use Rattle.campaign_settings.specs.declared.keys.Place.TheVariants.{Within
 
 use std::fmt;
 
-/// A key of the settings. `Own` is the table of a target's own words, `Table` the key of a bundled target's table; those after it stand in
+/// A key of the settings. `Own` is the table of your own target's words. `Table` is the key of a bundled target's table; the keys after it stand in
 /// such a table.
 #[derive(Clone, Copy, Debug, PartialEq, Eq)]
 pub enum Key {
@@ -44,7 +44,7 @@ pub enum KeyFault {
     OutOfRange,
 }
 
-/// A target, as the settings name it: a bundled one, or one that somebody else runs.
+/// A target as settings name it: a bundled one, or a component that somebody else runs.
 #[derive(Clone, Copy, Debug, PartialEq, Eq)]
 pub enum TargetName {
     Replace,
@@ -53,8 +53,8 @@ pub enum TargetName {
     Outside,
 }
 
-/// A table of the settings: the whole, with the target that it names, or that of a program with a target of its own, which takes words or
-/// doesn't; or the table of the faults that are tried, in that of a target from outside; or the table of a target.
+/// A table of the settings: the whole text's, with the target that it names; the whole text's for a program with its own target, which takes words or
+/// doesn't; the table of the kinds of faults, within that of a target from outside; or the table of a target.
 #[derive(Clone, Copy, Debug)]
 pub enum Place {
     Top(Option<TargetName>),
@@ -79,7 +79,7 @@ impl TargetName {
 }
 
 impl Key {
-    /// The key as its fault's line has it.
+    /// The key as it stands in the line of its fault.
     pub fn name(self) -> &'static str
         ensures { result.now ≡ key_name self }
     {
@@ -128,7 +128,7 @@ impl fmt::Display for Key {
 }
 
 impl Place {
-    /// Whether a table has this key. The table of the faults that are tried has none of its own, as its keys are the settings' points.
+    /// Whether a table has this key. The table of the kinds of faults has none of these, as its keys are the settings' points.
     pub fn knows(self, name: &str) -> bool
         ensures { result ≡ is_known self name.now }
     {
@@ -149,6 +149,7 @@ fn stands_in(name: &str, names: &[&str]) -> bool
     names.iter().any(|other| name == *other)
 }
 
+/// Whether settings that name a target, bundled or from outside, have this key.
 fn is_shared_key(name: &str) -> bool
     ensures { result ≡ is_shared_key name.now }
 {
@@ -166,12 +167,14 @@ fn is_shared_key(name: &str) -> bool
     )
 }
 
+/// Whether the settings of a bundled target have this key besides.
 fn is_bundled_key(name: &str) -> bool
     ensures { result ≡ is_bundled_key name.now }
 {
     stands_in(name, &["variant", "workers", "max_hits", "crash_states"])
 }
 
+/// Whether the settings of your own target have this key.
 fn is_own_key(name: &str) -> bool
     ensures { result ≡ is_own_key name.now }
 {
@@ -190,12 +193,14 @@ fn is_own_key(name: &str) -> bool
     )
 }
 
+/// Whether the settings of your own target have this key besides, if it takes words.
 fn is_word_key(name: &str) -> bool
     ensures { result ≡ is_word_key name.now }
 {
     stands_in(name, &["variant", "own"])
 }
 
+/// Whether the settings of this target have this key at the top.
 fn is_key_of(target: TargetName, name: &str) -> bool
     ensures { result ≡ is_key_of target name.now }
 {
@@ -205,6 +210,7 @@ fn is_key_of(target: TargetName, name: &str) -> bool
     }
 }
 
+/// Whether the target's own table has this key.
 fn is_key_within(target: TargetName, name: &str) -> bool
     ensures { result ≡ is_known (Within target) name.now }
 {

@@ -1,4 +1,4 @@
-//! The faults that are tried at the points of a target from outside.
+//! The kinds of faults that are tried at the points of a target from outside.
 ghost use Rattle.std.specs.Prelude.{◌≡◌, Ok, IfOk, IfErr, OnOk, [], is_some, find, length, not, option_and_then, option_copied, option_map, replicate, string_bytes};
 ghost use Rattle.std.specs.List.{AllByRecursion, list_all};
 ghost use Rattle.std.specs.List.Sorted.{IsStrictlySortedBy};
@@ -32,7 +32,7 @@ fn without_parenthesis(text: &str) -> Option<&str>
     text.strip_suffix(')')
 }
 
-// What the parentheses of `return(..)` hold.
+// What stands in the parentheses of `return(..)`.
 fn text_of_return(spelled: &str) -> Option<&str>
     ensures { option_map (λ text. text.now) result ≡ text_of_return spelled.now }
 {
@@ -100,7 +100,7 @@ fn copy_faults(alloc: Global, spelled: &[Text]) -> Result<Option<TriedFaults>, A
     }
 }
 
-// The faults of a point, or none where the table has no list of faults for it. Where it has nothing, they are the usual ones.
+// The kinds of a point, or none if what the table has for it is no list of them. If the table has nothing for it, they are the usual ones.
 fn copy_tried(alloc: Global, table: &Table, point: &str) -> Result<Option<TriedFaults>, AllocError>
     ensures { IfOk result (λ r. r ≡ option_and_then faults_where (texts_for (table_view table.now) point.now)) }
 {
@@ -161,7 +161,7 @@ fn is_one_of(points: &[Text], name: &str) -> bool
     points.iter().any(|point| name == point.as_str())
 }
 
-// The first key of the table that is no point. Keys ascend.
+// The first key of the table that is no point. Keys are in ascending order.
 fn unknown_point<'a>(points: &[Text], table: &'a Table) -> Option<&'a String>
     ensures ordered { IsStrictlySortedBy string_cmp (keys_of table.now.entries) }
     ensures found { option_copied result ≡ find (λ name. not (is_one_of points.now (string_bytes name))) (keys_of table.now.entries) }
@@ -176,7 +176,7 @@ fn refuse_unknown_point(points: &[Text], table: &Table) -> Result<(), SettingsFa
     refuse_key(Place::Kinds, unknown_point(points, table))
 }
 
-// The faults at each of the points, in a table that has no other key.
+// The kinds at each of the points, from a table that has no other key.
 fn read_values(
     alloc: Global,
     points: &[Text],
@@ -211,7 +211,7 @@ fn read_kinds_table(
     read_values(alloc, points, table)
 }
 
-// The usual faults at so many points.
+// The usual kinds at each point.
 fn usual_kinds(alloc: Global, points: usize) -> Result<Vec<TriedFaults>, AllocError>
     ensures { IfOk result (λ kinds. kinds.items ≡ replicate points []) }
 {
@@ -222,7 +222,7 @@ fn usual_kinds(alloc: Global, points: usize) -> Result<Vec<TriedFaults>, AllocEr
     Ok(kinds)
 }
 
-// The faults that are tried at each of the points, which may be told beside a depth alone.
+/// The kinds that are tried at each of the points. Settings may give them only with a depth.
 pub fn read_kinds(
     alloc: Global,
     depth: Option<u32>,

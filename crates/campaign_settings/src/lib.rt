@@ -1,4 +1,5 @@
-//! The settings of a campaign, read from TOML, with the line of each fault.
+//! The settings of a campaign, read from TOML, or the first fault of the text, with the line that reports it. What is done by settings is no matter
+//! of this crate.
 #![tactic(auto)]
 
 mod choice;

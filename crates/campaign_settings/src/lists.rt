@@ -1,4 +1,4 @@
-//! Lists of texts at one key, and what they come to.
+//! Lists of texts at one key, and what is made of them.
 ghost use Rattle.std.specs.Prelude.{◌≡◌, ◌≤◌, Ok, Err, IfOk, IfErr, All, is_some, map, length, option_and_then, option_map};
 ghost use Rattle.std.specs.List.{list_all};
 ghost use Rattle.toml.specs.View.{array_view, view};
@@ -36,7 +36,7 @@ fn are_texts(items: &Array) -> bool
     all_texts(items.as_slice())
 }
 
-// Whether it is a list of texts.
+/// Whether it is a list of texts.
 pub fn is_text_list(item: &Value) -> bool
     ensures { result ≡ is_some (list_in (view item.now)) }
 {
@@ -60,7 +60,7 @@ fn are_text_lists(items: &Array) -> bool
 
 // ---- texts
 
-// The texts of a list, or none where an item is no text.
+/// The texts of a list, or none if an item is no text.
 pub fn copy_texts(alloc: Global, items: &Array) -> Result<Option<Vec<Text>>, AllocError>
     ensures { IfOk result (λ r. option_map (λ texts. texts.items) r ≡ texts_in (array_view items.now)) }
 {
@@ -74,7 +74,7 @@ pub fn copy_texts(alloc: Global, items: &Array) -> Result<Option<Vec<Text>>, All
     Ok(Some(texts))
 }
 
-// The same of a value, or none where it is no such list.
+/// The same for a value, or none if it is no such list.
 pub fn copy_list(alloc: Global, item: &Value) -> Result<Option<Vec<Text>>, AllocError>
     ensures { IfOk result (λ r. option_map (λ texts. texts.items) r ≡ list_in (view item.now)) }
 {
@@ -84,7 +84,7 @@ pub fn copy_list(alloc: Global, item: &Value) -> Result<Option<Vec<Text>>, Alloc
     }
 }
 
-// Up to `most` texts at a key; a key that is missing gives none.
+/// Up to `most` texts at a key. A missing key gives no texts.
 pub fn read_texts(
     alloc: Global,
     key: Key,
@@ -149,7 +149,7 @@ fn copy_chunk_lists(alloc: Global, items: &Array) -> Result<Option<Vec<Chunks>>,
     Ok(Some(lists))
 }
 
-// Up to 1000 lists of chunks at a key.
+/// Up to 1000 lists of chunks at a key.
 pub fn read_chunks(
     alloc: Global,
     key: Key,
@@ -243,7 +243,7 @@ fn copy_vote_lists(
     Ok(Some(lists))
 }
 
-// Up to 100 lists of wishes at a key, each with one for each participant.
+/// Up to 100 lists of wishes at a key, each with one wish for each participant.
 pub fn read_votes(
     alloc: Global,
     key: Key,

@@ -1,4 +1,4 @@
-//! The names that a target from outside has.
+//! The rules for the names of a target from outside.
 ghost use Rattle.std.specs.Prelude.{◌≡◌};
 ghost use Rattle.std.specs.List.{list_all, list_any};
 ghost use Rattle.std.specs.Str.{bytes_eq};
@@ -6,16 +6,17 @@ ghost use Rattle.campaign_given.specs.Description.{are_codes, are_distinct, are_
 
 use scenario_grammar::{Text, is_argument, is_name};
 
-// What a return says has at most so many bytes.
+// The most bytes of a return's text.
 const MOST_TEXT: usize = 32;
 
-// Whether a byte of the text is an ASCII control character.
+/// Whether a byte of the text is an ASCII control character.
 pub fn has_control(text: &str) -> bool
     ensures { result ≡ has_control text.now }
 {
     text.as_bytes().iter().any(|b| b.is_ascii_control())
 }
 
+/// Whether a target may have this label.
 pub fn is_label(text: &str) -> bool
     ensures { result ≡ is_label text.now }
 {
@@ -34,7 +35,7 @@ fn is_point(name: &str) -> bool
     is_name(name) && is_label(name)
 }
 
-// Whether a return may say this.
+/// Whether a return may have this text.
 pub fn is_return_text(text: &str) -> bool
     ensures { result ≡ is_return_text text.now }
 {
@@ -47,6 +48,7 @@ fn stands_in(name: &Text, names: &[Text]) -> bool
     names.iter().any(|other| other == name)
 }
 
+/// Whether no name stands twice.
 pub fn are_distinct(names: &[Text]) -> bool
     ensures { result ≡ are_distinct names.now }
 {
@@ -70,13 +72,14 @@ fn all_points(names: &[Text]) -> bool
     names.iter().all(|name| is_point(name.as_str()))
 }
 
-// The two rules for a list of names: as a target's codes, and as its catalogue.
+/// Whether these may be a target's codes: at most 64 distinct lawful names.
 pub fn are_codes(names: &[Text]) -> bool
     ensures { result ≡ are_codes names.now }
 {
     names.len() <= 64 && all_codes(names) && are_distinct(names)
 }
 
+/// Whether these may be a target's points: 1 to 64 distinct lawful names.
 pub fn are_points(names: &[Text]) -> bool
     ensures { result ≡ are_points names.now }
 {

@@ -15,7 +15,7 @@ use scenario_grammar::{Scenario, Text};
 use std::alloc::Global;
 use toml::Table;
 
-// How runs are made.
+/// How runs are made.
 #[derive(Clone, Copy)]
 pub struct Running {
     pub seed: u64,
@@ -23,7 +23,7 @@ pub struct Running {
     pub max_hits: u32,
 }
 
-// Which plans are made, and how their runs end.
+/// Which plans are made, and how their runs end.
 #[derive(Clone, Copy)]
 pub struct Planning {
     pub pairs: bool,
@@ -33,6 +33,7 @@ pub struct Planning {
     pub crash_states: bool,
 }
 
+/// How runs are made, from the table of the settings.
 pub fn read_running(table: &Table) -> Result<Running, SettingsFault>
     ensures ok { IfOk result (λ running. running_in (table_view table.now) ≡ Ok running) }
     ensures ranges { IfOk result IsRunning }
@@ -66,6 +67,7 @@ pub fn read_running(table: &Table) -> Result<Running, SettingsFault>
     })
 }
 
+/// Which plans are made, from the table of the settings.
 pub fn read_planning(table: &Table) -> Result<Planning, SettingsFault>
     ensures ok { IfOk result (λ planning. planning_in (table_view table.now) ≡ Ok planning) }
     ensures ranges { IfOk result IsPlanning }
@@ -95,7 +97,7 @@ pub fn read_planning(table: &Table) -> Result<Planning, SettingsFault>
     })
 }
 
-// Up to how many faults each behaviour is tried with, beside pairs or not.
+// The depth. With pairs there may be none.
 fn read_depth(pairs: bool, table: &Table) -> Result<Option<u32>, SettingsFault>
     ensures ok { IfOk result (λ depth. depth_beside pairs (table_view table.now) ≡ Ok depth) }
     ensures low { IfOk result (λ depth. IfSome depth (λ faults. 1 ≤ faults)) }
@@ -110,7 +112,7 @@ fn read_depth(pairs: bool, table: &Table) -> Result<Option<u32>, SettingsFault>
     Ok(depth)
 }
 
-// Whether a run's power cut asks what it keeps.
+// Whether the power cut at the end of a run asks what it keeps.
 fn read_crash_states(table: &Table) -> Result<bool, SettingsFault>
     ensures ok { IfOk result (λ crash_states. crash_states_in (table_view table.now) ≡ Ok crash_states) }
     ensures refused { IfErr result (RefusedBy (crash_states_in (table_view table.now))) }
@@ -121,7 +123,7 @@ fn read_crash_states(table: &Table) -> Result<bool, SettingsFault>
     )
 }
 
-// The settings of a campaign, by these numbers and its listed scenarios, from no text yet.
+/// The settings of a campaign from these numbers and its listed scenarios. They have no text yet.
 pub fn campaign_of(
     alloc: Global,
     running: Running,

@@ -1,4 +1,4 @@
-//! The words that settings have for a target that a program brings itself: its variant, and the table `own`.
+//! The words that settings have for a program's own target: its variant, and the table `own`.
 ghost use Rattle.std.specs.Prelude.{◌≡◌, Ok, IfOk, IfErr, option_map, option_copied};
 ghost use Rattle.toml.specs.View.{table_view, view};
 ghost use Rattle.campaign_settings.specs.Own.{own_table, own_value, variant_at, words_at};
@@ -29,8 +29,8 @@ pub struct OwnWord {
     pub value: OwnValue,
 }
 
-/// What settings say of a target that a program brings itself, for the program to make its target and its workload of: the variant that is
-/// named, and the table `own`. What the words mean, and which are refused, is the program's.
+/// What settings say about a program's own target: the variant that they name, and the table `own`. The program makes its target and its workload
+/// from these. It decides what the words mean, and which it refuses.
 #[derive(Debug, Drop)]
 pub struct OwnWords {
     variant: Option<Text>,
@@ -45,7 +45,7 @@ impl Model for OwnWords {
     ghost view = { λ words. record { variant = words.variant; table = words.table.items } };
 }
 
-/// What a text of settings gives to a program that brings a target with words.
+/// What a text of settings gives to a program whose own target takes words.
 #[derive(Drop)]
 pub struct OwnSettings {
     pub words: OwnWords,
@@ -70,7 +70,7 @@ impl OwnWords {
         }
     }
 
-    /// The words of the table, in the order of their names' bytes where a text of settings gave them.
+    /// The words of the table. If they come from a text of settings, they are in the order of their names' bytes.
     pub fn table(&self) -> &[OwnWord]
         ensures { result.now ≡ self.now.table }
     {
@@ -90,7 +90,7 @@ impl OwnWords {
     }
 }
 
-// The variant that is named, if one is.
+/// The variant that is named, if one is.
 pub fn read_variant(alloc: Global, value: Option<&Value>) -> Result<Option<Text>, SettingsFault>
     ensures ok { IfOk result (λ variant. keyed key.Variant (variant_at (option_map (λ v. view v.now) value.entry)) ≡ Ok variant) }
     ensures refused { IfErr result (RefusedBy (keyed key.Variant (variant_at (option_map (λ v. view v.now) value.entry)))) }
@@ -116,7 +116,7 @@ fn copy_value(alloc: Global, value: &Value) -> Result<Option<OwnValue>, AllocErr
     Ok(Some(value))
 }
 
-// The words of a table, or none where a value is no word.
+// The words of a table, or none if a value is no word.
 fn copy_table(alloc: Global, table: &Table) -> Result<Option<Vec<OwnWord>>, AllocError>
     ensures { IfOk result (λ r. option_map (λ words. words.items) r ≡ own_table (table_view table.now)) }
 {
@@ -131,7 +131,7 @@ fn copy_table(alloc: Global, table: &Table) -> Result<Option<Vec<OwnWord>>, Allo
     Ok(Some(words))
 }
 
-// The table of words. One that is missing has none.
+/// The table of words. A missing table has none.
 pub fn read_words(alloc: Global, value: Option<&Value>) -> Result<Vec<OwnWord>, SettingsFault>
     ensures ok { IfOk result (λ words. keyed key.Own (words_at (option_map (λ v. view v.now) value.entry)) ≡ Ok words.items) }
     ensures refused { IfErr result (RefusedBy (keyed key.Own (words_at (option_map (λ v. view v.now) value.entry)))) }

@@ -21,11 +21,14 @@ use toml::Table;
 pub const LIMIT: usize = 1048576;
 
 impl Settings {
-    /// The settings that a text of TOML gives. `Err` is the first fault of the text, in this order: too long, no TOML, an unknown key at the
-    /// top, each key as [`Key`] lists them, and in the target's table its unknown key before its keys; or that memory ran out. Pairs beside a
-    /// depth are out of range: that comes after the depth's own fault, and before the keys behind it. Of a target from outside the hits have to
-    /// be there without a depth; beside one any are out of range, as answers tell them, and each count is 0. Beside one alone the faults that
-    /// are tried may be there, a table of points with lists of `return`, `return(TEXT)` and `panic`; its unknown key comes before its values.
+    /// The settings that a text of TOML gives. `Err` is the first fault of the text, or that memory was refused. Faults are looked for in this order:
+    /// too long; no TOML; an unknown key at the top; each key as [`Key`] lists them. In the target's table its unknown key comes before its keys.
+    ///
+    /// Pairs with a depth are out of range; that comes after the depth's own fault, and before the keys behind it.
+    ///
+    /// A target from outside needs its hits if there is no depth. With a depth any hits are out of range, as answers give them, and each count is 0.
+    /// Only with a depth may it have the kinds of faults, a table of points with lists of `return`, `return(TEXT)` and `panic`; the table's unknown
+    /// key comes before its values.
     pub fn read(alloc: Global, text: &str) -> Result<Settings, SettingsFault>
         ensures ok { IfOk result (λ settings. settings_of text.now ≡ Ok settings) }
         ensures refused { IfErr result (RefusedBy (settings_of text.now)) }
@@ -36,10 +39,11 @@ impl Settings {
         Ok(Settings { choice, campaign })
     }
 
-    /// The settings that a text of TOML gives to a program that brings its own target: the keys are those of a bundled target but `target`,
-    /// `variant`, `crash_states` and the target's table. Whether runs end with their power cut the program says itself, by `WithCut`. `Err` is the
-    /// first fault of the text, in this order: too long, no TOML, an unknown key, each key as [`Key`] lists them, where pairs beside a depth are
-    /// out of range, after the depth's own fault; or that memory ran out.
+    /// The settings that a text of TOML gives to a program that brings its own target. The keys are those for a bundled target, without `target`,
+    /// `variant`, `crash_states` and the target's table. The program itself says by `WithCut` whether runs end with their power cut.
+    ///
+    /// `Err` is the first fault of the text, or that memory was refused. Faults are looked for in this order: too long; no TOML; an unknown key; each
+    /// key as [`Key`] lists them. Pairs with a depth are out of range, after the depth's own fault.
     pub fn read_own(alloc: Global, text: &str) -> Result<CampaignSettings, SettingsFault>
         ensures ok { IfOk result (λ settings. own_settings_of text.now ≡ Ok settings) }
         ensures refused { IfErr result (RefusedBy (own_settings_of text.now)) }
@@ -49,9 +53,9 @@ impl Settings {
         Ok(campaign.read_from(Text::copy_of(alloc, text)?))
     }
 
-    /// The same of a program whose target takes words: beside the keys of `read_own` there may be a `variant`, a text, and a table `own` of
-    /// texts, whole numbers and flags under any names. `Err` is the first fault of the text in the order of `read_own`, where the variant
-    /// comes before all other keys and the table after them; a value of the table that is no word is of the wrong type.
+    /// The same for a program whose target takes words. Beside the keys of `read_own` there may be a `variant`, a text, and a table `own` of texts,
+    /// whole numbers and flags under any names. `Err` is the first fault of the text in the order of `read_own`, with the variant before all other
+    /// keys and the table after them. A value of the table that is no word is of the wrong type.
     pub fn read_worded(alloc: Global, text: &str) -> Result<OwnSettings, SettingsFault>
         ensures ok { IfOk result (λ settings. worded_settings_of text.now ≡ Ok settings) }
         ensures refused { IfErr result (RefusedBy (worded_settings_of text.now)) }

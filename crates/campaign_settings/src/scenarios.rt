@@ -15,7 +15,7 @@ use scenario_grammar::{Scenario, ScenarioFault, Term, Text, parse, print};
 use std::alloc::{AllocError, Global};
 use toml::Value;
 
-// The scenarios at a key, which the target may be given.
+/// The scenarios at a key; only if the target may have some.
 pub fn read_scenarios(
     alloc: Global,
     setup: Setup,
@@ -30,7 +30,7 @@ pub fn read_scenarios(
     Ok(scenarios)
 }
 
-// The scenarios at a key.
+/// The scenarios at a key.
 pub fn read_listed(alloc: Global, value: Option<&Value>) -> Result<Vec<Scenario>, SettingsFault>
     ensures ok { IfOk result (λ scenarios. spelled_at (option_map (λ v. view v.now) value.entry) ≡ Ok scenarios.items) }
     ensures few { IfOk result (λ scenarios. length scenarios.items ≤ 1000) }
@@ -40,7 +40,7 @@ pub fn read_listed(alloc: Global, value: Option<&Value>) -> Result<Vec<Scenario>
     parse_all(alloc, texts.as_slice())
 }
 
-// What a text spells, listed under this number.
+// The scenario that a text spells, listed under this number.
 fn parse_one(alloc: Global, number: u32, text: &Text) -> Result<Scenario, SettingsFault>
     ensures ok { IfOk result (λ scenario. listed_as number (reading text.now) ≡ Ok scenario) }
     ensures refused { IfErr result (RefusedBy (listed_as number (reading text.now))) }
@@ -72,7 +72,7 @@ fn parse_all(alloc: Global, texts: &[Text]) -> Result<Vec<Scenario>, SettingsFau
     Ok(scenarios)
 }
 
-// Refuses scenarios that the target may not be given.
+// Refuses scenarios if the target may not have any.
 fn refuse_unfit(alloc: Global, setup: Setup, scenarios: &[Scenario]) -> Result<(), SettingsFault>
     ensures ok { OnOk result (allowed_for setup scenarios.now ≡ Ok scenarios.now) }
     ensures refused { IfErr result (RefusedBy (allowed_for setup scenarios.now)) }
@@ -100,6 +100,7 @@ fn all_can_be_handed(alloc: Global, scenarios: &[Scenario]) -> Result<bool, Allo
     Ok(true)
 }
 
+/// Whether a scenario may be handed to a component that somebody else runs: nothing in it is drawn, and its text has no control character.
 fn can_be_handed(alloc: Global, scenario: &Scenario) -> Result<bool, AllocError>
     ensures { IfOk result (λ can. can ≡ can_be_handed scenario.now) }
 {
@@ -110,6 +111,7 @@ fn can_be_handed(alloc: Global, scenario: &Scenario) -> Result<bool, AllocError>
     Ok(!has_control(text.as_str()))
 }
 
+/// Whether no term of a scenario draws a word.
 fn are_certain(scenario: &Scenario) -> bool
     ensures { result ≡ are_certain scenario.now }
 {
@@ -126,6 +128,7 @@ fn is_certain_chain(terms: &[Term]) -> bool
     terms.iter().all(|term| is_certain(term))
 }
 
+/// Whether a term draws no word: its share is 0 or full.
 fn is_certain(term: &Term) -> bool
     ensures { result ≡ is_certain term.now }
 {

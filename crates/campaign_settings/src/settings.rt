@@ -3,7 +3,7 @@
 use crate::choice::Choice;
 use campaign_given::CampaignSettings;
 
-/// The target that settings name, and the campaign that it is to go through.
+/// The target that settings name, and the settings of its campaign.
 #[derive(Drop)]
 pub struct Settings {
     pub choice: Choice,

@@ -20,7 +20,7 @@ use scenario_grammar::Text;
 use std::alloc::Global;
 use toml::Table;
 
-// A key's value, or the key with its fault.
+/// A key's value, or the key with its fault.
 pub fn keyed<X>(key: Key, value: Result<X, KeyFault>) -> Result<X, SettingsFault>
     ensures ok { IfOk result (λ x. value ≡ Ok x) }
     ensures refused { IfErr result (RefusedBy (keyed key value)) }
@@ -33,7 +33,7 @@ pub fn keyed<X>(key: Key, value: Result<X, KeyFault>) -> Result<X, SettingsFault
     }
 }
 
-// Refuses the least key that the table doesn't have.
+/// Refuses the least key that the table doesn't have.
 pub fn refuse_unknown(alloc: Global, place: Place, table: &Table) -> Result<(), SettingsFault>
     ensures ok { OnOk result (known_in place (table_view table.now) ≡ Ok tt) }
     ensures refused { IfErr result (RefusedBy (known_in place (table_view table.now))) }
@@ -41,7 +41,7 @@ pub fn refuse_unknown(alloc: Global, place: Place, table: &Table) -> Result<(), 
     refuse_key(place, unknown_key(place, table))
 }
 
-// Refuses an unknown key, if there is one.
+/// Refuses an unknown key, if there is one.
 pub fn refuse_key(place: Place, name: Option<&String>) -> Result<(), SettingsFault>
     ensures ok { OnOk result (all_known place (option_map (λ n. string_bytes n.now) name.entry) ≡ Ok tt) }
     ensures refused { IfErr result (RefusedBy (all_known place (option_map (λ n. string_bytes n.now) name.entry))) }
@@ -104,7 +104,7 @@ fn read_commit(
     Ok(Choice::Commit(variant, Transactions::new(participants, transactions)))
 }
 
-// What the target's table says, where it has no unknown key, beside a depth or without one.
+// What the target's table says, if it has no unknown key, with a depth or without one.
 fn read_work(
     alloc: Global,
     setup: Setup,
@@ -122,7 +122,7 @@ fn read_work(
     }
 }
 
-// In the table of the target's name.
+/// In the table of the target's name.
 pub fn read_choice(
     alloc: Global,
     target: TargetName,

@@ -8,13 +8,14 @@ use crate::choice::Setup;
 use crate::keys::{KeyFault, TargetName};
 use toml::{Table, Value};
 
-// The value at a key.
+/// The value at a key.
 pub fn value_at<'a>(table: &'a Table, key: &str) -> Option<&'a Value>
     ensures { option_map (λ value. view value.now) result ≡ get_member key.now (table_view table.now) }
 {
     table.get(key)
 }
 
+/// A number of TOML, if it is in a range.
 fn ranged(number: i64, low: u64, high: u64) -> Result<u64, KeyFault>
     ensures { result ≡ in_range low high number }
 {
@@ -34,7 +35,7 @@ fn within(number: u64, low: u64, high: u64) -> Result<u64, KeyFault>
     }
 }
 
-// A number at a key, from low to high.
+/// A number at a key, from low to high.
 pub fn read_number(
     value: Option<&Value>,
     missing: Result<u64, KeyFault>,
@@ -56,7 +57,7 @@ pub fn read_number(
     }
 }
 
-// The same at a key that may be missing.
+/// The same for a key that may be missing.
 pub fn read_optional(value: Option<&Value>, low: u32, high: u32) -> Result<Option<u32>, KeyFault>
     ensures value { result ≡ optional_at low high (option_map (λ v. view v.now) value.entry) }
     ensures low { IfOk result (λ number. IfSome number (λ n. low ≤ n)) }
@@ -69,6 +70,7 @@ pub fn read_optional(value: Option<&Value>, low: u32, high: u32) -> Result<Optio
     Ok(Some(number as u32))
 }
 
+/// A flag at a key; `missing` if the key is missing.
 pub fn read_boolean(value: Option<&Value>, missing: bool) -> Result<bool, KeyFault>
     ensures { result ≡ boolean_at missing (option_map (λ v. view v.now) value.entry) }
 {
@@ -81,6 +83,7 @@ pub fn read_boolean(value: Option<&Value>, missing: bool) -> Result<bool, KeyFau
     }
 }
 
+/// The target that is named at a key.
 pub fn read_target(value: Option<&Value>) -> Result<TargetName, KeyFault>
     ensures { result ≡ target_at (option_map (λ v. view v.now) value.entry) }
 {
@@ -105,6 +108,7 @@ fn target_named(name: &str) -> Result<TargetName, KeyFault>
     }
 }
 
+/// The variant of a target, named at a key; `sound` if the key is missing.
 pub fn read_setup(target: TargetName, value: Option<&Value>) -> Result<Setup, KeyFault>
     ensures { result ≡ setup_at target (option_map (λ v. view v.now) value.entry) }
 {
@@ -171,6 +175,7 @@ fn commit_named(name: &str) -> Result<Setup, KeyFault>
     Ok(Setup::Commit(variant))
 }
 
+/// The table at a key, lent.
 pub fn read_table<'a>(value: Option<&'a Value>) -> Result<&'a Table, KeyFault>
     ensures ok { IfOk result (λ table. table_at (option_map (λ v. view v.now) value.entry) ≡ Ok (table_view table.now)) }
     ensures refused { IfErr result (λ fault. table_at (option_map (λ v. view v.now) value.entry) ≡ Err fault) }
@@ -184,7 +189,7 @@ pub fn read_table<'a>(value: Option<&'a Value>) -> Result<&'a Table, KeyFault>
     }
 }
 
-// A text, lent.
+/// A text, lent.
 pub fn read_text<'a>(value: Option<&'a Value>, most: usize) -> Result<&'a str, KeyFault>
     ensures ok { IfOk result (λ text. text_at most (option_map (λ v. view v.now) value.entry) ≡ Ok text.now) }
     ensures refused { IfErr result (λ fault. text_at most (option_map (λ v. view v.now) value.entry) ≡ Err fault) }

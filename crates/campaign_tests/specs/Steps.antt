@@ -1,4 +1,4 @@
--- What a meeting asks: its two points, one after the other, and nothing after a halt. Two Returns break the promise.
+-- What a meeting asks: its two points one after the other, and nothing after a halt. Two returns break the promise.
 use Rattle.std.specs.Prelude.{ℕ, List, [], ◌∷◌, ◌++◌, codes}
 use Rattle.std.proofs.Common.{arith}
 use Rattle.action_eval.specs.Answers.{Reply, Go, Return, Halt}
@@ -18,7 +18,7 @@ asks_of (Return text ∷ (Go ∷ rest)) = Done Kept
 asks_of (Return text ∷ (Halt ∷ rest)) = Done Kept
 asks_of (Return text ∷ (Return other ∷ rest)) = Done (Broken 0)
 
--- each question is of one of the two points
+-- Each question is about one of the two points.
 pub asks-within : (answers : List Reply) → IsWithin 2 (asks_of answers)
 asks-within [] = omega arith
 asks-within (Halt ∷ rest) = tt
@@ -29,7 +29,7 @@ asks-within (Return text ∷ (Go ∷ rest)) = tt
 asks-within (Return text ∷ (Halt ∷ rest)) = tt
 asks-within (Return text ∷ (Return other ∷ rest)) = tt
 
--- none follows a halt
+-- No question follows a halt.
 pub asks-halts : (before after : List Reply) → IsDone (asks_of (before ++ Halt ∷ after))
 asks-halts [] after = tt
 asks-halts (Halt ∷ rest) after = tt

@@ -12,7 +12,8 @@ point_names = codes "three::a" ∷ codes "three::b" ∷ codes "three::c" ∷ []
 abbrev pub code_text : ℕ → List ℕ
 code_text code = if code == 0 then codes "outer" else (if code == 1 then codes "cut" else codes "inner")
 
--- the judgement by the answers of the three points: the outer ones fail; the inner one fails, and the run halts after it; it fails alone
+-- The judgement, by the answers of the three points. The promise is broken if the outer points fail, if the inner one fails and the run halts after
+-- it, or if the inner one fails alone.
 abbrev pub judged : Reply → Reply → Reply → Judgement
 judged (Return a) b (Return c) = Broken 0
 judged Go (Return b) Halt = Broken 1
@@ -43,7 +44,7 @@ within_second a (Go ∷ (c ∷ rest)) = tt
 within_second a (Return text ∷ []) = omega arith
 within_second a (Return text ∷ (c ∷ rest)) = tt
 
--- each question is of one of the three points
+-- Each question is about one of the three points.
 pub asks-within : (answers : List Reply) → IsWithin 3 (asks_of answers)
 asks-within [] = omega arith
 asks-within (Halt ∷ rest) = tt
@@ -58,7 +59,7 @@ halts_second a (Go ∷ (c ∷ rest)) after = tt
 halts_second a (Return text ∷ []) after = tt
 halts_second a (Return text ∷ (c ∷ rest)) after = tt
 
--- none follows a halt
+-- No question follows a halt.
 pub asks-halts : (before after : List Reply) → IsDone (asks_of (before ++ Halt ∷ after))
 asks-halts [] after = tt
 asks-halts (Halt ∷ rest) after = tt

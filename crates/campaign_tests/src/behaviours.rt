@@ -4,7 +4,7 @@ use crate::trees::{Component, Node};
 use std::alloc::{AllocError, Global};
 use target_trait::{Judgement, Verdict};
 
-/// What a hit is answered.
+/// The answer to a hit.
 #[derive(Clone, Copy, Debug, PartialEq, Eq)]
 pub enum Reply {
     Go,
@@ -12,7 +12,7 @@ pub enum Reply {
     Halt,
 }
 
-/// A hit of a point, its number among the hits of that point, from 1, and its answer. A fault acts at it where it isn't answered `Go`.
+/// A hit of a point, its number among the hits of that point, from 1, and its answer. A fault acts at it if it isn't answered `Go`.
 #[derive(Clone, Copy, Debug, PartialEq, Eq)]
 pub struct Hit {
     pub point: u32,
@@ -20,14 +20,14 @@ pub struct Hit {
     pub reply: Reply,
 }
 
-/// What a component did, hit by hit, and what that comes to.
+/// What a component did, hit by hit, and the verdict.
 #[derive(Debug, Drop)]
 pub struct Behaviour {
     pub hits: Vec<Hit>,
     pub verdict: Verdict,
 }
 
-/// How hits of a point are answered from one of its hits up to another, or from then on.
+/// How the hits of a point are answered, from one of its hits up to another, or from then on.
 #[derive(Clone, Copy, Debug, PartialEq, Eq)]
 pub struct Fault {
     pub point: u32,
@@ -37,7 +37,7 @@ pub struct Fault {
 }
 
 impl Fault {
-    /// That which acted at a hit.
+    /// The fault that acted at a hit.
     pub fn at(hit: &Hit) -> Self {
         Fault {
             point: hit.point,
@@ -87,7 +87,7 @@ fn verdict_of(judgement: Judgement) -> Verdict {
     }
 }
 
-/// What a behaviour comes to that is over at a node: what is judged there, and unresolved where the node still asks.
+/// The verdict of a behaviour that is over at a node: what is judged there; unresolved if the node still asks.
 fn verdict_at(node: Node) -> Verdict {
     match node {
         Node::End(judgement) => verdict_of(judgement),
@@ -155,7 +155,7 @@ pub fn all_behaviours(
     Ok(all)
 }
 
-/// How these faults answer a hit of a point; where none of them is there for it, it goes on.
+/// How these faults answer a hit of a point. If none of them is there for the hit, it goes on.
 fn reply_by(faults: &[Fault], point: u32, ordinal: u32) -> Reply {
     for fault in faults {
         if fault.meets(point, ordinal) {
@@ -165,7 +165,7 @@ fn reply_by(faults: &[Fault], point: u32, ordinal: u32) -> Reply {
     Reply::Go
 }
 
-/// What a component comes to whose hits these faults answer.
+/// The verdict of a component whose hits these faults answer.
 pub fn verdict_by(component: &Component<'_>, faults: &[Fault]) -> Verdict {
     let mut counts = [0, 0];
     let mut at = component.root;

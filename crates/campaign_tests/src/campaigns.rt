@@ -27,8 +27,8 @@ verdict 6 pass
 first none
 ";
 
-// The two points make plan 7, where both fail, and plan 8, where the run halts at the second. The reduction of plan 7 tests no fault, the
-// first and the second.
+// The two points make plan 7, in which both fail, and plan 8, in which the run halts at the second. The reduction of plan 7 tests three sets: no
+// fault, the first, and the second.
 const PAIR_FAILS: &str = "target meet
 seed 7
 clean pass
@@ -80,7 +80,7 @@ fn meets<R: Threads + Wait + Clock + Sync + Abort>(
 }
 
 // Refuses the wrong bodies all_work_on_one_thread and every_worker_leaves_at_once: for the plans, since the first run that waits would wait in vain;
-// and, with probe_asked_under_the_lock, in the reduction, where two tests of one fault meet inside their runs.
+// and, with probe_asked_under_the_lock, in the reduction, in which two tests of one fault meet inside their runs.
 #[test]
 fn runs_meet_and_one_that_waits_for_nobody_writes_the_same(rt: HostRuntime) -> Result<(), Fail> {
     for (waits, pairs, report, runs) in [

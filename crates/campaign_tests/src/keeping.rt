@@ -13,23 +13,23 @@ use target_trait::Verdict;
 pub enum Promise {
     /// Each behaviour in which at most as many faults act as the depth says is that of exactly one number of the levels, with its verdict.
     NothingSkipped,
-    /// There are as many numbers as is told, and no two have the same behaviour.
+    /// There are as many numbers as the report says, and no two have the same behaviour.
     NothingTwice,
     /// Each behaviour in which fewer faults act and then, from one hit on, all of its point return is that of exactly one number.
     FromThenOn,
-    /// Where no plan lies beyond, each behaviour is that of exactly one number of the levels.
+    /// If no plan lies beyond, each behaviour is that of exactly one number of the levels.
     Whole,
     /// Each code with which a number fails has exactly one finding.
     EachIsFound,
-    /// A finding is the least number with its code, and reduced to what fails so, and doesn't without any one of its faults.
+    /// A finding is the least number with its code; what it is reduced to fails with the code, and doesn't without any one of its faults.
     IsReduced,
-    /// A finding of the levels keeps every fault, and nothing fails so in which fewer act.
+    /// A finding of the levels keeps every fault, and no behaviour in which fewer act fails with its code.
     IsFewest,
     /// Each number of the levels that fails has a listed cause, by faults among its own.
     IsCaused,
     /// A cause fails with its code, and one of the levels doesn't without any one of its faults.
     IsCause,
-    /// What is told of a point is the most hits of it in any behaviour that is told.
+    /// The number that is printed of a point is the most hits of it in the behaviour of a number.
     IsReached,
     /// At each number of a level as many faults act as the level's number says, and the level after the last one would have as many as `beyond` says.
     HasSizes,
@@ -49,7 +49,7 @@ pub const PROMISES: [Promise; 11] = [
     Promise::HasSizes,
 ];
 
-/// A component with all its behaviours, and what is told of it.
+/// A component with all its behaviours, and what its report says.
 #[derive(Drop)]
 struct Checked<'a> {
     component: &'a Component<'a>,
@@ -345,7 +345,7 @@ impl Checked<'_> {
     }
 }
 
-/// The promises that what is told of a component doesn't keep, by a look at all its behaviours.
+/// The promises that a component's report breaks, found by looking at all its behaviours.
 pub fn broken_promises(
     alloc: Global,
     component: &Component<'_>,

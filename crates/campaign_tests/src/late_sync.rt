@@ -1,4 +1,4 @@
-//! A campaign that finds a failure: a file of `old` that is replaced once, by the chunks `ne` and `w`, where the sync comes after the rename.
+//! A campaign that finds a failure: a file of `old` is replaced once, by the chunks `ne` and `w`, and the sync comes after the rename.
 
 /// Its settings.
 pub const LATE_SYNC: &str = "target = \"replace\"

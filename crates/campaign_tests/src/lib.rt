@@ -1,10 +1,10 @@
-//! Tests of whole campaigns that only a caller of the library can make: on targets of the test's own, over readers and writers that go
-//! wrong, and with workers that meet; of the values that settings give; and of what runs over such workloads leave. What the program shows of
-//! campaigns, settings and runs, the sessions of tests/ and examples/ have.
+//! Tests of whole campaigns that only a caller of the library can make: on targets of the test's own, over readers and writers that go wrong, and
+//! with workers that meet; of the values that settings give; and of what runs over such workloads leave. What the program shows of campaigns,
+//! settings and runs is tested by the sessions of tests/ and by examples/.
 //!
-//! Each expected text was worked out by hand from the documents of the formats and of the targets. That workers overlap no proof shows: they
-//! meet at the gate, and in the runs of a target that waits for another run. That the definitions of what a report to a depth promises say what is
-//! meant no proof shows either: a slow program checks the promises over components that are enumerated.
+//! Each expected text was worked out by hand from the documents of the formats and of the targets. No proof shows that workers overlap: here they
+//! meet at the gate, and in the runs of a target that waits for another run. Nor does a proof show that the definitions of what a report to a depth
+//! promises say what is meant: a slow program checks the promises over components that are enumerated.
 #![tactic(auto)]
 
 #[cfg(test)]
@@ -51,5 +51,7 @@ mod three_codes;
 mod told;
 #[cfg(test)]
 mod trees;
+#[cfg(test)]
+mod unlawful;
 #[cfg(test)]
 mod writing;

@@ -1,4 +1,4 @@
-//! Judgements of a mail box that no variant's run leaves.
+//! Judgements of a mailbox that no variant's run leaves.
 
 use crate::given::read;
 use campaign_main::Choice;
@@ -12,10 +12,10 @@ const TORN: Judgement = Judgement::Broken(0);
 
 const LOST: Judgement = Judgement::Broken(1);
 
-/// The second attempt at the first message, delivered: 4 for each message, 2 for the second attempt, and 1 for where it is delivered.
+/// The second attempt at the first message, delivered: 4 for each message, 2 for the second attempt, and 1 for the folder `new`.
 const DELIVERED: u32 = 7;
 
-/// A device, on which that holds these bytes if they are some. They last, and the name lasts where it says so.
+/// A device on which this name holds these bytes, if there are some. They last, and the name lasts if `lasts` says so.
 fn device(alloc: Global, delivered: Option<&[u8]>, lasts: bool) -> Result<FileDevice, DeviceFault> {
     let mut device = FileDevice::new(alloc);
     if let Some(bytes) = delivered {

@@ -1,4 +1,4 @@
-//! A campaign of so many plans that workers take them in rows: what the gate is told of them, and the report.
+//! A campaign of so many plans that workers take them in rows: what the gate hears of them, and the report.
 ghost use Rattle.std.specs.Prelude.{◌≤◌};
 
 use crate::running::{reported, settings};
@@ -31,8 +31,8 @@ fn failing_in(text: &[u8]) -> u64 {
     failing
 }
 
-/// The report of so many workers, whose gate has seen each plan once and how many fail. Plan 4, where the inner point fails alone, is the first
-/// failure.
+/// The report from this many workers, whose gate has seen each plan once and how many fail. The first failure is plan 4, in which the inner point
+/// fails alone.
 fn counted_report<R: Threads + Wait + Sync + Abort>(
     rt: &R,
     alloc: Global,

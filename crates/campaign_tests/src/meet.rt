@@ -40,7 +40,7 @@ impl Meeting {
     }
 }
 
-/// A target of two points, each of which may fail alone, and not both. A run where one does meets the next such run.
+/// A target of two points, each of which may fail alone, but not both. A run in which one fails meets the next such run.
 #[derive(Drop)]
 pub struct Meet<'a, R: Clock> {
     pub rt: &'a R,

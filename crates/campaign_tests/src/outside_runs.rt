@@ -171,7 +171,7 @@ reduced three::a=50%return;three::b=50%off;three::c=50%return
 tests 10
 ";
 
-/// So many copies of a scenario that draws a word at each point.
+/// This many copies of a scenario that draws a word at each point.
 fn draws(alloc: Global, count: usize) -> Result<Vec<Scenario>, Fail>
     ensures { IfOk result (λ scenarios. length scenarios.items ≡ count) }
 {
@@ -196,7 +196,7 @@ fn a_finding_is_reduced_under_its_own_stream(rt: HostRuntime) -> Result<(), Fail
     Ok(())
 }
 
-/// What `try_one` answers and writes for a scenario on the target that is always broken.
+/// What `try_one` returns and writes for a scenario on the target that is always broken.
 #[test]
 fn a_broken_target_is_found_by_one_try(rt: HostRuntime) -> Result<(), Fail> {
     let alloc = rt.alloc();

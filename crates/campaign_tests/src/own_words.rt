@@ -1,4 +1,4 @@
-//! The words of a target that a program brings itself: what settings give of them, and with which line they are refused.
+//! The words of a program's own target: what settings give of them, and with which line they are refused.
 
 use campaign_main::{
     Exit, Out, OwnSettings, OwnValue, OwnWords, Settings, read_own_settings, refuse_own_words,

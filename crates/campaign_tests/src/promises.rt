@@ -1,9 +1,9 @@
 //! What reports to a depth promise, checked over components that are enumerated whole, and over some that are drawn: a slow program walks all
 //! behaviours of a component, and knows nothing of how plans grow.
 //!
-//! As the component `a[kept, a[kept, broken 1, kept], kept]`, which asks a point once more where it returned, and keeps its promise else. To depth 1
-//! the report tells the run without faults, that of a return and that of a panic; one plan lies beyond for a return and one for a panic of the
-//! second hit; and the return from then on is the only number that fails.
+//! For example the component `a[kept, a[kept, broken 1, kept], kept]` asks a point once more if that returned; if it returns again, it breaks its
+//! promise, and otherwise it keeps it. To depth 1 the report has the run without faults, that of a return and that of a panic. One plan lies beyond
+//! for a return and one for a panic of the second hit. The sticky return is the only number that fails.
 
 use crate::behaviours::{Behaviour, Fault, Reply};
 use crate::keeping::{Promise, broken_promises};
@@ -21,7 +21,7 @@ use target_trait::{Judgement, Verdict};
 /// How components of a forest are tried.
 #[derive(Clone, Copy)]
 struct Trial {
-    /// The first one that is tried, and how far on the next one is, each time.
+    /// The first component that is tried, and how far on the next one is, each time.
     first: usize,
     step: usize,
     depth: u32,
@@ -30,7 +30,7 @@ struct Trial {
     source: Source,
 }
 
-/// What is told of a component to a depth keeps what is promised.
+/// The report of a component to a depth keeps its promises.
 fn keeps_promises<R: Threads + Wait + Sync + Abort>(
     rt: &R,
     alloc: Global,
@@ -52,7 +52,7 @@ fn keeps_promises<R: Threads + Wait + Sync + Abort>(
     Ok(())
 }
 
-/// What is told of the components of a forest keeps what is promised.
+/// The reports of the components of a forest keep their promises.
 fn keep_promises<R: Threads + Wait + Sync + Abort>(
     rt: &R,
     alloc: Global,
@@ -71,7 +71,7 @@ fn keep_promises<R: Threads + Wait + Sync + Abort>(
     Ok(())
 }
 
-/// All of a forest is tried, with panics at both points.
+/// Tries all components of a forest, with panics at both points.
 fn all(depth: u32, limit: u32, source: Source) -> Trial {
     Trial {
         first: 0,
@@ -94,7 +94,7 @@ fn try_two_hits<R: Threads + Wait + Sync + Abort>(
     keep_promises(rt, alloc, &forest, trial)
 }
 
-/// Components of up to three hits that differ where at most one fault acts.
+/// Components of up to three hits that differ as far as at most one fault acts.
 fn try_three_hits<R: Threads + Wait + Sync + Abort>(
     rt: &R,
     alloc: Global,
@@ -132,7 +132,7 @@ fn try_drawn<R: Threads + Wait + Sync + Abort>(
     Ok(())
 }
 
-/// Each component of two points there is where one hit is answered.
+/// Each component of two points, if one hit is answered.
 #[test]
 fn reports_of_all_components_of_limit_1(rt: HostRuntime) -> Result<(), Fail> {
     let alloc = rt.alloc();
@@ -220,7 +220,7 @@ fn reports_of_drawn_components(rt: HostRuntime) -> Result<(), Fail> {
     try_drawn(&rt, rt.alloc(), 8, 150, Source::Report)
 }
 
-/// A node that keeps its promise where it panics.
+/// A node that keeps its promise if it panics.
 fn ask(point: u32, goes: usize, returns: usize) -> Node {
     Node::Ask {
         point,
@@ -230,8 +230,9 @@ fn ask(point: u32, goes: usize, returns: usize) -> Node {
     }
 }
 
-/// A component whose report to depth 2 has all that can be told wrong. It goes on at a and then at b, and keeps its promise. A return of b breaks it
-/// with code 2, after one more hit of b. After each return of a it asks that once more, and the fourth return breaks it with code 1.
+/// A component whose report to depth 2 has every fact that can be wrong. It goes on at a and then at b, and keeps its promise. A return of b breaks
+/// the promise with code 2, after one more hit of b. After each return of a it asks a once more, and the fourth return breaks the promise with code
+/// 1.
 fn rich_nodes() -> [Node; 9] {
     [
         Node::End(Judgement::Kept),
@@ -266,9 +267,10 @@ fn return_of(point: u32, last: Option<u32>) -> Fault {
     }
 }
 
-/// Number 0 has no fault. 1 to 4 have one, a return of a, a panic of a, a return of b and a panic of b. A return of a leads to one more hit of a, which
-/// returns in 5 and panics in 6; a return of b to one more of b, in 7 and 8. In 9 the second hit of a returns as in 5, and all further ones; and of
-/// 5 the third hit of a could return or panic, which is beyond. 3 fails with code 2, and so does 7, by that fault alone; 9 fails with code 1.
+/// Number 0 has no fault. 1 to 4 have one, a return of a, a panic of a, a return of b and a panic of b. A return of a leads to one more hit of a,
+/// which returns in 5 and panics in 6; a return of b leads to one more of b, in 7 and 8. In 9 the second hit of a returns as in 5, and so do all
+/// further ones. In the run of 5 the third hit of a could return or panic too: these are beyond. 3 fails with code 2, and so does 7, by that fault
+/// alone; 9 fails with code 1.
 fn is_worked_out<R: Abort>(rt: &R, told: &Told) -> Result<(), Fail> {
     let Some(findings) = &told.findings else {
         return Err(Fail::from("no findings"));
@@ -288,7 +290,7 @@ fn is_worked_out<R: Abort>(rt: &R, told: &Told) -> Result<(), Fail> {
     Ok(())
 }
 
-/// A fact of that report, told wrong.
+/// A fact of that report, made wrong.
 #[derive(Clone, Copy, Debug)]
 enum Wrong {
     Nothing,
@@ -311,7 +313,7 @@ enum Wrong {
     ReducedToAnother,
     VerdictOfAnother,
     NumberSkipped,
-    /// The number from then on is left out, with all that is told of it.
+    /// The number with a sticky fault is left out, with everything that the report says of it.
     OnwardSkipped,
     NumberTwice,
 }
@@ -347,7 +349,7 @@ const WRONG: [(Wrong, &[Promise]); 18] = [
     (Wrong::NumberTwice, &[Promise::NothingTwice]),
 ];
 
-/// Tells a fact of the causes, sizes or numbers wrong.
+/// Makes a fact of the causes, sizes or numbers wrong.
 fn spoil(alloc: Global, told: &mut Told, wrong: Wrong) -> Result<(), AllocError> {
     match wrong {
         Wrong::CauseLeftOut => {
@@ -382,7 +384,7 @@ fn spoil(alloc: Global, told: &mut Told, wrong: Wrong) -> Result<(), AllocError>
     Ok(())
 }
 
-/// Tells a fact of the findings wrong.
+/// Makes a fact of the findings wrong.
 fn spoil_findings(
     alloc: Global,
     findings: &mut Vec<Finding>,
@@ -415,8 +417,8 @@ fn spoil_findings(
     Ok(())
 }
 
-/// The facts of one report are those that were worked out by hand, and keep each promise. Each fact that is told wrong breaks the promises that it is
-/// of, and no other one.
+/// The facts of one report are those that were worked out by hand, and keep each promise. Each fact that is made wrong breaks the promises that it
+/// belongs to, and no other.
 #[test]
 fn each_wrong_fact_is_found(rt: HostRuntime) -> Result<(), Fail> {
     let alloc = rt.alloc();
@@ -440,8 +442,8 @@ fn each_wrong_fact_is_found(rt: HostRuntime) -> Result<(), Fail> {
 }
 
 /// A component that asks b and then a, whose third return breaks its promise, whatever b did. Numbers 1 to 4 have a return of b, a panic of b, a return
-/// of a and a panic of a. 5 to 8 have one fault more, and no return of a more than two. 9 is 5, a return of b and of a, with a from then on, and
-/// 10 is 7, two returns of a, with a from then on. Both fail, and 9 without its return of b too: that is left out, and it is no cause.
+/// of a and a panic of a. 5 to 8 have one fault more, and no return of a more than two. 9 is 5, a return of b and one of a, with the one of a sticky,
+/// and 10 is 7, two returns of a, with the second one sticky. Both fail. 9 fails without its return of b too, so that is left out, and 9 is no cause.
 #[test]
 fn a_fault_that_is_not_needed_is_left_out(rt: HostRuntime) -> Result<(), Fail> {
     let alloc = rt.alloc();

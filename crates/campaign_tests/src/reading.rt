@@ -14,7 +14,7 @@ fn letters(alloc: Global, count: usize) -> Result<Vec<u8>, AllocError> {
     vec![in alloc; b'#'; count]
 }
 
-/// What a campaign comes to over settings that are read a byte at a time, where one read fails.
+/// What a campaign comes to if its settings are read a byte at a time and one read fails.
 fn torn<H: Threads + Wait + Sync>(rt: &H, alloc: Global, bytes: &[u8], fails_at: u32) -> Answered {
     let mut reader = Torn {
         bytes,
@@ -54,7 +54,7 @@ fn reads_on_after_short_reads(rt: HostRuntime) {
     has_ended(&rt, &did, Exit::Found, LATE_SYNC_REPORT.as_bytes(), b"");
 }
 
-/// How many bytes a text has that is read from so many.
+/// How many bytes the text has that is read from this many.
 fn length(alloc: Global, count: usize) -> Result<Result<usize, ReadFault>, AllocError> {
     let bytes = letters(alloc, count)?;
     Ok(read_all(alloc, &mut bytes.as_slice()).map(|text| text.len()))

@@ -1,4 +1,4 @@
-//! What is told of settings and words that can't be read, since memory is refused.
+//! The lines about settings and words that can't be read because memory is refused.
 
 use campaign_main::{Exit, Out, unreadable_settings, unreadable_words};
 use std::io::{Error, ErrorKind};

@@ -6,13 +6,13 @@ use std::alloc::Global;
 use std::test::Fail;
 use target_trait::Verdict;
 
-/// What the lines of a report tell of verdicts, before the runs tell of behaviours.
+/// What the lines of a report say of verdicts, before the runs give the behaviours.
 #[derive(Drop)]
 pub struct Lines {
     pub told: Told,
     pub verdicts: Vec<Verdict>,
     pub findings: Vec<Finding>,
-    /// How many plans and causes the lines of their counts tell.
+    /// How many plans and causes there are by the lines of their counts.
     plans: u32,
     causes: u32,
 }
@@ -49,7 +49,7 @@ fn point_in(name: &str) -> Result<u32, Fail> {
     }
 }
 
-/// What the task of a term answers; nothing where it lets hits go on.
+/// What the task of a term answers; nothing if it lets hits go on.
 fn reply_in(task: &str) -> Result<Option<Reply>, Fail> {
     match task {
         "off" => Ok(None),
@@ -59,7 +59,8 @@ fn reply_in(task: &str) -> Result<Option<Reply>, Fail> {
     }
 }
 
-/// Adds the faults at a point, which stand in a chain: each term is there for the next so many hits, and one without a count for all further ones.
+/// Adds the faults at a point, which stand in a chain: each term is there for as many of the next hits as its count says, and a term without a count
+/// for all further hits.
 fn add_chain(faults: &mut Vec<Fault>, point: u32, chain: &str) -> Result<(), Fail> {
     let mut first = 1;
     for term in chain.split("->") {
@@ -173,7 +174,7 @@ impl Lines {
         Ok(())
     }
 
-    /// Whether as many plans and causes stand there as the lines of their counts tell.
+    /// Whether there are as many plans and causes as the lines of their counts say.
     fn has_its_counts(&self) -> bool {
         self.verdicts.len() == self.plans as usize && self.told.causes.len() == self.causes as usize
     }
@@ -189,7 +190,7 @@ fn words_of(line: &str) -> [&str; 4] {
     first
 }
 
-/// What the lines of a report tell.
+/// What the lines of a report say.
 pub fn read_report(alloc: Global, text: &str) -> Result<Lines, Fail> {
     let mut lines = Lines::new(alloc, 0);
     for line in text.lines() {

@@ -11,7 +11,7 @@ use std::thread::Threads;
 use target_trait::{Out, Target};
 use work_gate::Gate;
 
-/// Seed 7, and else what holds where nothing is given.
+/// Seed 7, and otherwise the defaults.
 pub fn settings(
     alloc: Global,
     workers: u32,

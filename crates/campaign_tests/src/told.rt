@@ -1,4 +1,4 @@
-//! What a report of a campaign with a depth tells, and beside it the behaviour of each number, from a run of its plan's scenario.
+//! What a report of a campaign with a depth says, and beside it the behaviour of each number, from a run of its plan's scenario.
 
 use crate::behaviours::{Behaviour, Fault, Hit, Reply, hits_of};
 use crate::report_lines::{Lines, read_report};
@@ -22,7 +22,7 @@ use work_gate::FreeGate;
 /// The seed of all campaigns. No run here takes a random word.
 const SEED: u64 = 7;
 
-/// From what it is told.
+/// The source of the facts.
 #[derive(Clone, Copy, Debug, PartialEq, Eq)]
 pub enum Source {
     /// From the lines of a report.
@@ -31,7 +31,7 @@ pub enum Source {
     Growth,
 }
 
-/// What a report tells of a code: the least number that fails with it, and what that is reduced to.
+/// What a report says of a code: the least number that fails with it, and what that is reduced to.
 #[derive(Drop)]
 pub struct Finding {
     pub number: u32,
@@ -39,7 +39,7 @@ pub struct Finding {
     pub reduced: Vec<Fault>,
 }
 
-/// What a report to a depth tells.
+/// What a report to a depth says.
 #[derive(Drop)]
 pub struct Told {
     pub depth: u32,
@@ -51,13 +51,13 @@ pub struct Told {
     pub reached: Vec<u32>,
     /// By their numbers, with the verdicts of the report.
     pub behaviours: Vec<Behaviour>,
-    /// `None` where there is no report.
+    /// `None` if there is no report.
     pub findings: Option<Vec<Finding>>,
     /// The numbers of the causes, with their codes.
     pub causes: Vec<(u32, u32)>,
 }
 
-/// Nothing is told yet.
+/// No facts yet.
 pub fn nothing(alloc: Global, depth: u32) -> Told {
     Told {
         depth,
@@ -128,7 +128,7 @@ fn grown_scenario<T: Target>(
     scenario_of(alloc, T::catalogue(), rigs.as_slice())
 }
 
-/// Adds the behaviour of each number, by a run of the scenario of its plan, which has to come to the verdict that is told of it.
+/// Adds the behaviour of each number, by a run of its plan's scenario. The run has to come to the number's verdict.
 fn add_behaviours<T: Target<Workload = ()>>(
     alloc: Global,
     told: &mut Told,
@@ -217,7 +217,7 @@ fn report_of<T: Target<Workload = ()> + Send, R: Threads + Wait + Sync>(
     }
 }
 
-/// What a report tells of plans that grew.
+/// What a report says of plans that grew.
 fn told_in(lines: Lines) -> (Told, Vec<Verdict>) {
     let Lines {
         mut told,
@@ -229,7 +229,7 @@ fn told_in(lines: Lines) -> (Told, Vec<Verdict>) {
     (told, verdicts)
 }
 
-/// What is told of plans that grew without a report.
+/// What is known of plans that grew without a report.
 fn told_by(alloc: Global, grown: &Grown, depth: u32) -> Result<(Told, Vec<Verdict>), AllocError> {
     let mut told = nothing(alloc, depth);
     told.levels.extend_from_slice(grown.list.levels.as_slice())?;
@@ -242,7 +242,7 @@ fn told_by(alloc: Global, grown: &Grown, depth: u32) -> Result<(Told, Vec<Verdic
     Ok((told, verdicts))
 }
 
-/// What is told of a target.
+/// The facts of a target's campaign.
 fn told_of_target<T: Target<Workload = ()> + Send, R: Threads + Wait + Sync>(
     rt: &R,
     alloc: Global,
@@ -267,7 +267,7 @@ fn told_of_target<T: Target<Workload = ()> + Send, R: Threads + Wait + Sync>(
     Ok(told)
 }
 
-/// What is told of a component to a depth.
+/// The facts of a component's campaign to a depth.
 pub fn told_of<R: Threads + Wait + Sync>(
     rt: &R,
     alloc: Global,

@@ -9,7 +9,8 @@ use target_trait::{Answer, Judgement, Session, Target};
 pub enum Node {
     /// It is at its end.
     End(Judgement),
-    /// It asks a point. Where that goes on and where it returns are the places of two nodes; where it panics the component is at its end.
+    /// It asks a point. Two nodes, by their places, say what comes next if the hit goes on and if it returns. If it panics, the component is at its
+    /// end.
     Ask {
         point: u32,
         goes: usize,
@@ -27,7 +28,7 @@ pub struct Component<'a> {
     pub nodes: &'a [Node],
     pub root: usize,
     pub limit: u32,
-    /// Whether returns alone are tried at the second point, as where a power cut asks what it keeps.
+    /// Whether returns alone are tried at the second point, as at the point of a power cut.
     pub has_cut: bool,
 }
 
@@ -46,7 +47,8 @@ impl Component<'_> {
         point == 0 || !self.has_cut
     }
 
-    /// Appends what it does from a node on, as `a[b[kept, broken 1, kept], kept, kept]`: what it asks, and where that goes on, returns and panics.
+    /// Appends what it does from a node on, as `a[b[kept, broken 1, kept], kept, kept]`: the point that it asks, and what comes if that goes on,
+    /// returns or panics.
     pub fn write(&self, out: &mut String, at: usize) -> Result<(), AllocError> {
         match self.nodes[at] {
             Node::End(judgement) => write_judgement(out, judgement),
@@ -151,7 +153,7 @@ const ENDS: [Node; 3] = [
     Node::End(Judgement::Broken(2)),
 ];
 
-/// How a component ends where its first panic acts, in each way.
+/// The ways in which a component may end when its first panic acts.
 const PANICS: [Judgement; 2] = [Judgement::Kept, Judgement::Broken(1)];
 
 /// A forest, and the places of the trees that are tried.
@@ -188,8 +190,8 @@ fn add_asks(
     Ok(())
 }
 
-/// All trees of up to so many hits, each node of which is an end, kept or broken with code 1, or asks one of two points: 18 of one hit, 1298 of
-/// two.
+/// All trees of up to this many hits. Each node is an end, kept or broken with code 1, or asks one of two points. There are 18 trees of one hit, and
+/// 1298 of two.
 pub fn all_trees(alloc: Global, hits: u32) -> Result<Forest, AllocError> {
     let mut nodes = Vec::from_slice(alloc, &ENDS)?;
     let mut roots = Vec::from_slice(alloc, &[0, 1])?;
@@ -202,7 +204,7 @@ pub fn all_trees(alloc: Global, hits: u32) -> Result<Forest, AllocError> {
     Ok(Forest { nodes, roots })
 }
 
-/// The trees of one hit that differ in what they would ask next, or how they end: where the limit is one hit, each component is one of these 66.
+/// The trees of one hit that differ in what they would ask next, or in how they end. If the limit is one hit, each component is one of these 66.
 pub fn trees_of_limit_1(alloc: Global) -> Result<Forest, AllocError> {
     let mut nodes = Vec::from_slice(alloc, &ENDS)?;
     let mut next = Vec::from_slice(alloc, &[0, 1])?;
@@ -213,8 +215,8 @@ pub fn trees_of_limit_1(alloc: Global) -> Result<Forest, AllocError> {
     Ok(Forest { nodes, roots })
 }
 
-/// The trees of up to so many hits that differ only where at most one fault acts: after a return they ask on, a further return is broken with code 2
-/// there, and a panic keeps all. There are 18 of one hit, 434 of two, and 24306 of three.
+/// The trees of up to this many hits that differ only as far as at most one fault acts: after a return they ask on, a further return breaks the
+/// promise with code 2, and a panic keeps it. There are 18 trees of one hit, 434 of two, and 24306 of three.
 pub fn trees_of_one_fault(alloc: Global, hits: u32) -> Result<Forest, AllocError> {
     let mut nodes = Vec::from_slice(alloc, &ENDS)?;
     let mut after = Vec::from_slice(alloc, &[0, 1])?;
@@ -266,7 +268,7 @@ impl Draws {
         }
     }
 
-    /// Adds a tree of up to so many hits, and answers its place. A node is an end in one of eight cases.
+    /// Adds a tree of up to this many hits, and returns its place. A node is an end in one of eight cases.
     pub fn add_tree(&mut self, nodes: &mut Vec<Node>, hits: u32) -> Result<usize, AllocError> {
         let node = if hits == 0 || self.below(8) == 0 {
             Node::End(self.judgement())

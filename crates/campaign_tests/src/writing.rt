@@ -20,7 +20,7 @@ fn written<H: Threads + Wait + Sync>(
     answer(rt, alloc, order, &mut LATE_SYNC.as_bytes(), writer)
 }
 
-/// The output ends after this text, and the fault tells so.
+/// The output ends after this text, and the fault says so.
 fn ends_after(rt: &impl Abort, alloc: Global, did: &Answered, text: &[u8]) -> Result<(), Fail> {
     let written = text.len();
     assert!(rt; did.has_failed);
@@ -78,7 +78,7 @@ fn narrow_writer_gets_the_whole_report(rt: HostRuntime) {
     has_ended(&rt, &did, Exit::Found, LATE_SYNC_REPORT.as_bytes(), b"");
 }
 
-/// The end of a command that is refused, where its line can't be written.
+/// The end of a command that is refused and whose line can't be written.
 #[test]
 fn a_line_that_cannot_be_written_changes_no_end(rt: HostRuntime) {
     let mut output = Out::new(Vec::new(rt.alloc()));

@@ -1,3 +1,4 @@
+//! Text in chunks.
 ghost use Rattle.std.specs.Prelude.{◌≡◌, ◌-◌, ◌<◌, ◌≤◌, IfOk, length, take, drop, slice_index_or, []};
 ghost use Rattle.std.specs.Str.{bytes_eq};
 ghost use Rattle.chunked_text.specs.Chunks.{IsChunks, joined, half};
@@ -7,13 +8,13 @@ use scenario_values::Text;
 use std::alloc::{AllocError, Global};
 use std::marker::Model;
 
-/// A text in chunks: at most 1,000 of at most 4,096 bytes, each of which is written by a step of its own. Contracts see the list of the chunks.
+/// A text in at most 1,000 chunks of at most 4,096 bytes. Each chunk is written by a step of its own. Contracts see the list of the chunks.
 ///
 /// The bytes of any run of chunks are one slice.
 #[derive(Debug, Drop)]
 pub struct Chunks {
     bytes: Vec<u8>,
-    // Where each chunk begins, and where the last one ends.
+    // The places at which the chunks begin, and the place at which the last one ends.
     places: Vec<usize>,
 }
 
@@ -63,7 +64,7 @@ impl Chunks {
         self.places.len() - 1
     }
 
-    /// The bytes of the chunks from the number `from` up to, but not with, the number `to`. Numbers begin at 0.
+    /// The bytes of the chunks with the numbers from `from` up to, but without, `to`. Numbers begin at 0.
     pub fn between(&self, from: usize, to: usize) -> &[u8]
         requires order { from ≤ to }
         requires within { to ≤ length self.now }
@@ -92,7 +93,7 @@ impl Chunks {
         &chunk[..chunk.len() / 2]
     }
 
-    /// Whether bytes are all chunks, one after another.
+    /// Whether these bytes are all chunks, one after another.
     pub fn is_whole(&self, bytes: &[u8]) -> bool
         ensures { result ≡ bytes_eq bytes.now (joined self.now) }
     {

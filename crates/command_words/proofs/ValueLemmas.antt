@@ -1,4 +1,4 @@
--- Each row that a walk leaves has a value, where each rule takes one at least and the walk has no fault.
+-- Each row that a walk leaves has a value, if each rule takes at least one and the walk has no fault.
 use Rattle.std.proofs.Common.{◌≡◌, ◌&&◌, ◌++◌, ℕ, zero, suc, Bool, true, false, List, [], ◌∷◌, Option, Some, None, arith, drop, length, nat_le, nat_lt, is_some, refl, if◌then◌else◌, find}
 use Rattle.std.specs.Prelude.{encode_utf8, fold, option_and_then, slice_get}
 use Rattle.std.specs.List.{list_all}
@@ -48,14 +48,14 @@ all_have-with_values : (id : Text) (how : Reading) (s : ValueSource) (v : Text) 
 all_have-with_values id how s v vs rows h =
     all_have-at_row id (more_values s (v ∷ vs)) _ rows refl (λ r. rw (has_some-more r.values v vs) refl) h
 
--- no values are too few where one is wanted
+-- No values are too few if one is wanted.
 one_wanted : (least most : ℕ) → nat_le 1 least ≡ true → range_kinds least most 0 ≡ [] → ⊥
 one_wanted least most one none =
     let positive : nat_lt 0 least ≡ true = lt-ltb 0 least (omega (arith, leb-true 1 least one)) in
     let refused : InvalidValue ∷ [] ≡ [] = rw positive at none in
     cc
 
--- the rule takes a value at least, or one stands for it where it was used with none, or it is a call for help
+-- The rule takes at least one value, or has a value for its use without one, or is a call for help.
 abbrev fills : ArgAction → Rule → Bool
 fills Set a = nat_le 1 (unwrap_or_range a.range).start_inclusive
 fills SetTrue a = has_some a.missing

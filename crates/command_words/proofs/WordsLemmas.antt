@@ -152,7 +152,7 @@ line-read o name f line e h =
 pub choice-read : (o : Option (Text × List Row)) (name : Text) (f : Found) → o ≡ Some (name, rows_of f) → choice_fault o ≡ choice_kinds name (values_of f)
 choice-read o name f e = ap choice_fault e ∙ ap (choice_kinds name) (sym (values-rows f))
 
--- ---- a question has its FILE where the words have no fault
+-- ---- a question has its FILE if the words have no fault
 
 -- a subcommand that a walk enters, and that has no fault, is one of the command's
 abbrev Passed : Text → List Row → List Text → List Shape → Type 0
@@ -178,7 +178,7 @@ given-row id rows g = of (find (λ r. bytes_eq r.id id) rows) g
     of None h = cc
     of (Some r) h = refl
 
--- what is required is there where a level has no fault
+-- What is required is there if a level has no fault.
 level-given : (s : Shape) (words : List Text) → level_fault s [] nothing_held words false [] ≡ [] → check_fault s (rows_after s.rules [] words) false ≡ []
 level-given s words none =
     let end : Held = (walk s.rules [] nothing_held words).held in
@@ -186,7 +186,7 @@ level-given s words none =
     let after_settle = no_faults (settle_fault s.rules s.args_override_self end) _ after_walk.1 in
     (no_faults (defaults_fault (settled s.rules end).rows s.rules) _ after_settle.1).1
 
--- what is required is there where the checks find no fault
+-- What is required is there if the checks find no fault.
 needed-first : (id : Text) (rows : List Row) → all_have rows ≡ true → (if not (is_given id rows) || false then MissingRequiredArgument ∷ [] else []) ≡ [] → is_some (first_of id rows) ≡ true
 needed-first id rows have none = first-there id rows have (given-row id rows (given (is_given id rows) none))
   where
@@ -251,14 +251,14 @@ refused-for command words error (Refused cause) a kinds is =
     among-first k [] b h = absurd h
     among-first k (x ∷ xs) b h = h
 
--- where clap finds no fault, the words have that of TEXT and N
+-- If clap finds no fault, the words have that of TEXT and N.
 pub choice-fault : (words : List Text) (name : Text) (f : Found) → fault_of paklour words ≡ [] → subcommand_of paklour words ≡ Some (name, rows_of f) → words_fault words ≡ choice_kinds name (values_of f)
 choice-fault words name f none e = ap (λ a. or_else a (choice_fault (subcommand_of paklour words))) none ∙ choice-read (subcommand_of paklour words) name f e
 
 pub choice-free : (words : List Text) → fault_of paklour words ≡ [] → subcommand_of paklour words ≡ None → words_fault words ≡ []
 choice-free words none e = ap (λ a. or_else a (choice_fault (subcommand_of paklour words))) none ∙ ap choice_fault e
 
--- where no kind can come, what fails is want of memory
+-- If no kind can come, what fails is want of memory.
 pub memory-only : (T : Type 0) (r : Result Line WordsFault) (choice kinds : Kinds) → choice ≡ kinds → IfErr r (IsRefusedFor kinds) → IfErr r (λ fault. T → choice ≡ [] → fault ≡ Memory)
 memory-only T (Ok line) choice kinds is h = tt
 memory-only T (Err Memory) choice kinds is h = λ _ _. refl

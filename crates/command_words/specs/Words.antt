@@ -35,113 +35,114 @@ use Rattle.command_words.specs.declared.words.WordsFault.TheVariants.{Refused, M
 
 -- ---- arguments
 
--- FILE
+-- The argument FILE, which may be left out.
 abbrev pub file_rule : Rule
 file_rule = record (new_rule (codes "file")) { value_names = 1 }
 
--- FILE, which has to be there
+-- The argument FILE, which is required.
 abbrev pub needed_file_rule : Rule
 needed_file_rule = record (new_rule (codes "file")) { value_names = 1; required = true }
 
--- an option of this name that takes a value
+-- An option of this name that takes a value.
 abbrev pub value_rule : Text → Rule
 value_rule name = record (new_rule name) { long = Some name; value_names = 1 }
 
--- one that takes none
+-- A flag of this name, which takes no value.
 abbrev pub flag_rule : Text → Rule
 flag_rule name = record (new_rule name) { long = Some name; action = Some SetTrue }
 
--- --scenario TEXT
+-- The option --scenario TEXT.
 abbrev pub scenario_rule : Rule
 scenario_rule = value_rule (codes "scenario")
 
--- --plan N
+-- The option --plan N.
 abbrev pub plan_rule : Rule
 plan_rule = value_rule (codes "plan")
 
--- --brief, a flag
+-- The flag --brief.
 abbrev pub brief_rule : Rule
 brief_rule = flag_rule (codes "brief")
 
--- --json, a flag
+-- The flag --json.
 abbrev pub json_rule : Rule
 json_rule = flag_rule (codes "json")
 
--- --junit, a flag
+-- The flag --junit.
 abbrev pub junit_rule : Rule
 junit_rule = flag_rule (codes "junit")
 
--- --page, a flag
+-- The flag --page.
 abbrev pub page_rule : Rule
 page_rule = flag_rule (codes "page")
 
--- --partial, a flag
+-- The flag --partial.
 abbrev pub partial_rule : Rule
 partial_rule = flag_rule (codes "partial")
 
--- --explain TEXT
+-- The option --explain TEXT.
 abbrev pub explain_rule : Rule
 explain_rule = value_rule (codes "explain")
 
--- --left, a flag
+-- The flag --left.
 abbrev pub left_rule : Rule
 left_rule = flag_rule (codes "left")
 
--- --shard K/N
+-- The option --shard K/N.
 abbrev pub shard_rule : Rule
 shard_rule = value_rule (codes "shard")
 
--- --progress, a flag
+-- The flag --progress.
 abbrev pub progress_rule : Rule
 progress_rule = flag_rule (codes "progress")
 
--- --progress=plain, a flag as the reader of command lines takes it
+-- The flag --progress=plain, which the reader of command lines knows as --progress-plain.
 abbrev pub progress_plain_rule : Rule
 progress_plain_rule = flag_rule (codes "progress-plain")
 
--- --strict, a flag
+-- The flag --strict.
 abbrev pub strict_rule : Rule
 strict_rule = flag_rule (codes "strict")
 
--- --recheck, a flag
+-- The flag --recheck.
 abbrev pub recheck_rule : Rule
 recheck_rule = flag_rule (codes "recheck")
 
 -- ---- commands
 
--- a command that takes FILE alone
+-- A command that takes FILE alone.
 abbrev pub file_app : Text → App
 file_app name = with_rule (new_app name) file_rule
 
--- a command that writes a report, whole, in brief, as JSON or as JUnit's XML
+-- A command that prints a report: the whole one, a brief one, JSON, or JUnit's XML.
 abbrev pub formed_app : App → App
 formed_app app = with_rule (with_rule (with_rule app brief_rule) json_rule) junit_rule
 
--- one of these that may be strict on it
+-- A command that prints such a report of FILE, and may be strict.
 abbrev pub report_app : Text → App
 report_app name = with_rule (with_rule (formed_app (new_app name)) strict_rule) file_rule
 
--- a command that takes a scenario, by its text or as the plan of a number
+-- A command that takes a scenario: its text, or the number of a plan.
 abbrev pub scenario_app : Text → App
 scenario_app name = with_rule (with_rule (with_rule (new_app name) scenario_rule) plan_rule) file_rule
 
--- a command that runs plans or a reduction, and that may show how far it is
+-- A command that runs plans or a reduction, and may show its progress.
 abbrev pub shown_app : App → App
 shown_app app = with_rule (with_rule app progress_rule) progress_plain_rule
 
--- a command that may run plans that fail once more
+-- A command that may run each failing plan once more.
 abbrev pub rechecked_app : App → App
 rechecked_app app = with_rule app recheck_rule
 
--- a command that asks, for a part of the lines or how many there are; FILE has to be there since standard input has the answers
+-- A command that prints which scenarios are still to be tried: all, a part of them, or how many. FILE is required, since standard input has the
+-- answers.
 abbrev pub asks_app : Text → App
 asks_app name = with_rule (with_rule (with_rule (new_app name) left_rule) shard_rule) needed_file_rule
 
--- a command that writes a report by answers, in one of these forms, as a page, or as far as it is known
+-- A command that prints a report by answers: in one of the forms, as a page, or what is known of it until now.
 abbrev pub told_app : App → App
 told_app app = with_rule (with_rule (formed_app app) page_rule) partial_rule
 
--- the one of these that writes a report, on which it may be strict, or explains a run
+-- The command that prints a report by answers, and may be strict, or explains a run.
 abbrev pub question_report_app : Text → App
 question_report_app name = with_rule (with_rule (with_rule (told_app (new_app name)) explain_rule) strict_rule) needed_file_rule
 
@@ -160,23 +161,23 @@ scenario_commands =
 abbrev pub question_commands : List Shape
 question_commands = (asks_app (codes "asks")).top ∷ (question_report_app (codes "report")).top ∷ []
 
--- the program without a command, which has a version
+-- The program without its commands. It has a version.
 abbrev pub bare_app : App
 bare_app = let app = new_app (codes "paklour") in record app { top = record app.top { has_version = true } }
 
--- the program's command, to which clap adds the subcommand `help`
+-- The program's command, to which clap adds the subcommand `help`.
 unfoldable pub paklour : App
 paklour = with_commands bare_app (campaign_commands ++ scenario_commands ++ question_commands)
 
--- a command that came of the first with one more subcommand, which there was
+-- The command is the first one with this subcommand, which could be made.
 abbrev pub HasAlso : App → Result Command AllocError → Command → Type 0
 HasAlso app (Ok sub) command = app_of command ≡ with_subcommand app (app_of sub).top
 HasAlso app (Err fault) command = ⊥
 
 -- ---- what the words mean
 
--- a word as the reader of command lines takes it: it has no option whose value may be left out and stands behind a `=` else, so --progress=line
--- is --progress, and --progress=plain a flag of its own
+-- A word as it is handed to the reader of command lines, which knows no optional value after a `=`. So --progress=line becomes --progress, and
+-- --progress=plain becomes a flag of its own.
 abbrev pub spelled : Text → Text
 spelled word = if bytes_eq word (codes "--progress=plain") then codes "--progress-plain"
     else (if bytes_eq word (codes "--progress=line") then codes "--progress" else word)
@@ -184,7 +185,7 @@ spelled word = if bytes_eq word (codes "--progress=plain") then codes "--progres
 abbrev pub spelled_word : {A : Type 0} → String A → Text
 spelled_word word = spelled (string_bytes word)
 
--- the values that a command was given: TEXT, N, K/N, `true` where --brief was given, and so of the other flags, and FILE
+-- The values that a command was given: TEXT, N, K/N and FILE, and `true` for each flag that was given.
 pub record Values : Type 0 where
   pub scenario : Option Text
   pub plan : Option Text
@@ -221,7 +222,7 @@ values_in rows = record {
   file = first_of (codes "file") rows;
 }
 
--- the same of what a parse found
+-- The same values, looked up in what a parse found.
 abbrev pub values_of : Found → Values
 values_of f = record {
   scenario = first_value f (codes "scenario");
@@ -241,55 +242,55 @@ values_of f = record {
   file = first_value f (codes "file");
 }
 
--- the text is a numeral, and this is its number
+-- The text is a numeral of this value, with or without a `+` before it.
 abbrev pub Spells : Text → ℕ → Type 0
 Spells text number = IsNumeral 10 (without_leading_plus text) × (digits_value 10 (without_leading_plus text) ≡ number)
 
--- a command takes the scenario of TEXT, or of the plan of number N
+-- A command takes the scenario of TEXT, or that of plan N, but not both.
 abbrev pub IsWhich : Values → Which → Type 0
 IsWhich v (Scenario text) = (v.scenario ≡ Some (string_bytes text)) × (v.plan ≡ None)
 IsWhich v (Plan number) = (v.scenario ≡ None) × ((text : Text) × (v.plan ≡ Some text) × Spells text number)
 
--- whether a flag was given
+-- Whether a flag was given.
 abbrev pub is_set : Option Text → Bool
 is_set value = option_map_or (bytes_eq (codes "true")) value false
 
--- what a flag names that was given
+-- What a flag names, if it was given.
 abbrev pub named_if : {A : Type 0} → Option Text → A → List A
 named_if value x = if is_set value then x ∷ [] else []
 
--- one that was named at most, and this one where none was
+-- The one thing that was named, or the usual one if nothing was. There is none if two were.
 abbrev pub only : {A : Type 0} → A → List A → Option A
 only usual [] = Some usual
 only usual (x ∷ []) = Some x
 only usual (x ∷ (other ∷ more)) = None
 
--- the form of a report
+-- The form of a report, if at most one was named.
 abbrev pub form_of : Values → Option Form
 form_of v = only Whole (named_if v.brief Brief ++ named_if v.json Json ++ named_if v.junit Junit)
 
--- what a question on a campaign shows
+-- What the flags of `report` say is to be shown.
 abbrev pub named_shown : Values → List Shown
 named_shown v =
     named_if v.brief (shown.Report Brief) ++ named_if v.json (shown.Report Json) ++ named_if v.junit (shown.Report Junit)
     ++ named_if v.page (shown.Report Page) ++ named_if v.partial shown.Partial
 
--- beside --explain TEXT nothing else is named, and nothing is to be strict
+-- If --explain TEXT is given, nothing else is to be shown, and nothing is strict.
 abbrev pub is_alone : List Shown → Bool → Bool
 is_alone [] strict = not strict
 is_alone (x ∷ more) strict = false
 
--- in which form it is shown how far a command is, and whether it is: plain lines where both flags were given
+-- The form in which a command shows its progress: plain lines if both flags were given, nothing if neither was.
 abbrev pub progress_form_of : Values → ProgressForm
 progress_form_of v = if is_set v.progress_plain then shows.Plain else (if is_set v.progress then shows.Line else shows.Off)
 
--- a report is that of `run` in the form that its flags name, or that of `page`, which takes no such flag
+-- A report is that of `run`, in the form that its flags name, or that of `page`, which takes none of these flags.
 abbrev pub IsReport : Text → Values → Form → Bool → Bool → Type 0
 IsReport name v form strict recheck =
     ((name ≡ codes "run") × (form_of v ≡ Some form) × (strict ≡ is_set v.strict) × (recheck ≡ is_set v.recheck))
     ⊎ ((name ≡ codes "page") × (form ≡ Page) × (strict ≡ false) × (recheck ≡ false))
 
--- the order that a command's name and its values give
+-- A command's name and its values give this order.
 abbrev pub IsOrder : Text → Values → Order → Type 0
 IsOrder name v (order.Run form strict recheck) = IsReport name v form strict recheck
 IsOrder name v order.Plans = name ≡ codes "plans"
@@ -297,94 +298,95 @@ IsOrder name v (order.Try which) = (name ≡ codes "try") × IsWhich v which
 IsOrder name v (order.Reduce which) = (name ≡ codes "reduce") × IsWhich v which
 IsOrder name v (order.Explain which) = (name ≡ codes "explain") × IsWhich v which
 
--- K and N, which a `/` parts, K from 1 to N
+-- K and N stand before and after a `/`, and K is from 1 to N.
 abbrev pub is_slash : ℕ → Bool
 is_slash byte = byte == 47
 
 abbrev pub SpellsShard : Text → ℕ → ℕ → Type 0
 SpellsShard text number of = Spells (before_first is_slash text) number × Spells (after_first is_slash text) of × (0 < number) × (number ≤ of)
 
--- a command asks for all lines, for each N-th from line K on, or for how many there are
+-- `asks` prints all lines, each N-th line from line K on, or how many lines there are.
 abbrev pub IsPart : Values → AskedPart → Type 0
 IsPart v part.All = (is_set v.left ≡ false) × (v.shard ≡ None)
 IsPart v (part.Shard number of) = (is_set v.left ≡ false) × ((text : Text) × (v.shard ≡ Some text) × SpellsShard text number of)
 IsPart v part.Left = (is_set v.left ≡ true) × (v.shard ≡ None)
 
--- a command shows a campaign, or explains the run of the scenario of TEXT
+-- `report` shows a campaign, or explains the run of the scenario of TEXT.
 abbrev pub IsReportQuestion : Values → Question → Type 0
 IsReportQuestion v (Asks part) = ⊥
 IsReportQuestion v (Report what strict) =
     (v.explain ≡ None) × (only (shown.Report Whole) (named_shown v) ≡ Some what) × (strict ≡ is_set v.strict)
 IsReportQuestion v (Explain text) = (v.explain ≡ Some (string_bytes text)) × (is_alone (named_shown v) (is_set v.strict) ≡ true)
 
--- the question that a command's name and its values give
+-- A command's name and its values give this question.
 abbrev pub IsQuestion : Text → Values → Question → Type 0
 IsQuestion name v (Asks part) = (name ≡ codes "asks") × IsPart v part
 IsQuestion name v question = (name ≡ codes "report") × IsReportQuestion v question
 
--- the order of no command is Run, with the whole report, on the settings that come from standard input, and nothing more is shown
+-- Without a command the program runs a campaign: with the whole report, neither strict nor rechecked, with settings from standard input, and without
+-- progress.
 abbrev pub IsRun : Line → Type 0
 IsRun (Own (order.Run Whole false false) progress file) = (progress ≡ shows.Off) × (file ≡ None)
 IsRun _ = ⊥
 
--- the line of a command's name and its values
+-- A command's name and its values give this line.
 abbrev pub IsLineOf : Text → Values → Line → Type 0
 IsLineOf name v (Own order progress own) = IsOrder name v order × (progress ≡ progress_form_of v) × (option_map string_bytes own ≡ v.file)
 IsLineOf name v (Outside question own) = IsQuestion name v question × (v.file ≡ Some (string_bytes own))
 
--- the line that the matches give
+-- The matches give this line.
 abbrev pub IsLine : Option (Text × List Row) → Line → Type 0
 IsLine None line = IsRun line
 IsLine (Some p) line = IsLineOf p.0 (values_in p.1) line
 
 -- ---- names
 
--- the names of the commands that take a scenario
+-- The name is of a command that takes a scenario.
 abbrev pub IsScenarioName : Text → Type 0
 IsScenarioName name = (name ≡ codes "try") ⊎ ((name ≡ codes "reduce") ⊎ (name ≡ codes "explain"))
 
--- the names of the commands over a target
+-- The name is of a command over a target.
 abbrev pub IsOrderName : Text → Type 0
 IsOrderName name = ((name ≡ codes "run") ⊎ ((name ≡ codes "plans") ⊎ (name ≡ codes "page"))) ⊎ IsScenarioName name
 
--- the names of the questions
+-- The name is of a command that reads answers.
 abbrev pub IsQuestionName : Text → Type 0
 IsQuestionName name = (name ≡ codes "asks") ⊎ (name ≡ codes "report")
 
--- the names of the commands
+-- The name is of a command.
 abbrev pub IsName : Text → Type 0
 IsName name = IsOrderName name ⊎ IsQuestionName name
 
--- whether the command of the name takes a scenario, or needs FILE
+-- Whether the command of this name takes a scenario.
 abbrev pub takes_scenario : Text → Bool
 takes_scenario name = bytes_eq name (codes "try") || (bytes_eq name (codes "reduce") || bytes_eq name (codes "explain"))
 
 abbrev pub needs_file : Text → Bool
 needs_file name = bytes_eq name (codes "asks") || bytes_eq name (codes "report")
 
--- what the command of the name needs is there
+-- FILE is there if the command of this name requires it.
 abbrev pub HasNeeded : Text → Option Text → Type 0
 HasNeeded name file = needs_file name ≡ true → is_some file ≡ true
 
 -- ---- refusals
 
--- which kind a refusal of a number from 0 to 65535 has
+-- The kinds of error of a text that has to be a number from 0 to 65535. There are none if it is one.
 abbrev pub number_kinds : Text → Kinds
 number_kinds text = value_kinds false (Unsigned 0 65535) text
 
--- which kind a refusal of TEXT and N has: one of the two has to be there, and N is a number from 0 to 65535
+-- The kinds of error of TEXT and N: exactly one of the two has to be there, and N has to be a number from 0 to 65535.
 abbrev pub which_kinds : Option Text → Option Text → Kinds
 which_kinds None None = MissingRequiredArgument ∷ []
 which_kinds (Some text) None = []
 which_kinds None (Some number) = number_kinds number
 which_kinds (Some text) (Some number) = ArgumentConflict ∷ []
 
--- which kind a refusal of the flags has that name a form, or what is shown: there is none of two of them
+-- The kinds of error of flags that name a form or what is shown: at most one of them may be given.
 abbrev pub only_kinds : {A : Type 0} → Option A → Kinds
 only_kinds (Some x) = []
 only_kinds None = ArgumentConflict ∷ []
 
--- the same with --explain TEXT, beside which there is none
+-- The same with --explain TEXT, beside which none of them may be given.
 abbrev pub shown_kinds : List Shown → Bool → Option Text → Kinds
 shown_kinds named strict None = only_kinds (only (shown.Report Whole) named)
 shown_kinds named strict (Some text) = if is_alone named strict then [] else ArgumentConflict ∷ []
@@ -392,7 +394,7 @@ shown_kinds named strict (Some text) = if is_alone named strict then [] else Arg
 abbrev pub report_kinds : Values → Kinds
 report_kinds v = shown_kinds (named_shown v) (is_set v.strict) v.explain
 
--- which kind a refusal of --left and K/N has: there is none of the two, K and N are numbers from 0 to 65535, and K is one from 1 to N
+-- The kinds of error of --left and K/N: only one of the two may be given, K and N are from 0 to 65535, and K is from 1 to N.
 abbrev pub order_kinds : ℕ → ℕ → Kinds
 order_kinds number of = if nat_lt 0 number && nat_le number of then [] else ValueValidation ∷ []
 
@@ -410,7 +412,7 @@ part_kinds left None = []
 part_kinds true (Some text) = ArgumentConflict ∷ []
 part_kinds false (Some text) = shard_kinds text
 
--- the same of a command's name and its values
+-- The kinds of error of a command's name and its values.
 abbrev pub choice_kinds : Text → Values → Kinds
 choice_kinds name v =
     if takes_scenario name then which_kinds v.scenario v.plan
@@ -419,26 +421,26 @@ choice_kinds name v =
     else if bytes_eq name (codes "report") then report_kinds v
     else []
 
--- the same of the matches
+-- The kinds of error of the matches.
 abbrev pub choice_fault : Option (Text × List Row) → Kinds
 choice_fault None = []
 choice_fault (Some p) = choice_kinds p.0 (values_in p.1)
 
--- the kinds of refusal that the words may come to: what clap finds, and else what is wrong with TEXT and N, or with the flags
+-- The kinds of error that the words may be refused with: what clap finds, or else what is wrong with the values.
 abbrev pub words_fault : List Text → Kinds
 words_fault words = or_else (fault_of paklour words) (choice_fault (subcommand_of paklour words))
 
--- what the program makes of an error of clap
+-- What the program makes of an error of clap.
 abbrev pub IsFaultOf : Error → WordsFault → Type 0
 IsFaultOf error (Refused cause) = (cause ≡ error) × ¬ (kind_of error ≡ OutOfMemory)
 IsFaultOf error Memory = kind_of error ≡ OutOfMemory
 
--- a refusal of one of these kinds, or want of memory
+-- The words are refused with an error of one of these kinds, or memory was refused.
 abbrev pub IsRefusedFor : Kinds → WordsFault → Type 0
 IsRefusedFor kinds (Refused error) = IsAmong (kind_of error) kinds
 IsRefusedFor kinds Memory = Unit {0}
 
--- the words asked for help, or for the version
+-- The words ask for help, or for the version.
 abbrev pub AsksToSee : WordsFault → Type 0
 AsksToSee (Refused error) = (kind_of error ≡ DisplayHelp) ⊎ (kind_of error ≡ DisplayVersion)
 AsksToSee Memory = ⊥

@@ -10,28 +10,28 @@ pub const PAGE: &str = "Run a campaign and write a page of it, as HTML";
 
 pub const PLANS: &str = "Write the plans of a campaign, one scenario each, without running them";
 
-/// How a campaign is run.
+/// The examples in the help of `run`.
 pub const RUN_EXAMPLES: &str = "\
 Examples:
-  paklour run my.toml             the verdict of each plan, and what the first failures come down to
+  paklour run my.toml             the verdict of each plan, and each first failure, reduced
   paklour run < my.toml           settings from standard input
   paklour run --brief my.toml     no line for a verdict that passes, and scenarios beside the others
   paklour run --json my.toml      a JSON document, for programs that read the report
   paklour run --junit my.toml     JUnit's XML, which CI servers show as tests
-  paklour run --strict my.toml    the same report; what it doesn't show is told on standard error
+  paklour run --strict my.toml    the same report, and warnings about its gaps on standard error
   paklour run --progress my.toml  the same report; meanwhile on standard error, in one line:
                                   plans 5201 of 65025, 1 failing, 5200 a second, 0:00:12 left
 
-Of --brief, --json and --junit one at most is given.";
+Give at most one of --brief, --json and --junit.";
 
-/// How a campaign is shown.
+/// The example in the help of `page`.
 pub const PAGE_EXAMPLES: &str = "\
 Example:
   paklour page my.toml > page.html
 shows what was tried and found: each first failure with its run, hit by hit, a map of all plans,
-and the plans by verdict, point and level. A browser opens it; it asks for nothing from elsewhere.";
+and the plans by verdict, point and level. A browser opens it; it loads nothing from elsewhere.";
 
-/// How plans are listed.
+/// The examples in the help of `plans`.
 pub const PLANS_EXAMPLES: &str = "\
 Example:
   paklour plans my.toml
@@ -48,48 +48,48 @@ pub const ASKS: &str = "Write which scenarios are still to be tried on a compone
 pub const REPORT: &str = "Write the report of a campaign on a component of your own";
 
 pub const FILE: &str =
-    "TOML settings, of which `paklour help` lists the keys; left out, standard input is read";
+    "Settings as TOML; `paklour help` lists their keys. Without FILE, standard input has them";
 
 pub const NEEDED_FILE: &str =
-    "TOML settings, of which `paklour help` lists the keys; standard input has the answers";
+    "Settings as TOML; `paklour help` lists their keys. Standard input has the answers";
 
 pub const SCENARIO: &str = "The scenario, as 'POINT=TERM->TERM;POINT=TERM'";
 
 pub const BRIEF: &str =
     "Count verdicts that pass, and write the scenario beside each other verdict";
 
-pub const JSON: &str = "Write a JSON document with all that the report tells";
+pub const JSON: &str = "Write the report as a JSON document, for programs that read it";
 
 pub const JUNIT: &str = "Write JUnit's XML, with a case for each plan";
 
-pub const PAGE_FORM: &str = "Write a page to look at, as HTML; it shows no run hit by hit";
+pub const PAGE_FORM: &str = "Write the report as a page to look at, in HTML";
 
-pub const PARTIAL: &str = "Write what is known so far, before all is answered; no report";
+pub const PARTIAL: &str = "Write what is known so far, while scenarios are still to be tried";
 
 pub const EXPLAIN_ANSWER: &str =
     "Write instead the run that an answer tells of this scenario, hit by hit";
 
-pub const LEFT: &str = "Write how many lines ask, as `left 12`, in place of them";
+pub const LEFT: &str = "Write only how many scenarios are left to be tried, as `left 12`";
 
 pub const SHARD: &str =
     "Write each N-th line, from line K on: 1/3, 2/3 and 3/3 are all lines, each once";
 
-pub const STRICT: &str = "Tell on standard error what the report doesn't show, and end with 5 then";
+pub const STRICT: &str = "Warn on standard error about gaps in the report, and then end with 5";
 
 pub const RECHECK: &str =
-    "Run each failing plan once more first, and refuse a target that says otherwise";
+    "For your own target: run failing plans again, and refuse it if a verdict changes";
 
 pub const PROGRESS: &str =
     "Show on standard error how far it is; --progress=plain: in lines, for logs";
 
 pub const PLAN: &str = "The scenario of plan N of the campaign, 0 to 65535, drawn as it is there";
 
-/// What a scenario's text is, for the commands that take one.
+/// The syntax of scenarios, for the commands that take one.
 pub const SCENARIO_TEXT: &str = "\
 A scenario gives points of the target their chains of terms; the census in a report names the
-points. At each hit of a point the first term of its chain that isn't used up acts. With a
-percentage a term acts by chance, and where it doesn't, the next one is looked at. Where none acts,
-the step is done.
+points. At each hit of a point the first term of its chain that isn't used up acts. A term
+with a percentage acts by chance; if it doesn't act, the next one is looked at. If none acts, the
+step is done.
 
 A term is [PERCENT%][COUNT*]TASK[(ARGUMENT)], used up when it has acted COUNT times. The tasks:
   off, yield             the step is done
@@ -97,7 +97,7 @@ A term is [PERCENT%][COUNT*]TASK[(ARGUMENT)], used up when it has acted COUNT ti
   sleep(MS), delay(MS)   the step is done, and up to 1000000000 milliseconds are counted, not waited
   return                 the step fails
   panic                  the component stops there
-  pause                  the run ends there, unresolved
+  pause                  the run ends there, and is unresolved
 
 A scenario has up to 65536 bytes, 256 entries, 256 terms in an entry, and 4096 terms besides off.
 
@@ -107,23 +107,25 @@ Examples:
   replace::create=20%return;replace::unlink=return
 
   paklour try --scenario 'replace::sync=1*return' my.toml
-  paklour try --plan 10 my.toml     what the line `verdict 10 ..` of the report tells, run again
+  paklour try --plan 10 my.toml     run plan 10 again, which the report has as `verdict 10 ..`
   paklour explain --plan 10 my.toml the same run, hit by hit
   paklour reduce --progress --plan 10 my.toml   while it asks, how many tests there were so far";
 
-/// What answers are, for the commands that read them.
+/// The format of answers, for the commands that read them.
 pub const ANSWERS: &str = "\
-Somebody else runs the component, as a loop in a shell does, and the settings say so. Standard input
-has the answers so far, up to 268435456 bytes, a line for each run:
+If the settings say `target = \"outside\"`, the component is a program of your own, which something
+else runs, such as a loop in a shell. Standard input has the answers so far, up to 268435456 bytes,
+a line for each run:
   VERDICT<TAB>SCENARIO<TAB>HITS
 The verdict is `pass`, `unresolved`, or `fail` and one of the settings' codes. The scenario is
-`none`, the one without faults, or a text as in `paklour help try`. The hits are the points of the
-run, in order, as `sys::open;4*sys::write`; `-` for an unresolved run of which nobody knows them.
-Where the settings have no depth, the tab and the hits may be left out.
-Answers may come in any order, and again; two that contradict each other are refused.
+`none`, the one without faults, or a text as in `paklour help try`. The hits are the points that
+the run hit, in order, as in `sys::open;4*sys::write`. `-` stands for the hits of an unresolved run
+that nobody knows. If the settings have no depth, the tab and the hits may be left out.
+Answers may come in any order, and more than once. Two that contradict each other are refused.
 
-`asks` writes scenarios that have no answer, one a line and each once, and nothing where all is
-known; its exit status is 0. `report` writes the report, or that a scenario is `not answered`.
+`asks` writes the scenarios that have no answer yet, each on a line of its own, and nothing if all
+is known. `report` writes the report. If a scenario has no answer, it says which one is
+`not answered`, and ends with 2.
 
 Example:
   paklour asks my.toml < answers | xargs -r -d '\\n' -n 1 ./try.sh >> answers
@@ -145,7 +147,7 @@ with settings as
 /// The settings, an example of them, and the exit statuses.
 pub const SETTINGS: &str = "\
 Settings are TOML. Their keys, with ranges and defaults:
-  target     \"replace\", \"maildir\", \"commit\" or \"outside\"; has to be there
+  target     \"replace\", \"maildir\", \"commit\" or \"outside\"; required
   variant    \"sound\", or one with a flaw, by the target; default \"sound\"
                replace: \"late_sync\", \"ignore_sync\", \"retry_write\", \"rename_first\", \"in_place\"
                maildir: \"link_first\", \"ignore_write\", \"append_tmp\", \"deliver_in_new\"
@@ -160,7 +162,7 @@ Settings are TOML. Their keys, with ranges and defaults:
              default none: plans come from the run without faults
   crash_states  true or false: the power cut asks power::keep for each pending write; default false
   scenarios  scenarios to run as plans too, up to 1000 texts; default none
-and the table of the target, in which a key that names no default has to be there:
+and a table for the target. Its keys are required where no default is named:
   [replace]
     old           the contents at first, a text of up to 65536 bytes
     replacements  up to 1000 lists of up to 1000 chunks
@@ -178,8 +180,9 @@ and the table of the target, in which a key that names no default has to be ther
     kinds         with a depth alone: a table that lists for a point which faults are tried at its
                   hits, 1 to 8 of \"return\", \"return(TEXT)\" and \"panic\", none twice; TEXT has
                   up to 32 bytes; default return and panic, at power::keep return
-With \"outside\" somebody else runs the component: only plans, asks and report take such settings, in
-which variant, workers, max_hits and crash_states are unknown keys. With a depth plans takes none.
+With \"outside\" something else runs the component, a program of your own. Only plans, asks and report
+take such settings, and plans only if they have no depth. The keys variant, workers, max_hits and
+crash_states are unknown there.
 A chunk is a text of up to 4096 bytes. `paklour help try` says what a scenario may hold.
 
 Example:
@@ -194,10 +197,10 @@ Example:
 Exit status:
   0  no verdict is fail
   1  a verdict is fail
-  2  the words, the settings, a scenario, the answers or the number of plans is refused, or the
-     settings or the answers can't be read
-  3  memory is refused
+  2  the command line, the settings, a scenario or the answers were refused or couldn't be read, or
+     there are too many plans; a line on standard error says which
+  3  memory ran out
   4  a write failed
-  5  with --strict: no verdict is fail, and something was told on standard error: an unresolved run,
-     no hits without faults, a point that no run reaches, a name that no point has, hits that nobody
-     knows, a fault that its run doesn't meet, storms of rate 0";
+  5  with --strict: no verdict is fail, but there were warnings: an unresolved run, no hits without
+     faults, a point that no run reaches, a name that no point has, hits that nobody knows, a fault
+     that its run doesn't meet, or storms of rate 0";

@@ -1,4 +1,5 @@
-//! The words of the command line: which command they name, with its scenario and its file.
+//! The words of the command line: which command they name, with its scenario and its file; and the texts of help. What a command does is no matter of
+//! this crate.
 #![tactic(auto)]
 
 mod help;

@@ -1,4 +1,4 @@
-//! How commands are used, and the refusals of words that the reader of command lines takes.
+//! Refusals of words that the reader of command lines would take, and the usage that they print.
 ghost use Rattle.std.specs.Prelude.{◌∷◌, []};
 ghost use Rattle.command_words.specs.Words.{IsRefusedFor};
 
@@ -19,7 +19,7 @@ pub fn no_shard(alloc: Global, text: &str) -> WordsFault
     unfit(alloc, "asks", ErrorKind::ValueValidation, message.as_str())
 }
 
-/// The refusal of two arguments of a command that don't stand together.
+/// The refusal of two arguments of a command that may not stand together.
 pub fn two_forms(alloc: Global, name: &str, one: &str, other: &str) -> WordsFault
     ensures { IsRefusedFor (ErrorKind.ArgumentConflict ∷ []) result }
 {
@@ -42,7 +42,7 @@ pub fn no_number(alloc: Global, name: &str, text: &str) -> WordsFault
     unfit(alloc, name, ErrorKind::ValueValidation, message.as_str())
 }
 
-/// A refusal of the words for the command of this name, in the form of those of clap.
+/// A refusal of the words for the command with this name, in the form of clap's refusals.
 pub fn unfit(alloc: Global, name: &str, kind: ErrorKind, message: &str) -> WordsFault
     ensures { IsRefusedFor (kind ∷ []) result }
 {
@@ -53,7 +53,7 @@ pub fn unfit(alloc: Global, name: &str, kind: ErrorKind, message: &str) -> Words
     }
 }
 
-/// How a command is used whose options the reader of command lines can't refuse by itself.
+/// The usage of a command whose options the reader of command lines can't refuse by itself.
 pub fn usage(name: &str) -> &'static str {
     match name {
         "run" => "paklour run [OPTIONS] [FILE]",

@@ -1,3 +1,4 @@
+//! The words of the command line, read into a command. It reads words alone: no file is opened here.
 ghost use Rattle.std.specs.Prelude.{◌≡◌, ◌↔◌, ◌∷◌, [], IsTrue, Some, None, not, option_map, is_some, true, false, ◌++◌, IfOk, IfErr, IfSome, OnOk, map, codes, string_bytes};
 ghost use Rattle.clap.specs.Words.{app_of, fault_of, first_value, found_of, new_app, rule_of, subcommand_of, takes};
 ghost use Rattle.clap.specs.declared.builder.command.Command.TheViews.{out-Command as fields_of};
@@ -16,16 +17,16 @@ use std::fmt;
 /// The version of the program, as `paklour --version` writes it.
 pub const VERSION: &str = "0.4.0";
 
-/// Which scenario a command takes.
+/// The scenario that a command takes.
 #[derive(Debug, Drop)]
 pub enum Which {
-    /// The scenario of this text, under stream number 0.
+    /// The scenario that this text spells, under stream number 0.
     Scenario(String),
-    /// The scenario of the plan of this number, under the number as its stream number.
+    /// The scenario of the plan with this number, under the plan's number as its stream number.
     Plan(u16),
 }
 
-/// In which form a report is written.
+/// The form in which a report is written.
 #[derive(Clone, Copy, Debug)]
 pub enum Form {
     /// A text with the verdict of each plan.
@@ -40,12 +41,12 @@ pub enum Form {
     Page,
 }
 
-/// What a question on a campaign by answers shows of it.
+/// What `report` shows of a campaign by answers.
 #[derive(Clone, Copy, Debug)]
 pub enum Shown {
     /// Its report, in a form.
     Report(Form),
-    /// What is known so far, while something is still to be tried.
+    /// What is known so far, if something is still to be tried.
     Partial,
 }
 
@@ -63,7 +64,7 @@ impl Shown {
     }
 }
 
-/// In which form the program shows how far plans or a reduction are, while they run.
+/// The form in which the program shows how far plans or a reduction are.
 #[derive(Clone, Copy, Debug, PartialEq, Eq)]
 pub enum ProgressForm {
     /// It shows nothing.
@@ -77,8 +78,8 @@ pub enum ProgressForm {
 /// What the program is to do.
 #[derive(Debug, Drop)]
 pub enum Order {
-    /// Run a campaign, and write its report. Where `strict` is set, what makes a report say less than it seems to is told beside it. Where
-    /// `recheck` is set, each plan that fails is run once more first, and the command is refused where the verdicts differ.
+    /// Run a campaign, and write its report. If `strict` is set, warn on standard error of what makes the report say less than it seems to. If
+    /// `recheck` is set, run each plan that fails once more first, and refuse the command if the verdicts differ.
     Run {
         form: Form,
         strict: bool,
@@ -90,7 +91,7 @@ pub enum Order {
     Try(Which),
     /// Reduce a scenario.
     Reduce(Which),
-    /// Run a scenario, and tell the run hit by hit.
+    /// Run a scenario, and show the run hit by hit.
     Explain(Which),
 }
 
@@ -99,34 +100,34 @@ pub enum Order {
 pub enum AskedPart {
     /// All of them.
     All,
-    /// Those of one of several machines: each `of`-th line, from line `number` on. Lines are counted from 1, and `number` is one from 1 to `of`.
+    /// The lines for one of several machines: each `of`-th line, from line `number` on. Lines are counted from 1, and `number` is from 1 to `of`.
     Shard { number: u16, of: u16 },
     /// How many there are.
     Left,
 }
 
-/// What is asked of the answers on standard input, about a component that somebody else runs.
+/// What a command asks about a component that somebody else runs, by the answers on standard input.
 #[derive(Debug, Drop)]
 pub enum Question {
     /// Which scenarios are still to be tried.
     Asks(AskedPart),
-    /// The campaign. Where `strict` is set, what makes a report of it say less than it seems to is told beside it.
+    /// The campaign's report, or what is known so far. If `strict` is set, warn on standard error of what makes a report say less than it seems to.
     Report { shown: Shown, strict: bool },
-    /// The run that is told of the scenario of this text, hit by hit.
+    /// The run that the answers record for the scenario which this text spells, hit by hit.
     Explain(String),
 }
 
-/// What the words ask for.
+/// The command that the words name.
 #[derive(Debug, Drop)]
 pub enum Line {
-    /// A command over a target. `file` has the settings; `None` where they come from standard input. `progress` is how the program shows how far
-    /// plans or a reduction are while they run; it is for run, page and reduce alone, and off for each other command.
+    /// A command over a target. `file` has the settings; `None` if they come from standard input. `progress` is how the program shows how far plans
+    /// or a reduction are; only run, page and reduce have it, and for each other command it is off.
     Own {
         order: Order,
         progress: ProgressForm,
         file: Option<String>,
     },
-    /// A question, by the settings of the file and the answers on standard input.
+    /// A question, with the settings in the file and the answers on standard input.
     Outside {
         question: Question,
         file: String,
@@ -178,6 +179,7 @@ impl From<AllocError> for WordsFault {
     }
 }
 
+/// FILE, which may be left out.
 fn file_arg<'a>(alloc: Global) -> Arg<'a>
     ensures rule { rule_of result ≡ file_rule }
     ensures local { result.global ≡ false }
@@ -185,6 +187,7 @@ fn file_arg<'a>(alloc: Global) -> Arg<'a>
     Arg::new(alloc, "file").value_name("FILE").help(help::FILE)
 }
 
+/// FILE, which has to be given.
 fn needed_file_arg<'a>(alloc: Global) -> Arg<'a>
     ensures rule { rule_of result ≡ needed_file_rule }
     ensures local { result.global ≡ false }
@@ -217,7 +220,7 @@ fn flag_arg<'a>(alloc: Global, name: &'a str, help: &'a str) -> Arg<'a>
         .help(help)
 }
 
-// A command of this name that takes nothing yet.
+/// A command of this name that takes nothing yet, with the examples of its help.
 fn named<'a>(alloc: Global, name: &'a str, about: &'a str, examples: &'a str) -> Command<'a>
     ensures app { app_of result ≡ new_app name.entry.now }
     ensures local { (fields_of result).has_globals ≡ false }
@@ -237,7 +240,7 @@ fn file_command<'a>(
     named(alloc, name, about, examples).arg(file_arg(alloc))
 }
 
-// The command with the flags that name the form of a report, of which one at most may be given.
+// The command with the flags that name the form of a report. At most one of them may be given.
 fn with_forms<'a>(alloc: Global, command: Command<'a>) -> Result<Command<'a>, AllocError>
     requires { (fields_of command).has_globals ≡ false }
     ensures app { IfOk result (λ more. app_of more ≡ formed_app (app_of command.entry)) }
@@ -274,6 +277,7 @@ fn report_command<'a>(
         .arg(file_arg(alloc))
 }
 
+/// A command of this name that takes FILE, and `--scenario` or `--plan`.
 fn scenario_command<'a>(
     alloc: Global,
     name: &'a str,
@@ -349,7 +353,7 @@ fn question_report_command<'a>(
         .arg(needed_file_arg(alloc))
 }
 
-// The command with the flags that name what is shown by answers, of which one at most may be given.
+// The command with the flags that name what is shown by answers. At most one of them may be given.
 fn with_shown<'a>(alloc: Global, command: Command<'a>) -> Result<Command<'a>, AllocError>
     requires { (fields_of command).has_globals ≡ false }
     ensures app { IfOk result (λ more. app_of more ≡ told_app (app_of command.entry)) }
@@ -412,6 +416,7 @@ fn with_questions<'a>(alloc: Global, command: Command<'a>) -> Result<Command<'a>
     )
 }
 
+/// The whole command line of the program, as the reader of command lines takes it.
 fn command<'a>(alloc: Global) -> Result<Command<'a>, AllocError>
     ensures { IfOk result (λ command. app_of command ≡ paklour) }
 {
@@ -420,11 +425,11 @@ fn command<'a>(alloc: Global) -> Result<Command<'a>, AllocError>
     with_questions(alloc, command)
 }
 
-/// The command that the words give, of which the first is the program's name.
+/// The command that the words name. The first word is the program's name.
 ///
-/// Words give one only where the reader of command lines finds no fault in them, and where a command that takes a scenario has
-/// one: a text, or the number of a plan from 0 to 65535, and not both. `Err` is the fault, as which help and the version are also told
-/// where the words ask for them, or that memory ran out.
+/// Words name a command only if the reader of command lines finds no fault in them, and if a command that takes a scenario has one: a text, or the
+/// number of a plan from 0 to 65535, and not both. `Err` is the fault, or that memory was refused. Help and the version come as faults too, if the
+/// words ask for them.
 pub fn read_words(alloc: Global, words: &[String]) -> Result<Line, WordsFault>
     ensures ok { IfOk result (IsLine (subcommand_of paklour (map spelled_word words.now))) }
     ensures taken { IfOk result (λ _. words_fault (map spelled_word words.now) ≡ []) }
@@ -436,7 +441,7 @@ pub fn read_words(alloc: Global, words: &[String]) -> Result<Line, WordsFault>
     read_spelled(alloc, spelled.as_slice())
 }
 
-// The words as the reader of command lines takes them, which knows no option whose value may be left out and stands behind a `=` else.
+// The words as the reader of command lines takes them. It knows no option whose value may be left out and otherwise stands behind a `=`.
 fn spelled_words<'a>(alloc: Global, words: &'a [String]) -> Result<Vec<&'a str>, AllocError>
     ensures { IfOk result (λ all. map (λ word. word.now) all.items ≡ map spelled_word words.now) }
 {
@@ -487,6 +492,7 @@ fn read_spelled(alloc: Global, words: &[&str]) -> Result<Line, WordsFault>
     }
 }
 
+/// The fault for what the reader of command lines found.
 fn refusal(error: clap::Error) -> WordsFault
     ensures { IsFaultOf error result }
 {
@@ -518,7 +524,7 @@ fn line_of<'a>(alloc: Global, name: &str, own: &ArgMatches<'a>) -> Result<Line, 
     }
 }
 
-// In which form it is shown how far a command is. Plain lines are the form where both are asked for.
+// The form in which progress is shown. If both are asked for, it is plain lines.
 fn progress_form<'a>(own: &ArgMatches<'a>) -> ProgressForm
     ensures { result ≡ progress_form_of (values_of (found_of own.now)) }
 {
@@ -531,6 +537,7 @@ fn progress_form<'a>(own: &ArgMatches<'a>) -> ProgressForm
     }
 }
 
+/// The question that a command of this name asks; `None` if it asks none.
 fn question_of<'a>(
     alloc: Global,
     name: &str,
@@ -570,7 +577,7 @@ fn part_of<'a>(alloc: Global, own: &ArgMatches<'a>) -> Result<AskedPart, WordsFa
     }
 }
 
-// Adds what is shown where its flag was given.
+// Adds what is shown, if its flag was given.
 fn add_named<'a>(
     named: &mut Vec<Shown>,
     own: &ArgMatches<'a>,
@@ -598,7 +605,7 @@ fn named_shown<'a>(alloc: Global, own: &ArgMatches<'a>) -> Result<Vec<Shown>, Al
     Ok(named)
 }
 
-// What is shown, which one flag at most names.
+// What is shown. At most one flag names it.
 fn only_shown(alloc: Global, named: &[Shown]) -> Result<Shown, WordsFault>
     ensures ok { IfOk result (λ shown. only (Shown.Report Form.Whole) named.now ≡ Some shown) }
     ensures taken { IfOk result (λ _. only_kinds (only (Shown.Report Form.Whole) named.now) ≡ []) }
@@ -611,7 +618,7 @@ fn only_shown(alloc: Global, named: &[Shown]) -> Result<Shown, WordsFault>
     }
 }
 
-// The flag that may not stand beside --explain TEXT, where one was given.
+// The flag that may not stand beside --explain TEXT, if one was given.
 fn flag_beside(named: &[Shown], strict: bool) -> Option<&'static str>
     ensures { is_some result ≡ not (is_alone named.now strict) }
 {
@@ -640,7 +647,7 @@ fn report_question<'a>(alloc: Global, own: &ArgMatches<'a>) -> Result<Question, 
     }
 }
 
-// The form of the report that `run` writes, which one flag at most names.
+// The form of the report that `run` writes. At most one flag names it.
 fn form_of<'a>(alloc: Global, own: &ArgMatches<'a>) -> Result<Form, WordsFault>
     ensures ok { IfOk result (λ form. form_of (values_of (found_of own.now)) ≡ Some form) }
     ensures taken { IfOk result (λ _. only_kinds (form_of (values_of (found_of own.now))) ≡ []) }
@@ -730,7 +737,7 @@ fn which_of<'a>(alloc: Global, name: &str, own: &ArgMatches<'a>) -> Result<Which
     }
 }
 
-// FILE, as text of its own.
+// A copy of FILE.
 fn file_of<'a>(alloc: Global, own: &ArgMatches<'a>) -> Result<Option<String>, AllocError>
     ensures { IfOk result (λ file. option_map string_bytes file ≡ first_value (found_of own.now) (codes "file")) }
 {
@@ -740,7 +747,7 @@ fn file_of<'a>(alloc: Global, own: &ArgMatches<'a>) -> Result<Option<String>, Al
     }
 }
 
-// The value of an argument that was given, as text of its own.
+// A copy of the value of an argument that was given.
 fn given<'a>(alloc: Global, own: &ArgMatches<'a>, id: &str) -> Result<String, AllocError>
     requires { is_some (first_value (found_of own.now) id.now) ≡ true }
     ensures { IfOk result (λ text. first_value (found_of own.now) id.now ≡ Some (string_bytes text)) }

@@ -40,7 +40,7 @@ pub record Undecided (es : List Event) (k : ℕ) : Type 0 where
   pub uncommitted : NoneHolds es k Commit
   pub unended : decides es Live k End ≡ false
 
--- a transaction ends so, where the client was told of its commit, and where not
+-- How a transaction ends, by whether the client was told of its commit.
 abbrev pub Settled : ℕ → List Event → ℕ → Bool → Type 0
 Settled p es k true = Committed p es k
 Settled p es k false = Undecided es k

@@ -32,7 +32,7 @@ pub kept_judged : (v : Variant) (w : Work) (r : Run) (t : Tally) (l : AllLogs) (
     → j ≡ judged_keeping w (after (machine v w) (replies r)) keep
 kept_judged v w r t l k keep j is = is ∙ ap (λ (s : State). judged_keeping w s keep) (sym k.reached.here)
 
--- what the logs tell at the end of a run is pending after the play of what the run is given
+-- What the logs note at the end of a run is pending after the play of what the run is given.
 pub calls_told : (v : Variant) (w : Work) (r : Run) (t : Tally) (l : AllLogs) → Ended v w r (at_step t Over) l → l.notes ≡ true → (g : Given) → r.given ≡ g
     → length r.hits ≤ r.given.limit + 1 → call_texts l.pending ≡ calls_of v w g
 calls_told v w r t l k notes g given few =

@@ -1,4 +1,4 @@
--- The records of a log that last are a front of all: where they are as many, they are the same.
+-- The records of a log that last are a front of all its records: if they are as many, they are the same.
 use Rattle.std.proofs.Common.{◌≡◌, ◌≤◌, List, [], ◌∷◌, ◌++◌, length, refl, ap, sym, ◌∙◌, arith}
 use Rattle.std.proofs.lemmas.List.{length-append, append-nil, append_assoc}
 use Rattle.sim_device.specs.FileEffects.{Side, Live, Lasting}

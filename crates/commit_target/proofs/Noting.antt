@@ -27,7 +27,7 @@ none_settled : (r : Record) (i count : ℕ) → noted_each Force r i count [] �
 none_settled r i zero = refl
 none_settled r i (suc n) = none_settled r (i + 1) n
 
--- a row of forces, where nothing is pending
+-- A row of forces, if nothing is pending.
 pub row_of_forces : (m : Manner) (r : Record) (order : List PendingRecord) (i count : ℕ) → m ≡ Force → length order ≡ 0 → order ≡ noted_each m r i count order
 row_of_forces Force r [] i count is none = sym (none_settled r i count)
 row_of_forces Force r (p ∷ order) i count is none = absurd (omega (arith, none))
@@ -51,7 +51,7 @@ from_next party order keep i d e there answered =
     ∙ ap (λ (l : List Bool). answers_of party (get_or order i d ∷ drop (suc i) order) l) (drop-cons keep i e answered)
     ∙ ap (λ (l : List Bool). cond (is_party (get_or order i d).party party) (get_or keep i e ∷ l) l) same
 
--- where the next answer is for this party, and where it isn't
+-- The same if the next answer is for this party, and if it isn't.
 pub one_answered : (party : Party) (order : List PendingRecord) (keep so_far all : List Bool) (i : ℕ) (d : PendingRecord) (e : Bool) → i < length order → i < length keep
     → is_party (get_or order i d).party party ≡ true
     → so_far ++ from party order keep i ≡ all
@@ -79,7 +79,7 @@ none_left party (p ∷ order) [] none = refl
 none_left party (p ∷ order) (b ∷ keep) (inl none) = absurd (omega (arith, none))
 none_left party (p ∷ order) (b ∷ keep) (inr none) = absurd (omega (arith, none))
 
--- where no place is left
+-- The same if no place is left.
 pub all_answered : (party : Party) (order : List PendingRecord) (keep so_far all : List Bool) (i : ℕ) → (length order ≤ i) ⊎ (length keep ≤ i)
     → so_far ++ from party order keep i ≡ all
     → so_far ≡ all

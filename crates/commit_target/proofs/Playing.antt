@@ -96,12 +96,12 @@ decided v w r t l l' k x is adds =
     subst (λ (o : Option Write). Due v w r (committed t) o l') (same_early v t ForceCommit)
     (written v w r (committed t) (Force Coordinator (entry t kind.Commit)) (early_write v (at_step t ForceCommit)) l l' k x is adds)
 
--- where nothing failed
+-- The same if nothing failed.
 pub goes_on : (v : Variant) (w : Work) (r : Run) (t : Tally) (l : AllLogs) (goes : Bool) → goes ≡ true → Answered v w r t l goes → Answered v w r t l true
 goes_on v w r t l true e k = k
 goes_on v w r t l false e k = cc
 
--- where a run was cut off, so is what led to it
+-- If a run was cut off, so was what led to it.
 pub cut_off : {X : Type 0} (result : Result X Cut) (on : X → Type 0) (halted : Type 0) (cut : Cut) → IsErrAnd result (λ x. x ≡ cut) → OnCut cut halted → Leads result on halted
 cut_off result on halted cut is h = let p = err_from_is_err_and result is in rw (p.1, p.2) h
 

@@ -1,5 +1,5 @@
--- Whatever is answered, the sound protocol keeps its word: each transaction is told as committed exactly where its commit record lasts, on the
--- forced prepare records of all, and is forgotten only once all have forced theirs.
+-- Whatever is answered, the sound protocol keeps its promise: the client is told of a commit exactly if its commit record lasts, which stands on the
+-- forced prepare records of all participants, and a transaction is forgotten only once all have forced their commit records.
 use Rattle.std.proofs.Common.{◌≡◌, inl, inr, ℕ, ◌+◌, ◌-◌, ◌<◌, ◌≤◌, ◌==◌, nat_lt, Bool, true, false, ◌||◌, cond, List, [], ◌∷◌, ◌++◌, length, Option, Some, None, refl, ap, sym, ◌∙◌, subst, arith, length-append, eqb-true}
 use Rattle.std.proofs.lemmas.Bool.{eq-eqb, ne_eqb, eqb-false, ltb-true, ltb-false, or_left, or_right}
 use Rattle.std.proofs.lemmas.List.Folds.{list_any-append}
@@ -445,7 +445,7 @@ laid_safe w some s (a ∷ answers) k = laid_safe w some (stepped Sound w s a) an
 
 -- ---- the start, and the end
 
--- where nothing is begun, nothing is written or told
+-- If nothing is begun, nothing is written, and the client is told nothing.
 laid_none : (w : Work) (answers : List Reply) → laid Sound w (state (at_step before_all Over) []) answers ≡ state (at_step before_all Over) []
 laid_none w [] = refl
 laid_none w (Go ∷ answers) = laid_none w answers

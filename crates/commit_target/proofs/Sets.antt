@@ -123,7 +123,7 @@ one_mark sets log first i d one four_sets within marks is kind k h =
     or_none true = refl
     or_none false = refl
 
--- the same, of a log with one record more
+-- The same for a log with one record more.
 pub mark_added : (sets : List ℕ) (log : List Record) (first : ℕ) (r : Record) (one : ℕ) → length sets ≡ 4 → AreMarks sets log first
     → ((k : ℕ) → k < 64 → among one k ≡ (r.transaction == first + k))
     → AreMarks (set sets (place_of r.kind) (bit_or (get_or sets (place_of r.kind) 0) one)) (log ++ r ∷ []) first
@@ -147,7 +147,7 @@ one_told told first i one s within was is k h =
 
 -- ---- how a participant ends a transaction
 
--- by its records, and what the coordinator answers
+-- How a transaction ends at a participant, by its records and by what the coordinator answers.
 ends : (commit prepare abort answer : Bool) → (commit || (prepare && not abort && answer)) ≡ cond commit true (cond abort false (cond prepare answer false))
 ends true prepare abort answer = refl
 ends false true true answer = refl

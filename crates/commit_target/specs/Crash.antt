@@ -1,5 +1,5 @@
--- What a run leaves to the power cut at its end: how many records are pending, which these are, and what is judged where the cut keeps some of them. And
--- scenarios in which only a kept record shows a flaw.
+-- What a run leaves to the power cut at its end: how many records are pending, which ones, and what the judgement is if the cut keeps some of them.
+-- Also scenarios in which a flaw shows only if a pending record is kept.
 use Rattle.std.specs.Prelude.{ℕ, suc, ◌+◌, if◌then◌else◌, Bool, List, [], ◌∷◌, ◌++◌, map, length, Some, None, codes}
 use Rattle.std.specs.Fmt.{decimal}
 use Rattle.scenario_values.specs.declared.term.Term.{Term}
@@ -23,14 +23,14 @@ use Rattle.commit_target.specs.Writes.{Event, is_party, pending, on_coordinator,
 use Rattle.commit_target.specs.Judgement.{judged_by}
 use Rattle.commit_target.specs.Steps.{State, machine, asks_of}
 
--- the answers for the pending records of one party, of those for the records of all. Records past the answers are lost
+-- The answers for one party's pending records, out of the answers for all pending records. Records without an answer are lost.
 abbrev pub answers_of : Party → List PendingRecord → List Bool → List Bool
 answers_of party [] keep = []
 answers_of party (p ∷ records) [] = []
 answers_of party (p ∷ records) (keeps ∷ keep) =
     if is_party p.party party then keeps ∷ answers_of party records keep else answers_of party records keep
 
--- the records in the logs after a cut that keeps these: what lasts, and in each log what is pending up to the last that is kept
+-- The records in the logs after a cut with these answers: those that last, and in each log the pending ones up to the last that is kept.
 abbrev pub known_keeping : List Event → List Bool → List Record
 known_keeping events keep = survivors (on_coordinator events) (answers_of Coordinator (pending events) keep)
 
@@ -40,7 +40,7 @@ own_keeping events keep n = survivors (on_participant events n) (answers_of (Par
 abbrev pub judged_keeping : Work → State → List Bool → Judgement
 judged_keeping w s keep = judged_by w.participants s.tally.told (known_keeping s.events keep) (own_keeping s.events keep) s.tally.begun
 
--- by the answers of a run
+-- The power cut of a commit, as a function of the answers of its run.
 abbrev pub cut_of : Variant → Work → Cut
 cut_of v w = record {
   pending = λ own. length (pending (after (machine v w) own).events);
@@ -49,34 +49,34 @@ cut_of v w = record {
 
 -- ---- what is pending, in words
 
--- `append coordinator end 1`: whose log it is, what the record says, and of which transaction, numbered from 1
+-- A pending record as a text, such as `append coordinator end 1`: whose log it is in, its kind, and its transaction, numbered from 1.
 abbrev pub call_text : PendingRecord → List ℕ
 call_text p = codes "append " ++ party_text p.party ++ codes " " ++ kind_text p.entry.kind ++ codes " " ++ decimal (p.entry.transaction + 1)
 
 abbrev pub call_texts : List PendingRecord → List (List ℕ)
 call_texts records = map call_text records
 
--- the records that are pending at the end of a run, in the order in which they were made over all logs
+-- The texts of the records that are pending at the end of a run, in the order in which they were made over all logs.
 abbrev pub calls_of : Variant → Work → Given → List (List ℕ)
 calls_of v w g = call_texts (pending (after (machine v w) (replies (play (suc g.limit) (asks_of v w) (start g)))).events)
 
 -- ---- scenarios
 
--- `power::keep=1*return`: the first pending record is kept, and no other
+-- `power::keep=1*return`: the first pending record is kept, and no other.
 abbrev pub keeps_first : List ℕ × List Term
 keeps_first = fails_once (codes "power::keep")
 
--- the outcome is lost on its way to the first participant, and the cut keeps the end record
+-- The commit is lost on its way to the first participant, and the cut keeps the first pending record, the end record.
 abbrev pub outcome_lost_end_kept : Entries
 outcome_lost_end_kept = fails_once (codes "commit::send_outcome") ∷ keeps_first ∷ []
 
--- `commit::send_outcome=1*panic`: the run panics before any participant is told
+-- `commit::send_outcome=1*panic`: the run ends before any participant is told.
 abbrev pub panic_before_outcome : List ℕ × List Term
 panic_before_outcome = (codes "commit::send_outcome", record { share = 1000000; count = Some 1; task = Panic None } ∷ [])
 
 abbrev pub outcome_never_sent : Entries
 outcome_never_sent = panic_before_outcome ∷ []
 
--- the same, and the cut keeps the end record
+-- The same, and the cut keeps the first pending record, the end record.
 abbrev pub outcome_never_sent_end_kept : Entries
 outcome_never_sent_end_kept = panic_before_outcome ∷ keeps_first ∷ []

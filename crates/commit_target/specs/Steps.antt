@@ -1,6 +1,6 @@
--- The steps of a run, laid against the list of answers: what is asked, what each answer writes and where it leads. The protocol is
--- two-phase commit with presumed abort: a yes is sent on a forced prepare record, the decision to commit is a forced commit record, a
--- commit is acknowledged and then ended, and an abort is neither recorded by the coordinator nor acknowledged.
+-- The steps of a run as a function of the list of answers: what is asked, what each answer makes the parties write, and where it leads. The protocol
+-- is two-phase commit with presumed abort: a participant forces its prepare record before it sends a yes; the decision to commit is a forced commit
+-- record; a commit is acknowledged and then ended; and the coordinator writes no record of an abort, which isn't acknowledged either.
 use Rattle.std.specs.Prelude.{◌≡◌, ℕ, ◌+◌, ◌-◌, ◌==◌, nat_lt, if◌then◌else◌, Bool, true, false, List, [], ◌∷◌, ◌++◌, Option, Some, None, length, slice_index_or}
 use Rattle.action_eval.specs.Answers.{Reply, Go, Return, Halt}
 use Rattle.target_trait.specs.declared.judgement.Judgement.{Judgement}
@@ -24,47 +24,47 @@ use Rattle.commit_target.specs.Work.{Work, wish}
 use Rattle.commit_target.specs.Writes.{Event, Written}
 use Rattle.commit_target.specs.Judgement.{judged}
 
--- the step whose question comes next; participants are numbered from 0
+-- The step that is asked for next. Participants are numbered from 0.
 pub data Step : Type 0 where
-  -- the coordinator asks the participant to prepare
+  -- The coordinator asks the participant to prepare.
   SendPrepare : ℕ → Step
-  -- the participant writes its prepare record
+  -- The participant writes its prepare record.
   ForcePrepare : ℕ → Step
-  -- the participant sends this vote
+  -- The participant sends this vote.
   SendVote : ℕ → Vote → Step
-  -- every yes arrived: the coordinator forces the commit record
+  -- Every yes arrived, and the coordinator forces the commit record.
   ForceCommit : Step
-  -- it tries once more
+  -- The coordinator tries to force the commit record once more.
   ForceCommitAgain : Step
-  -- the coordinator tells the participant that the transaction is committed
+  -- The coordinator tells the participant that the transaction is committed.
   SendCommit : ℕ → Step
-  -- the participant forces its commit record
+  -- The participant forces its commit record.
   ForceOutcome : ℕ → Step
-  -- the participant acknowledges
+  -- The participant acknowledges the commit.
   SendAck : ℕ → Step
-  -- the coordinator tells the participant at this place, among those whose yes arrived, that the transaction is aborted
+  -- The coordinator tells the participant at this place, among those whose yes arrived, that the transaction is aborted.
   SendAbort : ℕ → Step
-  -- nothing more is asked
+  -- Nothing more is asked.
   Over : Step
 
--- how far the transactions have come
+-- How far the transactions have come.
 pub record Tally : Type 0 where
   pub step : Step
-  -- how many transactions were begun; the last of them is under way
+  -- How many transactions were begun. The last of them is under way.
   pub begun : ℕ
-  -- the participants whose yes arrived, in order
+  -- The participants whose yes arrived, in order.
   pub yes : List ℕ
-  -- whether every participant so far has acknowledged the commit
+  -- Whether no participant's acknowledgement of the commit is missing yet.
   pub acknowledged : Bool
-  -- the transactions of which the client was told that they are committed
+  -- The transactions that the client was told are committed.
   pub told : List ℕ
 
--- that, and what befell the logs, the newest first
+-- The tally, and what happened to the logs, the newest event first.
 pub record State : Type 0 where
   pub tally : Tally
   pub events : List Event
 
--- the number of the transaction under way, from 0
+-- The number of the transaction under way, from 0.
 abbrev pub number : Tally → ℕ
 number t = t.begun - 1
 
@@ -74,15 +74,15 @@ at_step t step = record { step = step; begun = t.begun; yes = t.yes; acknowledge
 abbrev pub with_yes : Tally → ℕ → Tally
 with_yes t i = record { step = t.step; begun = t.begun; yes = t.yes ++ i ∷ []; acknowledged = t.acknowledged; told = t.told }
 
--- an acknowledgement is missing
+-- The tally after an acknowledgement turned out to be missing.
 abbrev pub unacknowledged : Tally → Tally
 unacknowledged t = record { step = t.step; begun = t.begun; yes = t.yes; acknowledged = false; told = t.told }
 
--- the client is told that the transaction under way is committed
+-- The tally after the client was told that the transaction under way is committed.
 abbrev pub with_told : Tally → Tally
 with_told t = record { step = t.step; begun = t.begun; yes = t.yes; acknowledged = t.acknowledged; told = t.told ++ number t ∷ [] }
 
--- one of so many, where it is one of them; the first of them, and the one after another
+-- The number i if it is one of the first `count` numbers, else none. Below: the first number, and the one after i.
 abbrev pub one_of : ℕ → ℕ → Option ℕ
 one_of i count = if nat_lt i count then Some i else None
 
@@ -94,17 +94,17 @@ next_of i count = one_of (i + 1) count
 
 -- ---- between transactions
 
--- one transaction more is begun
+-- The tally after one more transaction was begun.
 abbrev pub opened : Tally → Tally
 opened t = record { step = t.step; begun = t.begun + 1; yes = []; acknowledged = true; told = t.told }
 
--- the next transaction is begun, if there is one: its question is the next
+-- Begins the next transaction with its first question. If there is no further transaction, the run is over.
 abbrev pub begun : Work → Tally → Tally
 begun w t = if nat_lt t.begun (length w.transactions) then at_step (opened t) (SendPrepare 0) else at_step t Over
 
 -- ---- the second phase
 
--- the second phase of a commit is over. Where an acknowledgement is missing then, end_first asks nothing more
+-- The second phase of a commit is over. If an acknowledgement is missing by then, `end_first` asks nothing more.
 abbrev pub after_phase : Variant → Work → Tally → Tally
 after_phase Sound w t = begun w t
 after_phase LazyPrepare w t = begun w t
@@ -112,7 +112,7 @@ after_phase EarlyEnd w t = begun w t
 after_phase TwoTries w t = begun w t
 after_phase EndFirst w t = if t.acknowledged then begun w t else at_step t Over
 
--- an outcome of commit is sent to this participant; without one the second phase is over
+-- The commit is sent to this participant. If there is none, the second phase is over.
 abbrev pub commit_to : Variant → Work → Tally → Option ℕ → Tally
 commit_to v w t (Some i) = at_step t (SendCommit i)
 commit_to v w t None = after_phase v w t
@@ -120,7 +120,7 @@ commit_to v w t None = after_phase v w t
 abbrev pub after_commit_to : Variant → Work → Tally → ℕ → Tally
 after_commit_to v w t i = commit_to v w t (next_of i w.participants)
 
--- an outcome of abort is sent to those whose yes arrived
+-- The abort is sent to the participant at this place among those whose yes arrived. If there is none, the next transaction is begun.
 abbrev pub abort_to : Work → Tally → Option ℕ → Tally
 abort_to w t (Some k) = at_step t (SendAbort k)
 abort_to w t None = begun w t
@@ -131,13 +131,13 @@ aborted w t = abort_to w t (first_of (length t.yes))
 abbrev pub after_abort_to : Work → Tally → ℕ → Tally
 after_abort_to w t k = abort_to w t (next_of k (length t.yes))
 
--- the decision is commit, and the client is told
+-- The decision is to commit, and the client is told.
 abbrev pub committed : Tally → Tally
 committed t = at_step (with_told t) (SendCommit 0)
 
 -- ---- the first phase
 
--- commit only where every participant's yes arrived
+-- The decision is to commit only if every participant's yes arrived.
 abbrev pub decided : Work → Tally → Tally
 decided w t = if length t.yes == w.participants then at_step t ForceCommit else aborted w t
 
@@ -145,11 +145,11 @@ abbrev pub prepare_to : Work → Tally → Option ℕ → Tally
 prepare_to w t (Some i) = at_step t (SendPrepare i)
 prepare_to w t None = decided w t
 
--- the participant has voted, or its vote is lost
+-- The participant has voted, or its vote is lost.
 abbrev pub after_vote : Work → Tally → ℕ → Tally
 after_vote w t i = prepare_to w t (next_of i w.participants)
 
--- one that wishes yes prepares first
+-- A participant that wishes yes prepares first.
 abbrev pub vote_step : Vote → ℕ → Step
 vote_step Yes i = ForcePrepare i
 vote_step No i = SendVote i No
@@ -158,7 +158,7 @@ abbrev pub with_vote : Tally → ℕ → Vote → Tally
 with_vote t i Yes = with_yes t i
 with_vote t i No = t
 
--- two_tries forces the commit record once more
+-- What follows if the commit record can't be forced: `two_tries` tries once more, and the others abort.
 abbrev pub after_no_commit : Variant → Work → Tally → Tally
 after_no_commit Sound w t = aborted w t
 after_no_commit LazyPrepare w t = aborted w t
@@ -168,7 +168,7 @@ after_no_commit EndFirst w t = aborted w t
 
 -- ---- the table of steps
 
--- where a step leads that was answered to go on
+-- The tally that a step leads to if it is answered with `Go`.
 abbrev pub on_go : Variant → Work → Tally → Step → Tally
 on_go v w t (SendPrepare i) = at_step t (vote_step (wish w (number t) i) i)
 on_go v w t (ForcePrepare i) = at_step t (SendVote i Yes)
@@ -181,8 +181,8 @@ on_go v w t (SendAck i) = after_commit_to v w t i
 on_go v w t (SendAbort k) = after_abort_to w t k
 on_go v w t Over = at_step t Over
 
--- where it leads where it was answered that it fails. What was sent is lost, and a participant that can't prepare votes no. After its
--- second try two_tries goes on as if the commit record stood
+-- The tally that a step leads to if it is answered with `Return`, so that it fails. What was sent is lost, and a participant that can't prepare votes
+-- no. After its second try `two_tries` goes on as if the commit record had been written.
 abbrev pub on_return : Variant → Work → Tally → Step → Tally
 on_return v w t (SendPrepare i) = after_vote w t i
 on_return v w t (ForcePrepare i) = at_step t (SendVote i No)
@@ -200,7 +200,7 @@ on_return v w t Over = at_step t Over
 abbrev pub entry : Tally → Kind → Record
 entry t k = record { transaction = number t; kind = k }
 
--- lazy_prepare only appends it
+-- The write of a prepare record. `lazy_prepare` only appends it.
 abbrev pub prepare_write : Variant → Tally → ℕ → Write
 prepare_write Sound t i = Force (Participant i) (entry t kind.Prepare)
 prepare_write LazyPrepare t i = Append (Participant i) (entry t kind.Prepare)
@@ -208,7 +208,7 @@ prepare_write EarlyEnd t i = Force (Participant i) (entry t kind.Prepare)
 prepare_write TwoTries t i = Force (Participant i) (entry t kind.Prepare)
 prepare_write EndFirst t i = Force (Participant i) (entry t kind.Prepare)
 
--- the end record of a commit, once all have acknowledged; early_end forces it, whatever was acknowledged, and end_first has it by then
+-- The write of the end record of a commit, once all have acknowledged. `early_end` forces it in any case, and `end_first` has written it earlier.
 abbrev pub end_if : Bool → Tally → Option Write
 end_if all t = if all then Some (Append Coordinator (entry t kind.End)) else None
 
@@ -219,7 +219,7 @@ end_write EarlyEnd t all = Some (Force Coordinator (entry t kind.End))
 end_write TwoTries t all = end_if all t
 end_write EndFirst t all = None
 
--- the second phase of a commit is over with its last participant
+-- The end record is written if there is no further participant.
 abbrev pub end_unless : Variant → Tally → Bool → Option ℕ → Option Write
 end_unless v t all (Some i) = None
 end_unless v t all None = end_write v t all
@@ -236,7 +236,7 @@ go_write v w t (SendAck i) = end_unless v t t.acknowledged (next_of i w.particip
 go_write v w t (SendAbort k) = Some (Append (Participant (slice_index_or t.yes k 0)) (entry t kind.Abort))
 go_write v w t Over = None
 
--- and what is written after that: end_first appends the end record behind the commit record, before anybody is told
+-- What is written after that: `end_first` appends the end record right after the commit record, before anybody is told.
 abbrev pub early_write : Variant → Tally → Option Write
 early_write Sound t = None
 early_write LazyPrepare t = None
@@ -274,7 +274,7 @@ with_write (Some w) es = Written w ∷ es
 
 -- ---- a whole run
 
--- after a halt nothing is done or asked
+-- The state after an answer. After `Halt` nothing more is done or asked.
 abbrev pub stepped : Variant → Work → State → Reply → State
 stepped v w s Go = record {
   tally = on_go v w s.tally s.tally.step;
@@ -289,7 +289,7 @@ before_all = record { step = Over; begun = 0; yes = []; acknowledged = true; tol
 abbrev pub start_of : Work → State
 start_of w = record { tally = begun w before_all; events = [] }
 
--- the point that a step asks
+-- The point that a step asks.
 abbrev pub point_at : Step → Option ℕ
 point_at (SendPrepare i) = Some send_prepare_point
 point_at (ForcePrepare i) = Some force_prepare_point
@@ -308,7 +308,7 @@ judged_at w s = judged w.participants s.tally.told s.events s.tally.begun
 abbrev pub move_of : Work → State → Move
 move_of w s = move_by (judged_at w s) (point_at s.tally.step)
 
--- the steps as a machine, what is asked after these answers, and how far the answers lead from a state
+-- The steps as a machine; what is asked after these answers; and the state to which answers lead from another state.
 abbrev pub machine : Variant → Work → Machine State
 machine v w = record { first = start_of w; step = stepped v w; move = move_of w }
 
@@ -332,7 +332,7 @@ step_within j (SendAck i) = omega arith
 step_within j (SendAbort k) = omega arith
 step_within j Over = tt
 
--- each question is of one of the seven points
+-- Each question is of one of the seven points.
 pub asks-within : (v : Variant) (w : Work) (answers : List Reply) → IsWithin 7 (asks_of v w answers)
 asks-within v w answers = within_by (machine v w) 7 (λ s. step_within (judged_at w s) s.tally.step) answers
 
@@ -344,7 +344,7 @@ over_stays v w s Go e = ap (λ (x : Step). (on_go v w s.tally x).step) e
 over_stays v w s (Return text) e = ap (λ (x : Step). (on_return v w s.tally x).step) e
 over_stays v w s Halt e = refl
 
--- no question follows a halt
+-- No question follows a halt.
 pub asks-halts : (v : Variant) (w : Work) (before after : List Reply) → IsDone (asks_of v w (before ++ Halt ∷ after))
 asks-halts v w before after =
     halts_by (machine v w) (λ s. s.tally.step ≡ Over)

@@ -1,4 +1,4 @@
--- Names and numbers of two-phase commit: points, labels, and codes of failures.
+-- Names and numbers of two-phase commit: its points, labels, and failure codes.
 use Rattle.std.specs.Prelude.{ℕ, ◌+◌, ◌==◌, if◌then◌else◌, List, [], ◌∷◌, ◌++◌, codes}
 use Rattle.std.specs.Fmt.{decimal}
 use Rattle.commit_target.specs.declared.records.Kind.{Kind}
@@ -8,7 +8,7 @@ use Rattle.commit_target.specs.declared.records.Party.TheVariants.{Coordinator, 
 use Rattle.commit_target.specs.declared.variant.Variant.{Variant}
 use Rattle.commit_target.specs.declared.variant.Variant.TheVariants.{Sound, LazyPrepare, EarlyEnd, TwoTries, EndFirst}
 
--- the points, in the order of their numbers
+-- The points, in the order of their numbers.
 abbrev pub point_names : List (List ℕ)
 point_names =
     codes "commit::send_prepare" ∷ codes "commit::force_prepare" ∷ codes "commit::send_vote" ∷ codes "commit::force_commit"
@@ -42,8 +42,8 @@ label EarlyEnd = codes "commit early_end"
 label TwoTries = codes "commit two_tries"
 label EndFirst = codes "commit end_first"
 
--- the codes of failures: two participants ended differently; the client was told of a commit that nobody kept; all committed what the
--- client was not told of
+-- The failure codes. `split`: two participants ended differently. `lost`: the client was told of a commit, but nobody committed. `phantom`: all
+-- committed, but the client wasn't told so.
 abbrev pub split : ℕ
 split = 0
 
@@ -56,7 +56,7 @@ phantom = 2
 abbrev pub code_text : ℕ → List ℕ
 code_text code = if code == split then codes "split" else (if code == lost then codes "lost" else codes "phantom")
 
--- the texts of parties, whose participants are numbered from 1 there, and of what records say
+-- The texts of parties, in which participants are numbered from 1, and of kinds of records.
 abbrev pub party_text : Party → List ℕ
 party_text Coordinator = codes "coordinator"
 party_text (Participant n) = codes "participant " ++ decimal (n + 1)

@@ -1,3 +1,4 @@
+//! The target: its setup, its catalogue, and its runs.
 ghost use Rattle.std.specs.Prelude.{◌≡◌, map, string_bytes, IfOk};
 ghost use Rattle.std.proofs.Common.{rules};
 ghost use Rattle.action_eval.specs.Answers.{start, given_of};
@@ -55,8 +56,8 @@ impl Commit {
         }
     }
 
-    /// Plays a case up to its power cut, and tells each record that is pending then, in the order in which they were made over all logs: `append
-    /// coordinator end 1`, `append participant 2 abort 1`. Where the cut is asked, its hit K at `power::keep` stands for the K-th of them. Participants,
+    /// Plays a case up to its power cut, and returns each record that is pending then, in the order in which they were made over all logs: `append
+    /// coordinator end 1`, `append participant 2 abort 1`. If the cut is asked, its hit K at `power::keep` stands for the K-th of them. Participants,
     /// and the transaction at the end, are numbered from 1.
     ///
     /// An error means that memory was refused. The target keeps its setup, after an error too.
@@ -84,7 +85,7 @@ impl Commit {
             workload,
         };
         play_out(script, &mut self.progress, &mut self.logs, &mut session)?;
-        // for its clause alone, that at most one hit is past the limit
+        // Called for its contract: at most one hit is past the limit.
         let _ = session.trace();
         call_texts(alloc, self.logs.pending())
     }

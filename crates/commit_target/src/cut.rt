@@ -1,3 +1,4 @@
+//! A question to the session, and why a run may end at one.
 ghost use Rattle.std.specs.Prelude.{◌≡◌, ◌<◌, length, None, Some};
 ghost use Rattle.action_eval.specs.Answers.{stopped};
 ghost use Rattle.commit_target.specs.declared.cut.Cut.TheVariants.{Refused};
@@ -27,7 +28,7 @@ impl From<AllocError> for Cut {
     }
 }
 
-/// Asks a point, and tells whether to go on, or that what was asked fails.
+/// Asks a point. True means to go on, false that what was asked fails.
 #[inline(always)]
 pub fn ask(session: &mut Session<'_>, point: u32) -> Result<bool, Cut>
     requires known { point < length session.old.given.catalogue }

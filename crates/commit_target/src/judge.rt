@@ -1,3 +1,4 @@
+//! The judgement: how each transaction ended, by the records that are left in the logs and by what the client was told.
 ghost use Rattle.std.specs.Prelude.{◌≡◌, ◌<◌, ◌≤◌, ◌+◌, ◌-◌, ℕ, List, true, IfOk};
 ghost use Rattle.target_trait.specs.declared.judgement.Judgement.TheVariants.{Kept};
 ghost use Rattle.commit_target.specs.Judgement.{is_committed, judged_ends, or_then, judged_by, judged};
@@ -21,8 +22,8 @@ pub const LOST: u32 = 1;
 /// The code of a transaction that all commit though the client was not told so.
 pub const PHANTOM: u32 = 2;
 
-/// The transactions that end as committed at the participant with these marks, where the coordinator has those: it inquires of one that it
-/// only prepared.
+/// The transactions that end as committed at a participant with these marks, if the coordinator has those marks: the participant inquires about a
+/// transaction that it only prepared.
 fn committed(coordinator: &Marks, own: &Marks) -> u64
     ensures { (first : ℕ) (log records : List Record) → AreMarks coordinator.now.sets log first → AreMarks own.now.sets records first
         → (k : ℕ) → k < WIDTH → among result k ≡ is_committed log records (first + k) }
@@ -53,8 +54,8 @@ struct Ends {
 }
 
 impl Ends {
-    /// How those from the first one on end, by the records that are in the logs.
-    // It is called with 0 but for more than 64 transactions, and is inlined for that.
+    /// How the transactions from the first one on end, by the records in the logs.
+    // It is called with 0 unless there are more than 64 transactions, and is inlined for that case.
     #[inline(always)]
     fn from(logs: &Logs, participants: usize, told: &[usize], first: usize) -> Ends
         ensures first { result.first ≡ first }
@@ -76,7 +77,7 @@ impl Ends {
         }
     }
 
-    /// These, where the transaction is among them, and otherwise those from it on.
+    /// These transactions, if this one is among them; otherwise those from this one on.
     fn reach(self, logs: &Logs, participants: usize, told: &[usize], transaction: usize) -> Ends
         requires { self.first ≤ transaction }
         ensures from { result.first ≤ transaction }
@@ -102,7 +103,7 @@ impl Ends {
         (split | phantom | lost) == 0
     }
 
-    /// The judgement of a transaction that is among these, after that of those before it: what was broken first stays so.
+    /// The judgement so far with this transaction, which has to be among these: what was broken first stays.
     fn judged(&self, judgement: Judgement, transaction: usize) -> Judgement
         requires from { self.now.first ≤ transaction }
         requires within { transaction < self.now.first + WIDTH }
@@ -121,7 +122,7 @@ impl Ends {
     }
 }
 
-/// Judges the transactions that were begun, the first to the last, by the records that are in the logs.
+/// Judges the transactions that were begun, from the first to the last, by the records in the logs.
 #[inline(always)]
 fn judgement(logs: &Logs, participants: usize, told: &[usize], begun: usize) -> Judgement
     ensures { (known : List Record) (own : ℕ → List Record) → Holds participants logs.now known own
@@ -149,7 +150,7 @@ pub fn judge(logs: &mut Logs, participants: usize, told: &[usize], begun: usize)
     judgement(logs, participants, told, begun)
 }
 
-/// Restarts all parties after a power cut that keeps those pending records for which the answers say so, and judges the transactions that were begun.
+/// Restarts all parties after a power cut that keeps the pending records for which the answers say so, and judges the transactions that were begun.
 /// An error means that memory was refused.
 pub fn judge_keeping(
     logs: &mut Logs,

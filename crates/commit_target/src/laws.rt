@@ -1,4 +1,4 @@
-//! What holds of every run.
+//! Laws of the variants' runs: under which scenario each flawed one fails, and that the sound one never does.
 ghost use Rattle.std.specs.Prelude.{◌≡◌, ◌≤◌, ℕ, true, List, All};
 ghost use Rattle.action_eval.specs.Answers.{Reply, given_of};
 ghost use Rattle.target_trait.specs.Outcomes.{outcome};
@@ -27,15 +27,15 @@ pub fn sound_never_fails(scenario: &Scenario, seed: u64, stream: u64, max_hits: 
         (outcome (asks_of Sound w) (given_of scenario.now point_names seed stream max_hits)).verdict ≡ Fail code → ⊥ }
 {}
 
-/// What the sound variant rests on, after any answers: the client is told of a commit exactly where the coordinator's commit record lasts,
-/// which stands on the lasting prepare records of all; without it no participant has a commit record; and an end record stands on the
-/// lasting commit records of all.
+/// What the sound variant rests on, after any answers. The client is told of a commit exactly if the coordinator's commit record lasts. That record
+/// stands on the lasting prepare records of all participants, and without it no participant has a commit record. An end record stands on the lasting
+/// commit records of all participants.
 pub fn sound_bears_out()
     ensures { (w : Work) → 1 ≤ w.participants → (answers : List Reply) (transaction : ℕ) →
         let s = laid Sound w (start_of w) answers in BearsOut w.participants s.events transaction (was_told s.tally.told transaction) }
 {}
 
-/// After any answers a yes that arrived stands on a lasting prepare record: of that participant, for the transaction under way.
+/// After any answers, a yes that arrived stands on a lasting prepare record of that participant for the transaction under way.
 pub fn yes_is_prepared()
     ensures { (w : Work) (answers : List Reply) →
         let s = laid Sound w (start_of w) answers in
@@ -69,9 +69,9 @@ pub fn two_tries_is_split()
         (outcome (asks_of TwoTries both_wish_yes) (given_of no_commit_record point_names seed stream 1000)).verdict ≡ Fail split }
 {}
 
-/// end_first fails where the outcome is lost on its way to the first participant, and a power cut keeps the coordinator's end record: the first inquires,
-/// the coordinator presumes an abort, and the second has committed. Where the run panics before any is told, both abort, and the commit that the client was
-/// told of is lost. A cut that loses all shows neither, under the same faults.
+/// end_first fails if the outcome is lost on its way to the first participant and a power cut keeps the coordinator's end record: the first inquires,
+/// the coordinator presumes an abort, and the second has committed. If the run panics before any participant is told, both abort, and the commit that
+/// the client was told of is lost. A cut that loses everything shows neither under the same faults.
 pub fn a_kept_end_shows_end_first()
     ensures split { (seed stream : ℕ) → (outcome (asks_with (asks_of EndFirst both_wish_yes) (cut_of EndFirst both_wish_yes) 7)
         (given_of outcome_lost_end_kept (with_keep point_names) seed stream 1000)).verdict ≡ Fail split }
@@ -83,8 +83,8 @@ pub fn a_kept_end_shows_end_first()
         (given_of outcome_never_sent (with_keep point_names) seed stream 1000)).verdict ≡ Pass }
 {}
 
-/// Presumed abort as published never fails, whatever a power cut keeps of what is pending in the logs: for every scenario, of its points and of
-/// `power::keep`, the verdict of its run with the cut is pass or unresolved.
+/// Presumed abort as published never fails, whatever a power cut keeps of what is pending in the logs: for every scenario, which may name its points
+/// and `power::keep`, the verdict of its run with the cut is pass or unresolved.
 pub fn sound_survives_each_cut(scenario: &Scenario, seed: u64, stream: u64, max_hits: u32)
     ensures { (w : Work) → 1 ≤ w.participants → (code : ℕ) → (outcome (asks_with (asks_of Sound w) (cut_of Sound w) 7)
         (given_of scenario.now (with_keep point_names) seed stream max_hits)).verdict ≡ Fail code → ⊥ }

@@ -1,3 +1,4 @@
+//! The logs of all parties, as one.
 ghost use Rattle.std.specs.Prelude.{◌≡◌, ◌<◌, ◌≤◌, ◌+◌, ℕ, true, List, [], ◌∷◌, OnOk, OnErr, length};
 ghost use Rattle.sim_device.specs.LogEffects.{Restart, LogStandsFor, AddsLogEffect, RestartsKeeping};
 ghost use Rattle.commit_target.specs.declared.records.Party.TheVariants.{Participant};
@@ -18,7 +19,7 @@ pub struct Logs {
     alloc: Global,
     coordinator: MarkedLog,
     participants: Vec<MarkedLog>,
-    // Whether the order is kept. A run without its cut asks for none of it.
+    // Whether the order is noted. A run without its cut needs none.
     notes: bool,
     // The pending records, in the order in which they were made over all logs, which no log knows.
     order: Vec<PendingRecord>,
@@ -42,7 +43,7 @@ fn clear_each(logs: &mut [MarkedLog])
     }
 }
 
-/// Empty logs for so many participants.
+/// Makes empty logs for this many participants.
 fn clear_first(alloc: Global, logs: &mut Vec<MarkedLog>, count: usize) -> Result<(), AllocError>
     ensures enough { OnOk result (count ≤ length logs.new.items) }
     ensures empty { OnOk result ((n : ℕ) → n < count → LogStandsFor (log_at logs.new.items n) []) }
@@ -55,7 +56,7 @@ fn clear_first(alloc: Global, logs: &mut Vec<MarkedLog>, count: usize) -> Result
     Ok(())
 }
 
-/// Each log keeps what lasts.
+/// Leaves in each log what lasts.
 fn restart_each(logs: &mut [MarkedLog])
     ensures same { length logs.new ≡ length logs.old }
     ensures each { (n : ℕ) → n < length logs.old → AddsLogEffect (log_at logs.old n) (log_at logs.new n) Restart }
@@ -65,7 +66,7 @@ fn restart_each(logs: &mut [MarkedLog])
     }
 }
 
-/// Each participant's log keeps what lasts, and what these answers keep of its pending records.
+/// Leaves in each participant's log what lasts, and what these answers keep of its pending records.
 fn keep_each(
     logs: &mut [MarkedLog],
     order: &[PendingRecord],
@@ -105,7 +106,7 @@ fn add_to(
     }
 }
 
-/// Adds a record to each log, from one on, up to another.
+/// Adds a record to each log from one up to another.
 #[inline(always)]
 fn add_row(
     logs: &mut [MarkedLog],
@@ -137,7 +138,7 @@ impl Logs {
         }
     }
 
-    /// Empty logs for the coordinator and so many participants. What was there is forgotten; its memory is used again.
+    /// Empties the logs for the coordinator and this many participants. What was there is forgotten; its memory is used again.
     fn begin(&mut self, participants: usize, notes: bool) -> Result<(), AllocError>
         ensures notes { self.new.notes ≡ notes }
         ensures ok { OnOk result (LogsStandFor participants self.new []) }
@@ -149,7 +150,8 @@ impl Logs {
         clear_first(self.alloc, &mut self.participants, participants)
     }
 
-    /// Empty logs for the coordinator and so many participants, that note nothing. What was there is forgotten; its memory is used again.
+    /// Empties the logs for the coordinator and this many participants, which then note nothing. What was there is forgotten; its memory is used
+    /// again.
     ///
     /// An error means that memory was refused: the logs that are there are empty, and those of some participants are missing.
     pub fn clear(&mut self, participants: usize) -> Result<(), AllocError>
@@ -159,7 +161,7 @@ impl Logs {
         self.begin(participants, false)
     }
 
-    /// The same, of logs that note which records are pending.
+    /// The same for logs that note which records are pending.
     pub(crate) fn clear_to_note(&mut self, participants: usize) -> Result<(), AllocError>
         ensures notes { self.new.notes ≡ true }
         ensures ok { OnOk result (LogsStandFor participants self.new []) }
@@ -221,7 +223,7 @@ impl Logs {
         }
     }
 
-    /// Adds a record to the log of each of so many participants in a row, from one on. A participant without a log writes nothing.
+    /// Adds a record to the logs of `count` participants in a row, from one on. A participant without a log writes nothing.
     ///
     /// An error means that memory was refused: some of them may have the record.
     #[inline(always)]
@@ -245,7 +247,7 @@ impl Logs {
         Ok(())
     }
 
-    /// All parties restart, and each log keeps what lasts.
+    /// Restarts all parties. Each log keeps what lasts.
     pub(crate) fn restart(&mut self)
         ensures { AddsEvent self.old self.new AllRestart }
     {
@@ -261,8 +263,8 @@ impl Logs {
         self.order.as_slice()
     }
 
-    /// All parties restart. Each log keeps what lasts, and of what is pending those records for which these answers say so, in the order in which they
-    /// were made over all logs, with those before them in their log.
+    /// Restarts all parties. Each log keeps what lasts, and the pending records for which these answers say so, with those before them in their log.
+    /// The answers are in the order in which the records were made over all logs.
     ///
     /// An error means that memory was refused: some logs have restarted.
     pub(crate) fn restart_keeping(&mut self, keep: &[bool]) -> Result<(), AllocError>
@@ -286,7 +288,7 @@ impl Logs {
         &self.coordinator
     }
 
-    /// The logs of the first participants: of so many, where they are there.
+    /// The logs of the first `count` participants, as far as they are there.
     pub(crate) fn participants(&self, count: usize) -> &[MarkedLog]
         ensures { count ≤ length self.now.participants
             → (length result.now ≡ count) × ((n : ℕ) → n < count → log_at result.now n ≡ log_at self.now.participants n) }

@@ -1,4 +1,4 @@
-//! A log of a party, with the marks of its records. These are kept as records come: to walk each log after each run costs more.
+//! A log of a party, with the marks of its records. The marks are made as records come, because walking each log after each run costs more.
 ghost use Rattle.std.specs.Prelude.{◌≡◌, [], OnOk, OnErr};
 ghost use Rattle.sim_device.specs.LogEffects.{Restart, LogStandsFor, AddsLogEffect, RestartsKeeping};
 ghost use Rattle.commit_target.specs.declared.records.Record.{Record};
@@ -16,7 +16,7 @@ use std::marker::Model;
 pub enum Manner {
     /// It does not last yet.
     Append,
-    /// It lasts, with all before it.
+    /// It lasts, with all records before it.
     Force,
 }
 
@@ -50,7 +50,7 @@ impl MarkedLog {
         }
     }
 
-    /// A log with no records again. Its memory is kept for the records to come.
+    /// Empties the log. Its memory is kept for the records to come.
     pub fn clear(&mut self)
         ensures { LogStandsFor self.new [] }
     {
@@ -75,7 +75,7 @@ impl MarkedLog {
     }
 
     /// Leaves only the records that last.
-    // These are a front of all: where they are as many, they are the same.
+    // The log begins with them: if there are as many, they are the same.
     pub fn restart(&mut self)
         ensures { AddsLogEffect self.old self.new Restart }
     {
@@ -87,7 +87,7 @@ impl MarkedLog {
         }
     }
 
-    /// Leaves the records that last, and the pending ones for which the answers say so, with those before them.
+    /// Restarts, and keeps the pending records for which the answers say so, with those before them.
     pub fn restart_keeping(&mut self, keep: &[bool])
         ensures { RestartsKeeping self.old self.new keep.now }
     {

@@ -1,4 +1,4 @@
-//! What logs say of 64 transactions in a row: sets of transactions, a bit of a word for each.
+//! What logs say of 64 transactions in a row, as sets of transactions. A set is a word with a bit for each transaction.
 ghost use Rattle.std.specs.Prelude.{◌≡◌, ◌<◌, ◌+◌, ◌==◌, ◌∷◌, ◌++◌, ℕ, List, [], slice_index};
 ghost use Rattle.commit_target.specs.declared.records.Record.{Record};
 ghost use Rattle.commit_target.specs.Judgement.{was_told};
@@ -6,7 +6,7 @@ ghost use Rattle.commit_target.specs.inside.Marks.{among, place_of, AreMarks};
 
 use crate::records::{Kind, Record};
 
-/// How many transactions a set is of.
+/// How many transactions a set can have.
 pub(crate) const WIDTH: usize = 64;
 
 /// Whether the transaction at this place is in a set.
@@ -17,7 +17,7 @@ pub(crate) fn among(set: u64, place: usize) -> bool
     set >> place & 1 == 1
 }
 
-/// The set of one transaction, of those from the first one on.
+/// The set with this one transaction. Places are counted from the transaction `first` on.
 fn only(transaction: usize, first: usize) -> u64
     ensures { (k : ℕ) → k < WIDTH → among result k ≡ (transaction == first + k) }
 {
@@ -28,7 +28,7 @@ fn only(transaction: usize, first: usize) -> u64
     }
 }
 
-/// The set of these transactions, of those from the first one on.
+/// The set with these transactions. Places are counted from the transaction `first` on.
 pub(crate) fn set_of(transactions: &[usize], first: usize) -> u64
     ensures { (k : ℕ) → k < WIDTH → among result k ≡ was_told transactions.now (first + k) }
 {
@@ -58,7 +58,7 @@ pub(crate) struct Marks {
 }
 
 impl Marks {
-    /// Those of a log, of the transactions from the first one on.
+    /// The marks of a log, for the transactions from `first` on.
     // The sets stand in an array, since a branch on the kind of each record would be mispredicted every other time.
     pub fn of(log: &[Record], first: usize) -> Marks
         ensures { AreMarks result.sets log.now first }
@@ -70,14 +70,14 @@ impl Marks {
         Marks { sets }
     }
 
-    /// Those of a log without a record.
+    /// The marks of a log without a record.
     pub fn none() -> Marks
         ensures { (first : ℕ) → AreMarks result.sets [] first }
     {
         Marks { sets: [0; 4] }
     }
 
-    /// Marks one record more, of the transactions from the first one on.
+    /// Sets the transaction's bit in the set of records of this kind. Places are counted from the transaction `first` on.
     #[inline(always)]
     pub fn add(&mut self, entry: Record, first: usize)
         ensures { (log : List Record) → AreMarks self.old.sets log first → AreMarks self.new.sets (log ++ entry ∷ []) first }

@@ -18,7 +18,7 @@ fn settle(order: &mut Vec<PendingRecord>, party: Party)
     }
 }
 
-/// Notes a record, for which there is room.
+/// Notes a record. There has to be room for it.
 pub fn note(order: &mut Vec<PendingRecord>, pending: PendingRecord, manner: Manner)
     requires { vec_len order.old < vec_capacity order.old }
     ensures { order.new.items ≡ noted manner pending order.old.items }
@@ -29,7 +29,7 @@ pub fn note(order: &mut Vec<PendingRecord>, pending: PendingRecord, manner: Mann
     }
 }
 
-/// Notes the same record of each of so many participants in a row, from one on.
+/// Notes the same record for each of `count` participants in a row, from one on.
 pub fn note_each(
     order: &mut Vec<PendingRecord>,
     first: usize,
@@ -53,7 +53,7 @@ pub fn note_each(
     Ok(())
 }
 
-/// The answers for the pending records of one party, of those for all.
+/// The answers for the pending records of one party, from the answers for those of all parties.
 pub fn answer(
     party: Party,
     order: &[PendingRecord],

@@ -16,14 +16,14 @@ use crate::variant::Variant;
 use std::alloc::AllocError;
 use target_trait::Session;
 
-/// What is asked of a participant that is told of the commit, where nothing fails.
+/// The points that are asked for a participant that is told of the commit, if nothing fails.
 const ROUND: [u32; 3] = [
     Point::SendOutcome as u32,
     Point::ForceOutcome as u32,
     Point::SendAck as u32,
 ];
 
-/// The coordinator forces the commit record. end_first has the end record behind it.
+/// Forces the coordinator's commit record. end_first puts the end record behind it.
 fn force_commit(
     script: Script<'_>,
     progress: &Progress,
@@ -46,7 +46,7 @@ fn force_commit(
     Ok(true)
 }
 
-/// It tries once more, and goes on as if the record stood.
+/// Tries the commit record once more, and goes on as if it stood.
 fn force_commit_again(
     script: Script<'_>,
     progress: &Progress,
@@ -65,7 +65,7 @@ fn force_commit_again(
     Ok(())
 }
 
-/// Where every yes arrived: whether the decision is commit. The client is told of it then.
+/// Whether the decision is commit, if every yes arrived. If it is, the client is told.
 pub fn commits(
     script: Script<'_>,
     progress: &mut Progress,
@@ -93,7 +93,7 @@ pub fn commits(
     Ok(true)
 }
 
-/// The participant at this place among those whose yes arrived is told of the abort.
+/// Tells the participant at this place, among those whose yes arrived, of the abort.
 fn abort_to(
     script: Script<'_>,
     place: usize,
@@ -117,7 +117,7 @@ fn abort_to(
     Ok(())
 }
 
-/// So many of those whose yes arrived, from the first one on, know of the abort.
+/// Adds the abort record to the logs of the first `count` participants whose yes arrived.
 fn abort_each(count: usize, progress: &Progress, logs: &mut Logs) -> Result<(), AllocError>
     ensures notes { logs.new.notes ≡ logs.old.notes }
     ensures adds { OnOk result (AddsAll logs.old logs.new (λ place. abort_write progress.now place) 0 count) }
@@ -129,7 +129,7 @@ fn abort_each(count: usize, progress: &Progress, logs: &mut Logs) -> Result<(), 
     Ok(())
 }
 
-/// Those whose yes arrived are told of the abort where nothing comes between, from the first one on: how many they are.
+/// Tells those whose yes arrived of the abort, from the first one on, as long as nothing comes between. Returns how many these are.
 fn pass_aborts(
     script: Script<'_>,
     progress: &Progress,
@@ -148,7 +148,7 @@ fn pass_aborts(
     Ok(passed)
 }
 
-/// Those whose yes arrived are told of the abort.
+/// Tells all participants whose yes arrived of the abort.
 pub fn tell_abort(
     script: Script<'_>,
     progress: &Progress,
@@ -167,7 +167,7 @@ pub fn tell_abort(
     Ok(())
 }
 
-/// A participant is told of the commit: whether it has acknowledged it.
+/// Tells a participant of the commit, and returns whether it has acknowledged that.
 fn commit_to(
     script: Script<'_>,
     participant: usize,
@@ -195,7 +195,7 @@ fn commit_to(
     ask(session, Point::SendAck as u32)
 }
 
-/// Participants in a row, from this one on, are told of the commit where nothing comes between: how many they are.
+/// Tells participants in a row, from this one on, of the commit, as long as nothing comes between. Returns how many these are.
 fn pass_commits(
     script: Script<'_>,
     participant: usize,
@@ -218,7 +218,7 @@ fn pass_commits(
     Ok(passed)
 }
 
-/// Participants from this one on are told of the commit, one at least: the next participant.
+/// Tells participants of the commit, from this one on and at least this one. Returns the next participant.
 fn some_commits(
     script: Script<'_>,
     participant: usize,
@@ -246,7 +246,7 @@ fn some_commits(
     Ok(participant + 1)
 }
 
-/// All participants are told of the commit, and then the coordinator ends it.
+/// Tells all participants of the commit; then the coordinator ends it.
 fn tell_all(
     script: Script<'_>,
     progress: &mut Progress,
@@ -271,7 +271,7 @@ fn tell_all(
     Ok(())
 }
 
-/// The second phase of a commit. end_first gives up where an acknowledgement is missing then.
+/// The second phase of a commit. end_first gives up if an acknowledgement is missing afterwards.
 pub fn tell_commit(
     script: Script<'_>,
     progress: &mut Progress,

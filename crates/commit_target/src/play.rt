@@ -62,7 +62,7 @@ fn transactions(
     Ok(())
 }
 
-/// Plays a run up to where it is judged, from empty logs on.
+/// Plays a run from empty logs up to its judgement.
 #[inline(always)]
 pub fn play_out(
     script: Script<'_>,
@@ -118,7 +118,7 @@ pub const TO_CUT: &[&str] = &[
     "power::keep",
 ];
 
-/// Plays a run and its power cut, which keeps what it is told to, restarts all parties, and judges.
+/// Plays a run and its power cut, which keeps the records for which its point returns, restarts all parties, and judges.
 ///
 /// An error means that memory was refused. The session then has the hits up to there.
 pub fn play_to_cut(

@@ -1,3 +1,4 @@
+//! How far a run has come.
 ghost use Rattle.std.specs.Prelude.{◌≡◌, ◌+◌, ◌<◌, ◌≤◌, if◌then◌else◌, OnOk, OnErr, length, slice_index_or};
 ghost use Rattle.commit_target.specs.Work.{Work};
 ghost use Rattle.commit_target.specs.Steps.{Over, at_step, with_told, with_vote, with_yes, unacknowledged, entry, number, opened, before_all, begun};
@@ -10,16 +11,16 @@ use crate::work::Vote;
 use std::alloc::{AllocError, Global};
 use std::marker::Model;
 
-/// So many of the first participants are counted at most: as many as a workload has.
+/// The most first participants that are counted: as many as a workload may have.
 const MOST: usize = 8;
 
-/// How far the transactions of a run have come, beside the step, which is the place in the code.
+/// How far the transactions of a run have come. The step within one is the place in the code, and isn't kept here.
 #[derive(Drop)]
 pub struct Progress {
     begun: usize,
-    // The number of the transaction under way, which each record tells.
+    // The number of the transaction under way, which each record has.
     number: usize,
-    // The participants whose yes arrived are mostly the first ones: so many of these, and only others are listed.
+    // The participants whose yes arrived are mostly the first ones. This counts those; only others are listed.
     front: usize,
     rest: Vec<usize>,
     acknowledged: bool,
@@ -122,7 +123,7 @@ impl Progress {
         self.acknowledged = true;
     }
 
-    /// The yes of a participant arrived.
+    /// Notes that the yes of a participant arrived.
     fn take_one(&mut self, participant: usize) -> Result<(), AllocError>
         ensures ok { OnOk result (self.new ≡ with_yes self.old participant) }
         ensures err { OnErr result (self.new ≡ self.old) }
@@ -135,7 +136,7 @@ impl Progress {
         Ok(())
     }
 
-    /// A vote arrived.
+    /// Notes that a vote arrived.
     pub fn take_vote(&mut self, participant: usize, vote: Vote) -> Result<(), AllocError>
         ensures ok { OnOk result (self.new ≡ with_vote self.old participant vote) }
         ensures err { OnErr result (self.new ≡ self.old) }
@@ -146,7 +147,7 @@ impl Progress {
         }
     }
 
-    /// A yes of each of so many participants in a row arrived, from one on.
+    /// Notes that the yes of each of `count` participants in a row arrived, from one on.
     pub fn take_yes(&mut self, first: usize, count: usize) -> Result<(), AllocError>
         requires { first + count ≤ usize.MAX }
         ensures begun { self.new.begun ≡ self.old.begun }
@@ -162,7 +163,7 @@ impl Progress {
         Ok(())
     }
 
-    /// The client is told that the transaction under way is committed.
+    /// Notes that the client is told that the transaction under way is committed.
     pub fn tell(&mut self) -> Result<(), AllocError>
         ensures ok { OnOk result (self.new ≡ with_told self.old) }
         ensures err { OnErr result (self.new ≡ self.old) }
@@ -172,7 +173,7 @@ impl Progress {
         Ok(())
     }
 
-    /// An acknowledgement is missing.
+    /// Notes that an acknowledgement is missing.
     pub fn miss(&mut self)
         ensures { self.new ≡ unacknowledged self.old }
     {

@@ -1,3 +1,4 @@
+//! Records, and whose they are.
 ghost use Rattle.std.specs.Prelude.{◌≡◌};
 ghost use Rattle.commit_target.specs.Writes.{is_party};
 
@@ -43,7 +44,7 @@ impl Party {
     }
 }
 
-/// A record that its log wasn't forced after, and whose log it is.
+/// A record after which its log wasn't forced, and whose log that is.
 #[derive(Clone, Copy, Debug, PartialEq, Eq)]
 pub struct PendingRecord {
     pub party: Party,
@@ -55,6 +56,6 @@ pub struct PendingRecord {
 pub enum Write {
     /// A record that does not last yet.
     Append(Party, Record),
-    /// A record that lasts, with all before it in that log.
+    /// A record that lasts, with all records before it in that log.
     Force(Party, Record),
 }

@@ -1,3 +1,4 @@
+//! What is the same for all steps of a run.
 use crate::variant::Variant;
 use crate::work::Transactions;
 

@@ -1,4 +1,4 @@
-//! What pending records say, in words.
+//! The texts that say what pending records are.
 ghost use Rattle.std.specs.Prelude.{◌≡◌, map, string_bytes, Some, IfOk};
 ghost use Rattle.commit_target.specs.Words.{party_text, kind_text};
 ghost use Rattle.commit_target.specs.Crash.{call_text, call_texts};
@@ -13,7 +13,7 @@ impl fmt::Display for Party {
     fn fmt<W: fmt::Write>(&self, f: &mut fmt::Formatter<W>) -> fmt::Result {
         match self {
             Party::Coordinator => f.write_str("coordinator"),
-            // a number that no run has would else be too large for the sum
+            // no run has such a number, but otherwise the sum might be too large
             Party::Participant(number) => write!(f, "participant {}", *number as u128 + 1),
         }
     }

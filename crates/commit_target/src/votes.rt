@@ -20,14 +20,14 @@ use crate::work::Vote;
 use std::alloc::AllocError;
 use target_trait::Session;
 
-/// What is asked of a participant that wishes yes, where nothing fails.
+/// The points that are asked for a participant that wishes yes, if nothing fails.
 const ROUND: [u32; 3] = [
     Point::SendPrepare as u32,
     Point::ForcePrepare as u32,
     Point::SendVote as u32,
 ];
 
-/// A participant that wishes yes writes its prepare record. One that can't votes no.
+/// Writes the prepare record of a participant that wishes yes. A participant that can't write it votes no.
 fn prepare(
     script: Script<'_>,
     participant: usize,
@@ -47,7 +47,7 @@ fn prepare(
     Ok(Vote::Yes)
 }
 
-/// What a participant votes that was asked to prepare.
+/// The vote of a participant that was asked to prepare.
 fn choose(
     script: Script<'_>,
     participant: usize,
@@ -67,7 +67,7 @@ fn choose(
     }
 }
 
-/// A participant is asked to prepare, and its vote is taken, if it arrives.
+/// Asks a participant to prepare, and takes its vote if that arrives.
 fn vote(
     script: Script<'_>,
     participant: usize,
@@ -102,7 +102,7 @@ fn manner_of(variant: Variant) -> Manner
     }
 }
 
-/// So many participants in a row, from one on, write their prepare records.
+/// Writes the prepare records of `count` participants in a row, from one on.
 fn prepare_each(
     variant: Variant,
     first: usize,
@@ -118,7 +118,7 @@ fn prepare_each(
     logs.add_each(first, count, entry, manner_of(variant))
 }
 
-/// The votes of participants in a row, from this one on, that wish yes and where nothing comes between: how many they are.
+/// Takes the votes of participants in a row, from this one on, that wish yes, as long as nothing comes between. Returns how many these are.
 fn pass_votes(
     script: Script<'_>,
     participant: usize,
@@ -143,7 +143,7 @@ fn pass_votes(
     Ok(passed)
 }
 
-/// The votes of participants from this one on, one at least: the next participant.
+/// Takes the votes of participants from this one on and at least this one. Returns the next participant.
 fn some_votes(
     script: Script<'_>,
     participant: usize,
@@ -169,7 +169,7 @@ fn some_votes(
     Ok(participant + 1)
 }
 
-/// All participants are asked.
+/// Asks all participants.
 pub fn votes(
     script: Script<'_>,
     progress: &mut Progress,

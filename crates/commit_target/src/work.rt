@@ -1,3 +1,4 @@
+//! The workload: transactions, and what each participant wishes.
 ghost use Rattle.std.specs.Prelude.{◌≡◌, ◌+◌, ◌-◌, ◌<◌, ◌≤◌, ℕ, [], length, slice_index_or, All};
 ghost use Rattle.commit_target.specs.declared.work.Vote.TheVariants.{No};
 ghost use Rattle.commit_target.specs.Work.{wish};
@@ -16,7 +17,7 @@ pub enum Vote {
 #[derive(Debug, Drop)]
 pub struct Votes {
     votes: Vec<Vote>,
-    // How many in a row wish yes, from the first one on. Each run asks for it, so it is counted once.
+    // How many participants in a row wish yes, from the first one on. Each run needs it, so it is counted once.
     willing: usize,
 }
 
@@ -33,7 +34,7 @@ impl Model for Votes {
 }
 
 impl Votes {
-    /// These wishes, moved in. It takes no memory.
+    /// A transaction of these wishes, which are moved in. It takes no memory.
     pub fn new(votes: Vec<Vote>) -> Self
         ensures { result ≡ votes.items }
     {
@@ -61,7 +62,7 @@ impl Votes {
     }
 }
 
-/// The wish at a place. Who isn't there wishes no.
+/// The wish at a place. A participant that isn't there wishes no.
 fn wish_at(votes: &[Vote], place: usize) -> Vote
     ensures { result ≡ slice_index_or votes.now place No }
 {
@@ -101,7 +102,7 @@ impl Model for Transactions {
 }
 
 impl Transactions {
-    /// These transactions, moved in. It takes no memory.
+    /// A workload of these transactions, which are moved in. It takes no memory.
     pub fn new(participants: usize, transactions: Vec<Votes>) -> Self
         requires some { 1 ≤ participants }
         requires few { participants ≤ 8 }
@@ -140,7 +141,7 @@ impl Transactions {
         }
     }
 
-    /// The wish of a participant in a transaction, both numbered from 0. Who isn't there wishes no.
+    /// The wish of a participant in a transaction, both numbered from 0. A participant that isn't there wishes no.
     pub fn wish(&self, transaction: usize, participant: usize) -> Vote
         ensures { result ≡ wish self.now transaction participant }
     {

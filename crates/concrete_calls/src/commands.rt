@@ -6,7 +6,7 @@ use std::sync::Wait;
 use std::thread::Threads;
 use target_trait::{ByTable, WithCut};
 
-/// A target by itself, with settings as a text.
+/// The commands over a target, with settings as a text.
 pub fn transfer_is_performed<H: Threads + Wait + Sync>(
     host: &Host<'_, FreeGate, H>,
     order: &Order,
@@ -28,7 +28,7 @@ pub fn transfer_is_performed<H: Threads + Wait + Sync>(
     )
 }
 
-/// A target told by a table of its steps, whose power cut is asked.
+/// The commands over a target that is given by a table of its steps and ends with its power cut.
 pub fn journal_is_cut<H: Threads + Wait + Sync>(
     host: &Host<'_, FreeGate, H>,
     order: &Order,

@@ -1,7 +1,7 @@
-//! The public calls that take a target, a probe or a table of the caller's own, each made once at concrete types: so there is a caller who
-//! can meet its bounds and what it requires. `paklour` makes none of them; programs with a target of their own do.
+//! The public calls that take a target, a probe or a table of the caller's own, each made once at concrete types. This shows that a caller can meet
+//! the call's bounds and what it requires. `paklour` makes none of these calls; programs with a target of their own do.
 //!
-//! Such a call is proved over what its bounds say, of whatever type. That a type with these bounds is there is shown here, and by nothing else.
+//! Such a call is proved for every type that keeps its bounds. That there is such a type is shown here, and by nothing else.
 #![tactic(auto)]
 
 mod censuses;

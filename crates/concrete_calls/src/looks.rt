@@ -1,4 +1,4 @@
-//! What is looked for in a target that isn't proved.
+//! The calls that look for what is wrong in a target that isn't proved.
 ghost use Rattle.std.specs.Prelude.{◌≡◌, ◌≤◌, None, IfOk, length};
 
 use example_target::{Amount, Transfer};
@@ -21,7 +21,7 @@ pub fn law_that_a_transfer_breaks(
     broken_law(alloc, transfer, amount, 0, 10)
 }
 
-/// A plan whose second run comes to another verdict, of those that have run: none.
+/// A plan whose second run comes to another verdict: there is none.
 pub fn plan_that_says_otherwise(
     alloc: Global,
     transfer: &Transfer,
@@ -32,7 +32,7 @@ pub fn plan_that_says_otherwise(
     changed_verdict(alloc, transfer, input, &[])
 }
 
-/// The same of a transfer as a candidate, of which nothing is known but its runs.
+/// The same for a transfer as a candidate, of which only the runs are known.
 pub fn law_that_a_candidate_breaks(
     alloc: Global,
     transfer: &mut Transfer,
@@ -41,7 +41,7 @@ pub fn law_that_a_candidate_breaks(
     first_broken_law(alloc, transfer, amount, 0, 10)
 }
 
-/// And of a plan's second run.
+/// The same for a plan's second run.
 pub fn plan_that_a_candidate_changes(
     alloc: Global,
     transfer: &mut Transfer,

@@ -9,7 +9,7 @@ use std::sync::Wait;
 use std::thread::Threads;
 use work_gate::FreeGate;
 
-/// A set fails where it has both faults.
+/// A set fails if it has both faults.
 #[derive(Drop)]
 pub struct Pair {
     pub first: u32,
@@ -24,12 +24,14 @@ impl Probe for Pair {
     }
 }
 
+/// By the recursion on one thread.
 pub fn reduced_plainly(alloc: Global, pair: &mut Pair) -> Result<Reduction, AllocError>
     ensures { IfOk result (λ r. r ≡ ddmin (has_both pair.old.first pair.old.second) 4096) }
 {
     reduce_plain(alloc, pair, 4096)
 }
 
+/// By a core on one thread.
 pub fn reduced_by_a_core(alloc: Global, pair: &mut Pair) -> Result<Reduction, AllocError>
     ensures { IfOk result (λ r. r ≡ ddmin (has_both pair.old.first pair.old.second) 4096) }
 {

@@ -35,7 +35,7 @@ pub record CutHit (all : List Reply → Move) (g : Given) (n : ℕ) (hits : List
 still_within : (g : Given) (hits : List ℕ) → length hits ≤ g.limit → is_over (at g hits) ≡ false
 still_within g hits h = grind (arith, nat_tests)
 
--- what is told of a run within its limit, by its history
+-- Whether a run within its limit is cut short, by its history.
 pub short_is : (g : Given) (hits : List ℕ) (h : List Hit) → length hits ≤ g.limit → history_of (at g hits) ≡ h → is_cut_short (at g hits) ≡ cuts_short (stopped_by h)
 short_is g hits h few is =
     ap (λ b. cuts_short (cond b (Some stop.Limit) (stopped_by (history_of (at g hits))))) (still_within g hits few) ∙ ap (λ (l : List Hit). cuts_short (stopped_by l)) is

@@ -1,4 +1,4 @@
--- For each set of pending writes there is a scenario that leaves just these.
+-- For each set of pending writes there is a scenario that leaves exactly these.
 use Rattle.std.proofs.Common.{◌≡◌, ℕ, ◌<◌, ◌+◌, ◌≤◌, nat_lt, Bool, false, List, [], ◌++◌, length, map, ap, sym, ◌∙◌, subst, arith}
 use Rattle.std.specs.Str.{bytes_eq}
 use Rattle.std.proofs.lemmas.Bool.Decides.{nat_tests}

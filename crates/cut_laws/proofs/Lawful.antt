@@ -1,4 +1,4 @@
--- A scenario with the entry that keeps just some writes is one by the limits of scenarios.
+-- A scenario with the entry that keeps only some writes is within the limits of scenarios.
 use Rattle.std.proofs.Common.{◌≡◌, ℕ, ◌+◌, ◌*◌, ◌^◌, ◌<◌, ◌≤◌, eqb, Bool, true, false, cond, List, [], ◌∷◌, ◌++◌, length, Some, None, refl, ap, arith, length-append}
 use Rattle.std.specs.Fmt.{decimal}
 use Rattle.std.specs.List.{AllByRecursion, flat_map}

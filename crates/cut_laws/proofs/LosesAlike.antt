@@ -1,4 +1,4 @@
--- Cuts that judge as the run itself where they lose all.
+-- Cuts that judge as the run itself does if they lose everything.
 use Rattle.std.proofs.Common.{◌≡◌, ℕ, Bool, true, false, List, replicate, Option, Some, None, ap, ◌∙◌}
 use Rattle.action_eval.specs.Answers.{Reply}
 use Rattle.target_trait.specs.declared.judgement.Judgement.{Judgement}

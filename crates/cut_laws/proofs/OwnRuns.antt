@@ -1,4 +1,4 @@
--- What a case's run is: the hits that were asked, up to the end or to where it was cut short; and that its hits are asked with the cut behind it too.
+-- A case's run is the hits that were asked, up to its end or until it was cut short; and its hits are asked with the cut behind it too.
 use Rattle.std.proofs.Common.{◌≡◌, ℕ, zero, suc, ◌+◌, ◌<◌, ◌≤◌, nat_lt, Bool, true, false, cond, List, [], ◌∷◌, ◌++◌, length, Option, Some, refl, ap, sym, ◌∙◌, subst, arith, append_assoc}
 use Rattle.std.proofs.lemmas.Bool.Decides.{nat_tests}
 use Rattle.std.proofs.lemmas.List.{append-nil, length_push}

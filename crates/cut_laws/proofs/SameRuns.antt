@@ -1,4 +1,4 @@
--- Of scenarios that mean the same, the runs of a case tell the same.
+-- If two scenarios mean the same, so do the runs of a case under them.
 use Rattle.std.proofs.Common.{◌≡◌, ℕ, zero, suc, cond, List, [], ◌∷◌, ◌++◌, ap, ◌∙◌}
 use Rattle.scenario_values.specs.Scenario.{Entries}
 use Rattle.action_eval.specs.Answers.{Run, Reply, run_of, hit, cuts_short}

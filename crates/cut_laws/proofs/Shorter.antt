@@ -1,4 +1,4 @@
--- The terms that keep just some writes do what a term for each write does, and are few.
+-- The terms that keep only some writes do what a term for each write does, and are few.
 use Rattle.std.proofs.Common.{◌≡◌, ℕ, zero, suc, ◌+◌, ◌*◌, ◌<◌, ◌≤◌, eqb, Bool, true, false, cond, List, [], ◌∷◌, ◌++◌, length, map, refl, ap, sym, arith, count_by, length-append}
 use Rattle.std.specs.Str.{bytes_eq}
 use Rattle.std.proofs.lemmas.Bool.Decides.{nat_tests}

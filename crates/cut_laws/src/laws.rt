@@ -14,11 +14,12 @@ ghost use Rattle.cut_laws.specs.KeptSets.{run_of_case, LacksKeep, HasRoom, keep_
 
 use target_trait::{CrashProtocol, CrashTarget};
 
-/// Each state: of each run of a target that has ended, by itself or by a panic, and for each set of the writes that it leaves pending, there is a
-/// scenario that leaves just these: the run's own, with one more entry of `power::keep`. The limit has to have room for a hit for each of the writes.
+/// Each state: for each run of a target that has ended by itself or by a panic, and for each set of the writes that it leaves pending, there is a
+/// scenario that leaves just these: the run's own, with one more entry for `power::keep`. The limit has to have room for a hit for each of the
+/// writes.
 ///
-/// The entry has at most two terms for each write that is kept, however many are lost: of five writes the fourth is kept by `3*off->1*return`. Where a
-/// scenario has room for it by its limits, it makes one.
+/// The entry has at most two terms for each kept write, however many writes are lost. For example `3*off->1*return` keeps the fourth of five writes.
+/// If the scenario's limits have room for the entry, the result is a scenario.
 pub fn each_kept_set_has_a_scenario<T: CrashTarget>()
     ensures leaves { (setup : T) (workload : T.Workload) (seed stream limit : ℕ) (s : Entries) (keep : List Bool) → LacksKeep s
         → is_cut_short (run_of_case (T.asks setup workload) T.names seed stream limit s) ≡ false
@@ -31,9 +32,9 @@ pub fn each_kept_set_has_a_scenario<T: CrashTarget>()
         → IsScenario (keeping keep s) }
 {}
 
-/// Nothing weaker: what fails without its power cut fails with it, with the same code, by the same scenario. So it is of each target whose cut judges
-/// as the run itself where it loses all, as far as the limit has room for a hit for each pending write; and of a pass, and of a run that nothing is
-/// known of. With less room nothing is known of the run with its cut.
+/// Nothing weaker: a scenario has with the power cut the verdict that it has without: what fails without the cut fails with it, with the same code.
+/// This holds if the scenario doesn't name `power::keep`, if the target's cut judges as the run itself when it loses everything, and if the limit has
+/// room for a hit for each pending write. With less room the run with its cut is unresolved.
 pub fn nothing_is_weaker<T: CrashTarget>()
     ensures same { (setup : T) (workload : T.Workload) (seed stream limit : ℕ) (s : Entries) → LacksKeep s
         → LosesAlike (T.asks setup workload) (T.cut setup workload)
@@ -46,7 +47,7 @@ pub fn nothing_is_weaker<T: CrashTarget>()
         ≡ Unresolved }
 {}
 
-/// Which cuts judge as the run itself where they lose all: those of a table, where each state is judged so when it loses all; and the cut of what leaves
+/// Which cuts judge as the run itself when they lose everything: those of a table, if it judges each state so; and the cut of a component that leaves
 /// nothing pending.
 pub fn these_lose_alike<P: CrashProtocol>()
     ensures by_table { (setup : P) (workload : P.Workload)

@@ -1,5 +1,5 @@
-//! Laws of runs to their power cut, over every target: for each set of pending writes there is a scenario that leaves just these, and what fails
-//! without its cut fails with it.
+//! Laws of runs with their power cut, over every target: for each set of pending writes a scenario leaves just these, and what fails without the cut
+//! fails with it, if a cut that loses everything is judged as no cut.
 #![tactic(auto)]
 
 mod laws;

@@ -49,7 +49,7 @@ board_push old new events events' event added is step more same =
     step ∙ ap (λ s. apply s event) is ∙ sym (replay_push (begin old.faults) (map event_of events) event)
     ∙ ap (λ f. replay (begin f) (map event_of events ++ event ∷ [])) faults ∙ ap (replay (begin new.faults)) (sym list)
 
--- ---- where each answer that was put is the test's own
+-- ---- if each answer that was put is the test's own
 
 pub put_agrees : (known : Known) (test : List ℕ → Bool) (s : List ℕ) (b : Bool) → Agrees (get known) test → b ≡ test s → Agrees (get (insert known s b)) test
 put_agrees known test s b agrees own t d is = at (same_set t s) refl
@@ -139,7 +139,7 @@ backed_own test pairs own (core.Put s b ∷ events) is = let h = both (is_told s
 backed_own test pairs own (core.GiveBack s ∷ events) is = (tt, backed_own test pairs own events is)
 backed_own test pairs own (core.Recall ∷ events) is = (tt, backed_own test pairs own events is)
 
--- a board's core, where each answer that was put is the test's own
+-- A board's core, if each answer that was put is the test's own.
 pub own_tells : (test : List ℕ → Bool) (faults : ℕ) (events : List core.Event) → AreOwn test events → Tells faults test (replay (begin faults) events)
 own_tells test faults events own = record {
   count = replay_faults (begin faults) events;

@@ -92,7 +92,7 @@ grows known s b none t d is = at (same_set s t) refl
     at true e = let unlike : get known t ≡ None = ap (get known) (sym (same_exact s t e)) ∙ none in cc
     at false e = get_other known s t b e ∙ is
 
--- what a core keeps, of its parts
+-- What a core keeps, said of its parts.
 pub record IsGood (faults : ℕ) (known : Known) (out : List (List ℕ)) (p : Position) : Type 0 where
   pub few : faults ≤ 4096
   pub stands : p ≡ furthest (get known) (start faults)
@@ -198,7 +198,7 @@ open_push known s (t ∷ out) h unknown is = at (same_set s t) refl (open_push k
     at true e rest is = absurd (let never : true ≡ false = is in cc)
     at false e rest is = (h.0, any_push out h.1 (same_turned t s ∙ e), rest is)
 
--- where no request is open and none is out, the round is decided
+-- If no request is open and none is out, the round is decided.
 open_none : (known : Answers) (out : List ℕ → Bool) → ((s : List ℕ) → out s ≡ false) → (ss : List Candidate) (tests : ℕ)
     → first_open known out ss ≡ None → decided known ss tests ≡ None → ⊥
 open_none known out clear [] tests open_is is = let never : ◌≡◌ {A = Option Decision} (Some (NoneFails tests)) None = is in cc
@@ -226,7 +226,7 @@ open_none known out clear (s ∷ ss) tests open_is is = at (open_none known out 
     at deeper (Some true) h e = let never : ◌≡◌ {A = Option Decision} (Some (Fails s (counted tests))) None = e in cc
     at deeper (Some false) h e = deeper h e
 
--- no request comes only at the end, or where one is out
+-- No request comes only at the end, or if one is out.
 or_else_first : (o o' : Option (List ℕ)) → or_else o o' ≡ None → o ≡ None
 or_else_first None o' is = refl
 or_else_first (Some s) o' is = is
@@ -259,7 +259,7 @@ none_open state ahead clear none = at (furthest (get state.known) (start state.f
 get_same : (known : Known) (s t : List ℕ) (b : Bool) → same_set s t ≡ true → get (insert known s b) t ≡ Some b
 get_same known s t b alike = get-insert nat_list_cmp_total known s b t ∙ ap (λ c. cond c (Some b) (get known t)) (same_turned t s ∙ alike)
 
--- a set that is out stays so, but for the one that was put
+-- A set that is out stays out, except the one that was put.
 among_without : (s t : List ℕ) (out : List (List ℕ)) → same_set s t ≡ false → list_any (same_set t) out ≡ true → list_any (same_set t) (without s out) ≡ true
 among_without s t [] unlike is = is
 among_without s t (u ∷ out) unlike is = at (same_set s u) refl (same_set t u) refl (among_without s t out unlike) is
@@ -273,7 +273,7 @@ among_without s t (u ∷ out) unlike is = at (same_set s u) refl (same_set t u) 
     at false e true f rest h = rw f refl
     at false e false f rest h = rw f (rest h)
 
--- where an answer says that its set passes, what was shut stays so
+-- If an answer says that its set passes, what was shut stays shut.
 shut_put : (known : Known) (out : List (List ℕ)) (s : List ℕ) (t : List ℕ) → is_shut (get known) (is_among out) t ≡ true
     → is_shut (get (insert known s false)) (is_among (without s out)) t ≡ true
 shut_put known out s t is = at (same_set s t) refl

@@ -27,7 +27,7 @@ abbrev pub IfNoneFails : Decision → Type 0 → Type 0
 IfNoneFails (Fails s tests) P = Unit {0}
 IfNoneFails (NoneFails tests) P = P
 
--- where none fails, each was looked at
+-- If none fails, each was looked at.
 pub decide_none : (test : List ℕ → Bool) (ss : List Candidate) (tests : ℕ) → IfNoneFails (decide test ss tests) (AllByRecursion (λ s. test s.set ≡ false) ss)
 decide_none test [] tests = tt
 decide_none test (s ∷ ss) tests = at (decide test ss (counted tests)) (decide_none test ss (counted tests)) (test s.set) refl
@@ -62,7 +62,7 @@ front_of : {X : Type 0} (P : X → Type 0) (xs ys : List X) → AllByRecursion P
 front_of P [] ys h = tt
 front_of P (x ∷ xs) ys h = (h.0, front_of P xs ys h.1)
 
--- where no candidate of the finest round fails, no member can be left out
+-- If no candidate of the finest round fails, no member can be left out.
 finest_complements : (test : List ℕ → Bool) (c : List ℕ) → 2 < length c → AllByRecursion (λ s. test s.set ≡ false) (round c (length c))
     → (i : ℕ) → i < length c → test (remove c i) ≡ false
 unfolding round

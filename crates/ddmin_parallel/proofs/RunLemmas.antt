@@ -119,11 +119,11 @@ faults_append (r ∷ rs) ss =
     ap (λ xs. range_with_len r.0 (r.1 + 1 - r.0) ++ xs) (faults_append rs ss)
     ∙ sym (append_assoc (range_with_len r.0 (r.1 + 1 - r.0)) (faults_of rs) (faults_of ss))
 
--- packed runs are one where their faults are
+-- Packed runs are one if their faults are.
 pub same_runs : (rs ss : List (ℕ × ℕ)) → runs_of (faults_of rs) ≡ rs → runs_of (faults_of ss) ≡ ss → faults_of rs ≡ faults_of ss → rs ≡ ss
 same_runs rs ss packed too same = sym packed ∙ ap runs_of same ∙ too
 
--- the run with this fault at its end, where that leaves no gap
+-- The run with this fault at its end, if that leaves no gap.
 abbrev pub lengthened : ℕ × ℕ → ℕ → Option (ℕ × ℕ)
 lengthened run x = cond (nat_eq (run.1 + 1) x) (Some (run.0, x)) None
 

@@ -35,7 +35,7 @@ shut_pass known out s e = rw (e, is_shut) refl
 pub shut_out : (known : Answers) (out : List ℕ → Bool) (s : List ℕ) → known s ≡ None → out s ≡ true → is_shut known out s ≡ true
 shut_out known out s e is = rw (e, is_shut) is
 
--- a set that is shut stays so where no less is out
+-- A set that is shut stays shut if no fewer are out.
 shut_wider : (known : Answers) (out out' : List ℕ → Bool) → ((s : List ℕ) → out s ≡ true → out' s ≡ true) → (s : List ℕ) → is_shut known out s ≡ true
     → is_shut known out' s ≡ true
 shut_wider known out out' wider s is = elim (shut_cases known out s is) [ inl e ↦ shut_pass known out' s e | inr e ↦ shut_out known out' s e.0 (wider s e.1) ]
@@ -176,7 +176,7 @@ pub record IsFollowed (known : Answers) (out : List ℕ → Bool) (p q : Positio
   pub there : (k : ℕ) → IsShutBelow known out (onward known p) k → IsShutBelow known out q k
   pub back : (out' : List ℕ → Bool) (k : ℕ) → IsShutBelow known out' q k → IsShutBelow known out' (onward known p) k
 
--- where a step is hoped for
+-- A step that is only hoped for.
 hoped_step : (known : Answers) (out : List ℕ → Bool) (p q : Position) → IsLawful p → IsSmall p → step (hoping known) p ≡ Some q → IsFollowed known out p q
 hoped_step known out p q lawful small is =
     let on = step_on (hoping known) p q lawful small is in

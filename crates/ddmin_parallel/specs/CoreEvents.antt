@@ -1,5 +1,5 @@
--- The reducer as a core of events: it hands out requests, each a set to be tested, and is told the answers in any
--- order. What it knows, which requests are out and where the recursion stands is a function of the events alone.
+-- The reducer as a core of events: it hands out requests, each a set to be tested, and takes the answers in any order. What it knows, which requests
+-- are out and how far the recursion has come depends only on the events.
 
 use Rattle.std.specs.Prelude.{◌≡◌, ℕ, zero, suc, ◌*◌, Bool, true, false, List, [], ◌∷◌, ◌++◌, length, nat_lt, nat_le, min, Option, None, Some, unwrap_or}
 use Rattle.std.specs.List.{range_with_len, list_any}
@@ -11,11 +11,11 @@ use Rattle.ddmin_parallel.specs.Ddmin.{Decision, Fails, NoneFails, counted, Redu
 
 -- ---- how far the recursion goes by known answers alone
 
--- what is known of each set
+-- What is known of each set.
 abbrev pub Answers : Type 0
 Answers = List ℕ → Option Bool
 
--- what the known answers decide of a round, if they do: each candidate up to the first that fails must be known
+-- What the known answers decide of a round. They decide it if each candidate up to the first that fails is known.
 abbrev pub decided : Answers → List Candidate → ℕ → Option Decision
 decided known [] tests = Some (NoneFails tests)
 decided known (s ∷ ss) tests = elim (known s.set) [
@@ -23,7 +23,7 @@ decided known (s ∷ ss) tests = elim (known s.set) [
   | Some fails ↦ elim fails [ true ↦ Some (Fails s (counted tests)) | false ↦ decided known ss (counted tests) ]
 ]
 
--- a place in the recursion: at the empty set of so many faults, at ddmin2(c, n) after so many tests, or at its end
+-- A position in the recursion: at the empty set, with this many faults; at ddmin2(c, n) after this many tests; or at its end.
 pub data Position : Type 0 where
   Empty : ℕ → Position
   Round : List ℕ → ℕ → ℕ → Position
@@ -48,34 +48,34 @@ abbrev pub option_then : {A B : Type 0} → (A → B) → Option A → Option B
 option_then f None = None
 option_then f (Some x) = Some (f x)
 
--- the position after this one, if the known answers decide it
+-- The position after this one, if the known answers decide it.
 abbrev pub step : Answers → Position → Option Position
 step known (Empty faults) = option_then (after_empty faults) (known [])
 step known (Round c n tests) = option_then (after_decision c n) (decided known (round c n) tests)
 step known (End r) = None
 
--- falls from step to step
+-- A number that becomes smaller with each step.
 abbrev pub position_rank : Position → ℕ
 position_rank (Empty faults) = suc (suc (rank (range_with_len 0 faults) 2))
 position_rank (Round c n tests) = suc (rank c n)
 position_rank (End r) = 0
 
--- the position after at most so many steps
+-- The position after at most this many steps.
 unfoldable pub walk : ℕ → Answers → Position → Position
 walk zero known p = p
 walk (suc steps) known p = elim (step known p) [ None ↦ p | Some q ↦ walk steps known q ]
 
--- the furthest position that the known answers lead to
+-- The furthest position that the known answers lead to.
 unfoldable pub furthest : Answers → Position → Position
 furthest known p = walk (position_rank p) known p
 
--- the reduction that a position leads to
+-- The reduction that a position leads to.
 abbrev pub finish : (List ℕ → Bool) → Position → Reduced
 finish test (Empty faults) = ddmin test faults
 finish test (Round c n tests) = ddmin2 test c n tests
 finish test (End r) = r
 
--- what is known is what the test answers
+-- All known answers are those of the test.
 abbrev pub Agrees : Answers → (List ℕ → Bool) → Type 0
 Agrees known test = (s : List ℕ) (fails : Bool) → known s ≡ Some fails → test s ≡ fails
 
@@ -87,7 +87,7 @@ Known = FinMap (slice_cmp nat_cmp) Bool
 abbrev pub same_set : List ℕ → List ℕ → Bool
 same_set s t = is_eq (slice_cmp nat_cmp s t)
 
--- how many faults there are, what is known, and which sets are out
+-- How many faults there are, what is known, and which sets are out.
 pub record State : Type 0 where
   pub faults : ℕ
   pub known : Known
@@ -99,12 +99,12 @@ position state = furthest (get state.known) (start state.faults)
 abbrev pub is_out : State → List ℕ → Bool
 is_out state s = list_any (same_set s) state.out
 
--- the sets that are left out once s is back
+-- The sets that are still out after s is back.
 abbrev pub without : List ℕ → List (List ℕ) → List (List ℕ)
 without s [] = []
 without s (t ∷ out) = elim (same_set s t) [ true ↦ out | false ↦ t ∷ without s out ]
 
--- a call that is refused, hands out nothing or changes nothing is no event
+-- What happens to a reducer. A call that is refused, hands out nothing or changes nothing is no event.
 pub data Event : Type 0 where
   Take : List ℕ → Event
   Put : List ℕ → Bool → Event
@@ -120,14 +120,14 @@ apply state Recall = record state { out = [] }
 abbrev pub begin : ℕ → State
 begin faults = record { faults = faults; known = empty; out = [] }
 
--- the state after these events, the first one first
+-- The state after these events, the first one first.
 abbrev pub replay : State → List Event → State
 replay state [] = state
 replay state (event ∷ events) = replay (apply state event) events
 
 -- ---- which request comes next
 
--- the first candidate that is neither known nor out, before any that is known to fail
+-- The first candidate that is neither known nor out, before any that is known to fail.
 abbrev pub first_open : Answers → (List ℕ → Bool) → List Candidate → Option (List ℕ)
 first_open known out [] = None
 first_open known out (s ∷ ss) = elim (known s.set) [
@@ -135,18 +135,17 @@ first_open known out (s ∷ ss) = elim (known s.set) [
   | Some fails ↦ elim fails [ true ↦ None | false ↦ first_open known out ss ]
 ]
 
--- the candidates at a position; the empty set is a round of its own
+-- The candidates at a position. The empty set is a round of its own.
 abbrev pub round_at : Position → List Candidate
 round_at (Empty faults) = record { set = []; parts = 2 } ∷ []
 round_at (Round c n tests) = round c n
 round_at (End r) = []
 
--- what is known, and of each other set that it does not fail
+-- The known answers, and the assumption that each other set doesn't fail.
 abbrev pub hoping : Answers → Answers
 hoping known s = Some (unwrap_or (known s) false)
 
--- the round one further: the one that a candidate known to fail leads to, else the one that follows if no open
--- candidate fails
+-- The next round after this one: the one that a candidate known to fail leads to, or else the one that follows if no open candidate fails.
 abbrev pub next_round : Answers → Position → List Candidate
 next_round known p = elim (step (hoping known) p) [ None ↦ [] | Some q ↦ round_at q ]
 
@@ -154,13 +153,13 @@ abbrev pub or_else : Option (List ℕ) → Option (List ℕ) → Option (List �
 or_else None o = o
 or_else (Some s) o = Some s
 
--- the request of the present round, and where there is none and `ahead` is on, of the round one further
+-- The request of the present round. If there is none and `ahead` is on, a request of the next round.
 unfoldable pub next : State → Bool → Option (List ℕ)
 next state ahead =
     or_else (first_open (get state.known) (is_out state) (round_at (position state)))
     (elim ahead [ true ↦ first_open (get state.known) (is_out state) (next_round (get state.known) (position state)) | false ↦ None ])
 
--- what a take leaves
+-- The state after a request was taken, if there was one to take.
 abbrev pub after_take : State → Option (List ℕ) → State
 after_take state None = state
 after_take state (Some s) = apply state (Take s)

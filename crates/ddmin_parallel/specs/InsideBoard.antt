@@ -15,7 +15,7 @@ event_of Recall = core.Recall
 abbrev pub log_of : Inside → Log
 log_of b = record { faults = b.core.faults; events = map event_of b.events.items }
 
--- the core is where the events lead, and each request that is out has a place reserved for the event that ends it
+-- The core is in the state that the events lead to, and each request that is out has room reserved for the event that ends it.
 pub record IsBoard (b : Inside) : Type 0 where
   pub stands : b.core ≡ state_of (log_of b)
   pub room : vec_len b.events + length b.core.out ≤ vec_capacity b.events

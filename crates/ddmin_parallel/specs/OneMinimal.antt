@@ -1,8 +1,8 @@
--- One-minimality, after A. Zeller and R. Hildebrandt, "Simplifying and Isolating Failure-Inducing Input" (2002)
+-- One-minimality, after A. Zeller and R. Hildebrandt, "Simplifying and Isolating Failure-Inducing Input" (2002).
 
 use Rattle.std.specs.Prelude.{◌≡◌, ℕ, ◌<◌, Bool, true, false, List, length, remove}
 
--- the set fails, and without any one of its members it does not
+-- The set fails, and it doesn't fail if any one of its members is left out.
 pub record IsOneMinimal (test : List ℕ → Bool) (set : List ℕ) : Type 0 where
   pub fails : test set ≡ true
   pub each : (i : ℕ) → i < length set → test (remove set i) ≡ false

@@ -1,3 +1,4 @@
+//! The sets that a round tries, by their places in it.
 ghost use Rattle.std.specs.Prelude.{◌≡◌, ℕ, ◌+◌, ◌*◌, ◌^◌, ◌<◌, List, IfOk, max};
 ghost use Rattle.std.specs.List.{range_with_len};
 ghost use Rattle.ddmin_parallel.specs.Rounds.{part, complement, Candidate};
@@ -7,7 +8,7 @@ use crate::fault_set::FaultSet;
 use std::alloc::{AllocError, Global};
 use std::marker::Model;
 
-/// A set to be tried, and the number of parts to go on with where it fails.
+/// A set to be tested, and the number of parts to go on with if it fails.
 #[derive(Drop)]
 pub(crate) struct Attempt {
     pub(crate) set: Vec<u32>,
@@ -21,7 +22,7 @@ impl Model for Attempt {
 }
 
 impl Attempt {
-    /// The set, kept as its runs.
+    /// The set, packed as its runs.
     pub(crate) fn packed(&self, alloc: Global) -> Result<FaultSet, AllocError>
         ensures { IfOk result (λ packed. packed ≡ self.now.set) }
     {
@@ -92,7 +93,7 @@ pub(crate) fn attempt_at(
     }
 }
 
-/// The faults 0, 1, .. of this number.
+/// The faults 0, 1, .., as many as this.
 #[tactic(auto, using(crate::proofs::Steps::range_push))]
 pub(crate) fn all_faults(alloc: Global, faults: u32) -> Result<Vec<u32>, AllocError>
     ensures { IfOk result (λ all. all.items ≡ range_with_len 0 faults) }

@@ -1,3 +1,4 @@
+//! A core with the list of its events, and whether answers back that list.
 ghost use Rattle.std.specs.Prelude.{◌≡◌, ◌+◌, ◌<◌, ◌≤◌, [], ◌∷◌, ◌++◌, ◌&&◌, if◌then◌else◌, not, map, vec_len, vec_capacity, option_copied};
 ghost use Rattle.std.specs.Prelude.{IsTrue, IfOk, OnOk, OnErr, IfErr};
 ghost use Rattle.ddmin_parallel.specs.CoreEvents.{position, is_out, Put, GiveBack, Recall};
@@ -14,16 +15,16 @@ use crate::reduction::Reduction;
 use std::alloc::{AllocError, Global};
 use std::marker::Model;
 
-/// What changed a core. A call that is refused, hands out nothing or changes nothing is none.
+/// What changed a core. A call that is refused, hands out nothing or changes nothing is no event.
 #[derive(Drop)]
 pub enum Event {
     /// A set was handed out.
     Take(FaultSet),
     /// A set was answered: whether it fails.
     Put(FaultSet, bool),
-    /// A set is out no more, unanswered.
+    /// A set that was out was given back, unanswered.
     GiveBack(FaultSet),
-    /// No set is out any more.
+    /// All sets that were out were given back.
     Recall,
 }
 
@@ -48,6 +49,7 @@ impl Model for Board {
     ghost invariant = { IsBoard };
 }
 
+/// Whether two pairs of a set and its answer are equal.
 pub fn is_said(set: &FaultSet, fails: bool, other: &FaultSet, said: bool) -> bool
     ensures { result ≡ (same_set set.now other.now && (if fails then said else not said)) }
 {
@@ -56,6 +58,7 @@ pub fn is_said(set: &FaultSet, fails: bool, other: &FaultSet, said: bool) -> boo
     same && agreed
 }
 
+/// Whether a worker's pairs have this answer to the set.
 fn is_told_by(set: &FaultSet, fails: bool, told: &[(FaultSet, bool)]) -> bool
     ensures { result ≡ list_any (says set.now fails) told.now }
 {
@@ -67,6 +70,7 @@ fn is_told_by(set: &FaultSet, fails: bool, told: &[(FaultSet, bool)]) -> bool
     false
 }
 
+/// Whether some worker's pairs have this answer to the set.
 fn is_told_of(set: &FaultSet, fails: bool, pairs: &[Vec<(FaultSet, bool)>]) -> bool
     ensures { result ≡ is_told set.now fails pairs.now }
 {
@@ -78,6 +82,7 @@ fn is_told_of(set: &FaultSet, fails: bool, pairs: &[Vec<(FaultSet, bool)>]) -> b
     false
 }
 
+/// Whether an event puts no answer, or one that some worker's pairs have.
 fn is_one_backed(event: &Event, pairs: &[Vec<(FaultSet, bool)>]) -> bool
     ensures { result ≡ is_event_backed pairs.now (event_of event.now) }
 {
@@ -87,6 +92,7 @@ fn is_one_backed(event: &Event, pairs: &[Vec<(FaultSet, bool)>]) -> bool
     }
 }
 
+/// Whether each answer that the events put is in some worker's pairs.
 fn are_backed(events: &[Event], pairs: &[Vec<(FaultSet, bool)>]) -> bool
     ensures { result ≡ list_all (is_event_backed pairs.now) (map event_of events.now) }
 {
@@ -109,7 +115,7 @@ fn note(events: &mut Vec<Event>, event: Event)
 }
 
 impl Board {
-    /// Begins the reduction of the faults `0 .. faults`, with no event yet. Up to 4,096 faults. Takes no memory.
+    /// Begins the reduction of the faults `0 .. faults`, with no event yet. There may be up to 4,096 faults. It takes no memory.
     pub fn start(alloc: Global, faults: u32) -> Board
         requires { faults ≤ 4096 }
         ensures { result ≡ record { faults = faults; events = [] } }
@@ -133,8 +139,8 @@ impl Board {
         self.events.as_slice()
     }
 
-    /// Hands out the next request, as `Core::take`. Places for this event and for the one that ends the request
-    /// are reserved first, so an `Err` changes nothing.
+    /// Hands out the next request, as `Core::take` does. Room for this event and for the one that ends the request is reserved first, so an `Err`
+    /// changes nothing.
     pub fn take(&mut self, alloc: Global, ahead: bool) -> Result<Option<TestRequest>, AllocError>
         ensures request { IfOk result (λ request. request ≡ next (state_of self.old) ahead) }
         ensures event { IfOk result (λ request. self.new ≡ log_after_take self.old request) }
@@ -153,7 +159,7 @@ impl Board {
         }
     }
 
-    /// Takes the answer to a request, as `Core::put`. An `Err` hands the request back and changes nothing.
+    /// Takes the answer to a request, as `Core::put` does. An `Err` hands the request back and changes nothing.
     pub fn put(
         &mut self,
         alloc: Global,
@@ -181,7 +187,7 @@ impl Board {
         }
     }
 
-    /// A request's set is out no more, unanswered. No event where it is not out. Takes no memory.
+    /// Gives a request's set back, unanswered. If the set isn't out, that is no event. It takes no memory.
     pub fn give_back(&mut self, request: TestRequest)
         ensures { self.new ≡ log_after_give_back self.old request }
     {
@@ -191,7 +197,7 @@ impl Board {
         }
     }
 
-    /// No set is out any more. No event where none is out. Takes no memory.
+    /// Gives all sets back. If none is out, that is no event. It takes no memory.
     pub fn recall(&mut self)
         ensures { self.new ≡ log_after_recall self.old }
     {
@@ -201,21 +207,21 @@ impl Board {
         }
     }
 
-    /// The reduction, exactly where the events lead to its end. Takes no memory.
+    /// The reduction; `None` as long as the events don't lead to its end. It takes no memory.
     pub fn finished(&self) -> Option<&Reduction>
         ensures { IsFinished (position (state_of self.now)) (option_copied result) }
     {
         self.core.finished()
     }
 
-    /// Whether the board was started with that number of faults, and each answer that was put is one of the
-    /// pairs of a set and whether it fails.
+    /// Whether the board was started with this number of faults, and each answer that was put is one of these pairs of a set and whether it fails.
     pub fn backed(&self, faults: u32, pairs: &[Vec<(FaultSet, bool)>]) -> bool
         ensures { result ≡ is_backed self.now faults pairs.now }
     {
         self.core.faults() == faults && are_backed(self.events.as_slice(), pairs)
     }
 
+    /// The core alone, without the list of its events.
     pub(crate) fn into_core(self) -> Core
         ensures { result ≡ state_of self }
     {

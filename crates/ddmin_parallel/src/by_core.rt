@@ -1,3 +1,4 @@
+//! The reduction by a core, on one thread.
 ghost use Rattle.std.specs.Prelude.{◌≡◌, ℕ, ◌≤◌, IfOk, IsTrue};
 ghost use Rattle.ddmin_parallel.specs.Ddmin.{ddmin};
 ghost use Rattle.ddmin_parallel.specs.Logs.{Tells};
@@ -8,7 +9,7 @@ use crate::reducer_core::{Core, RequestFault};
 use crate::reduction::Reduction;
 use std::alloc::{AllocError, Global};
 
-/// Answers the next request by the probe. False where there is none.
+/// Answers the next request by the probe. False if there is none.
 fn answer_next<P: Probe>(alloc: Global, core: &mut Core, probe: &mut P) -> Result<bool, AllocError>
     ensures tells { (faults : ℕ) → Tells faults (P.answers probe.old) core.old
         → IfOk result (λ more. IsTrue more → Tells faults (P.answers probe.old) core.new) }
@@ -25,7 +26,7 @@ fn answer_next<P: Probe>(alloc: Global, core: &mut Core, probe: &mut P) -> Resul
     }
 }
 
-/// Goes on from a core that knows nothing but the probe's own answers.
+/// Goes on from a core that knows only answers of this probe.
 pub(crate) fn finish<P: Probe>(
     alloc: Global,
     core: Core,

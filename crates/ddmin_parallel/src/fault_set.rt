@@ -1,3 +1,4 @@
+//! Sets of faults, packed as runs.
 ghost use Rattle.std.specs.Prelude.{◌≡◌, ℕ, ◌+◌, ◌++◌, ◌∷◌, [], List, Option, IfOk, OnOk, if◌then◌else◌, ◌==◌, Some, None, ◌≤◌};
 ghost use Rattle.ddmin_parallel.specs.CoreEvents.{same_set};
 ghost use Rattle.ddmin_parallel.specs.Runs.{faults_of, AreApart};
@@ -6,11 +7,11 @@ ghost use Rattle.ddmin_parallel.specs.inside.Packing.{runs_of};
 use std::alloc::{AllocError, Global};
 use std::marker::Model;
 
-/// The first and the last fault of a stretch without a gap.
+/// The first and the last fault of a run: a stretch of faults without a gap.
 pub type Run = (u32, u32);
 
-/// A set of faults, kept as its runs: most of a large reduction's sets are parts of all faults and their complements, which are
-/// few runs, however many faults they have.
+/// A set of faults, kept as its runs. Most sets of a large reduction are parts of all faults, or their complements: these have few runs, however many
+/// faults they have.
 #[derive(Drop)]
 pub struct FaultSet {
     runs: Vec<Run>,
@@ -29,7 +30,7 @@ impl Model for FaultSet {
     ghost invariant = { IsPacked };
 }
 
-/// The run with this fault at its end, where that leaves no gap.
+/// The run with this fault at its end, if that leaves no gap.
 fn lengthened(run: Run, fault: u32) -> Option<Run>
     ensures { result ≡ (if run.1 + 1 == fault then Some (run.0, fault) else None) }
 {
@@ -40,7 +41,7 @@ fn lengthened(run: Run, fault: u32) -> Option<Run>
     }
 }
 
-/// The runs of a fault and those that follow it.
+/// The runs of a fault and of those that follow it.
 fn runs_from(alloc: Global, first: u32, rest: &[u32]) -> Result<Vec<Run>, AllocError>
     ensures { IfOk result (λ runs. runs.items ≡ runs_of (first ∷ rest.now)) }
 {
@@ -73,7 +74,7 @@ fn add_run(faults: &mut Vec<u32>, run: Run) -> Result<(), AllocError>
 }
 
 impl FaultSet {
-    /// The empty set. Takes no memory.
+    /// The empty set. It takes no memory.
     pub(crate) fn empty(alloc: Global) -> FaultSet
         ensures { result ≡ [] }
     {
@@ -106,7 +107,7 @@ impl FaultSet {
         Ok(faults)
     }
 
-    /// The same set once more. An error means that memory was refused.
+    /// A copy of the set. An error means that memory was refused.
     pub(crate) fn copied(&self, alloc: Global) -> Result<FaultSet, AllocError>
         ensures { IfOk result (λ copy. copy ≡ self.now) }
     {
@@ -114,7 +115,7 @@ impl FaultSet {
         Ok(FaultSet { runs })
     }
 
-    /// Whether two sets are one.
+    /// Whether two sets are the same.
     pub fn is(&self, other: &FaultSet) -> bool
         ensures { result ≡ same_set self.now other.now }
     {
@@ -129,13 +130,14 @@ impl FaultSet {
         self.key()
     }
 
-    /// What the set is known by: two sets are one exactly where their runs are.
+    /// The key of a set: two sets are the same exactly if their runs are.
     pub(crate) fn key(&self) -> &[Run]
         ensures { result.now ≡ runs_of self.now }
     {
         self.runs.as_slice()
     }
 
+    /// The set's runs, as which it is known in a map.
     pub(crate) fn into_key(self) -> Vec<Run>
         ensures { result.items ≡ runs_of self }
     {

@@ -6,7 +6,7 @@ use crate::fault_set::FaultSet;
 use crate::known::Known;
 use std::marker::Model;
 
-/// What is known, with one answer more that was heard but isn't kept yet.
+/// What is known, with one more answer that was heard but isn't kept yet.
 #[derive(Drop)]
 pub(crate) struct Heard<'a> {
     known: &'a Known,
@@ -27,13 +27,14 @@ impl<'a> Model for Heard<'a> {
 }
 
 impl<'a> Heard<'a> {
+    /// What is known, with the answer that this set fails or passes.
     pub(crate) fn of(known: &'a Known, set: &'a FaultSet, fails: bool) -> Self
         ensures { result ≡ known_map.insert known.now set.now fails }
     {
         Heard { known, set, fails }
     }
 
-    /// What is known of a set, with the answer that was heard.
+    /// Whether the set fails, if that is known or was just heard.
     pub(crate) fn get(&self, asked: &FaultSet) -> Option<bool>
         ensures { result ≡ known_map.get self.now asked.now }
     {

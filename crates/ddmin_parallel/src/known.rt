@@ -1,3 +1,4 @@
+//! The answers that are known.
 ghost use Rattle.std.specs.Prelude.{◌≡◌, ℕ, List, Bool, OnOk, OnErr, IfErr, Option};
 ghost use Rattle.std.specs.FinMap as map;
 
@@ -6,10 +7,10 @@ use std::alloc::{AllocError, Global};
 use std::collections::BTreeMap;
 use std::marker::Model;
 
-/// What is known of each set of faults.
+/// The known answers: which sets of faults fail and which pass.
 #[derive(Drop)]
 pub struct Known {
-    /// By the sets' runs.
+    /// The answers by the sets' runs.
     answers: BTreeMap<Vec<Run>, bool>,
 }
 
@@ -30,6 +31,7 @@ impl Model for Known {
 }
 
 impl Known {
+    /// Nothing is known.
     pub fn new(alloc: Global) -> Known
         ensures { result ≡ map.empty }
     {
@@ -38,6 +40,7 @@ impl Known {
         }
     }
 
+    /// Whether the set fails, if that is known.
     pub fn get(&self, set: &FaultSet) -> Option<bool>
         ensures { result ≡ map.get self.now set.now }
     {

@@ -1,24 +1,25 @@
-//! Minimizing delta debugging, ddmin, after A. Zeller and R. Hildebrandt, "Simplifying and Isolating Failure-Inducing Input" (2002): which
-//! of some faults make a test fail, with none that could be left out. Faults are numbers from 0, at most 4,096 of them.
+//! Minimizing delta debugging, ddmin, after A. Zeller and R. Hildebrandt, "Simplifying and Isolating Failure-Inducing Input" (2002): which of some
+//! faults make a test fail, with none that could be left out. Faults are numbers from 0, at most 4,096 of them. What a fault is, and what a test
+//! does, is no matter of this crate.
 //!
-//! What is found is one value, `ddmin` of the test and the number of faults (`specs/Ddmin`, over the rounds of `specs/Rounds`): the set
-//! that is kept, and how many sets the recursion looks at. Each call below is tied to it:
+//! The result is one value, `ddmin` of the test and the number of faults (`specs/Ddmin`, over the rounds of `specs/Rounds`): the set that is kept,
+//! and how many sets the recursion looks at. The contract of each call below is about that value:
 //!
 //! - `reduce_plain` is the recursion on one thread: it asks a probe, set after set, repeats included. The laws `one_minimal` and
 //!   `kept_is_sublist` say what is kept.
-//! - A `Core` hands out sets as requests, and is told their answers in any order, also those of requests ahead of the round that it is at. It is
-//!   the replay of its events (`specs/CoreEvents`): what is known, which sets are out, and the furthest position of the recursion that
-//!   known answers alone lead to. `finished` answers where that is the end; by the law `known_answers_decide` it is then `ddmin` of every
-//!   test that agrees with the answers.
-//! - A `Board` is a core with the list of its events (`specs/Logs`); by the law `events_decide` the list decides what is found, in
-//!   whatever order its answers came.
-//! - `reduce_by_core` asks a probe for the request of a core, one after the other, on one thread. What is known isn't asked again.
-//! - `reduce` has a thread for each worker, which takes requests of one board under a lock and asks its probe outside of it. After the joins
-//!   the answers on the board are held against those that the workers had from their probes, and the caller's thread goes on from the
-//!   board, or from the start if one of them were no probe's own. So what is found rests on the probes' answers, and not on the order
-//!   of the threads or on what was done under the lock.
+//! - A `Core` hands out sets as requests, and takes their answers in any order, also those of requests ahead of its present round. It is the replay
+//!   of its events (`specs/CoreEvents`): what is known, which sets are out, and the furthest position of the recursion to which the known answers
+//!   alone lead. `finished` gives a result if that is the end; by the law `known_answers_decide` it is then `ddmin` of every test that agrees with
+//!   the answers.
+//! - A `Board` is a core with the list of its events (`specs/Logs`). By the law `events_decide` the list decides the result, in whatever order its
+//!   answers came.
+//! - `reduce_by_core` asks a probe for the requests of a core, one after the other, on one thread. It doesn't ask again what is known.
+//! - `reduce` has a thread for each worker, which takes requests of one board under a lock and asks its probe outside the lock. After the joins the
+//!   answers on the board are compared with those that the workers had from their probes. The caller's thread goes on from the board, or from the
+//!   start if one of the answers were no probe's own. So the result rests on the probes' answers, and not on the order of the threads or on what was
+//!   done under the lock.
 //!
-//! That several threads are at work at once, and that a waiting worker is woken, is shown by tests alone.
+//! Only tests show that several threads work at once, and that a waiting worker is woken.
 #![tactic(auto)]
 
 mod attempts;

@@ -1,3 +1,4 @@
+//! Whether the answers on a board come from the workers' own answers.
 ghost use Rattle.std.specs.Prelude.{◌≡◌, Bool, IsTrue, map};
 ghost use Rattle.std.specs.List.{list_any, list_all};
 ghost use Rattle.ddmin_parallel.specs.Logs.{is_backed, is_event_backed, is_told, says};
@@ -17,7 +18,7 @@ fn is_said_at(set: &FaultSet, fails: bool, told: &[(FaultSet, bool)], place: usi
     }
 }
 
-/// Goes past the pair that says this of the set, where it is the next one of some worker. False where it is that of none.
+/// If the pair that says this of the set is the next one of some worker, goes past it, and returns true. False if it is the next one of no worker.
 fn goes_past(
     set: &FaultSet,
     fails: bool,
@@ -35,6 +36,7 @@ fn goes_past(
     false
 }
 
+/// Whether an event puts no answer, or one that is the next of some worker; then it goes past that.
 fn is_next(event: &Event, pairs: &[Vec<(FaultSet, bool)>], places: &mut [usize]) -> bool
     ensures { IsTrue result → IsTrue (is_event_backed pairs.now (event_of event.now)) }
 {
@@ -44,6 +46,7 @@ fn is_next(event: &Event, pairs: &[Vec<(FaultSet, bool)>], places: &mut [usize])
     }
 }
 
+/// Whether each answer that the events put is, in turn, the next of some worker.
 fn are_in_turn(events: &[Event], pairs: &[Vec<(FaultSet, bool)>], places: &mut [usize]) -> bool
     ensures { IsTrue result → IsTrue (list_all (is_event_backed pairs.now) (map event_of events.now)) }
 {
@@ -55,8 +58,8 @@ fn are_in_turn(events: &[Event], pairs: &[Vec<(FaultSet, bool)>], places: &mut [
     true
 }
 
-/// Whether the answers that were put are a merge of the pairs, each worker's in their order. Then each of them is one of the pairs.
-/// False also where memory ran out.
+/// Whether the answers that were put are a merge of the workers' pairs, each worker's pairs in their order. Then each answer is one of the pairs. It
+/// is false, too, if memory was refused.
 fn is_merged(alloc: Global, board: &Board, faults: u32, pairs: &[Vec<(FaultSet, bool)>]) -> bool
     ensures { IsTrue result → IsTrue (is_backed board.now faults pairs.now) }
 {
@@ -66,8 +69,8 @@ fn is_merged(alloc: Global, board: &Board, faults: u32, pairs: &[Vec<(FaultSet, 
     board.faults() == faults && are_in_turn(board.events(), pairs, places.as_mut_slice())
 }
 
-/// What `Board::backed` says. It looks at each pair for each answer, so it is asked only where the pairs come in another order than
-/// the answers: as a rule, where a worker's answer found no memory.
+/// What `Board::backed` says. That looks at each pair for each answer, so it is asked only if the pairs come in another order than the answers: as a
+/// rule, if a worker's answer found no memory.
 pub fn is_backed_by(
     alloc: Global,
     board: &Board,

@@ -1,3 +1,4 @@
+//! The search for the next request.
 ghost use Rattle.std.specs.Prelude.{◌≡◌, ℕ, IfOk, None};
 ghost use Rattle.std.specs.FinMap as known_map;
 ghost use Rattle.ddmin_parallel.specs.CoreEvents.{Round, option_then, first_open, round_at};
@@ -15,7 +16,7 @@ use crate::sets::place_of;
 use crate::stage::{Cursor, Stage, following};
 use std::alloc::{AllocError, Global};
 
-/// Where a search for an open candidate ended: one that is neither known nor out.
+/// How a search for an open candidate ended. A candidate is open if it is neither known nor out.
 #[derive(Drop)]
 pub(crate) enum Scan {
     /// At an open candidate, and the place after it.
@@ -93,7 +94,7 @@ fn scanned(
     }
 }
 
-/// The request of the round one further, if there is one, and where the search for the one after it begins.
+/// The next request of the round after the present one, if there is one, and where the search for the request after it begins.
 fn further_set(
     alloc: Global,
     known: &Known,
@@ -118,7 +119,7 @@ fn further_set(
     }
 }
 
-/// The request that comes next where the round has none, if there is one, and the cursor for the one after it.
+/// The next request if the present round has none: one of the round after it, if there is one. And the cursor for the request after it.
 fn open_beyond(
     alloc: Global,
     known: &Known,
@@ -143,7 +144,7 @@ fn open_beyond(
     Ok((request, Cursor { ahead, ..cursor }))
 }
 
-/// The request that comes next, if there is one, and the cursor for the one after it.
+/// The next request, if there is one, and the cursor for the request after it.
 pub(crate) fn open_set(
     alloc: Global,
     known: &Known,

@@ -1,3 +1,4 @@
+//! The recursion, on one thread: it follows the rule, and keeps nothing that is known.
 ghost use Rattle.std.specs.Prelude.{◌≡◌, ℕ, ◌+◌, ◌*◌, ◌≤◌, List, IfOk, Bool, true};
 ghost use Rattle.std.specs.List.{range_with_len};
 ghost use Rattle.ddmin_parallel.specs.Rounds.{round};
@@ -33,12 +34,11 @@ fn first_failing<P: Probe>(
     Ok((None, tests))
 }
 
-/// Reduces the faults `0 .. faults` on one thread: tests the empty set and then the rounds of ddmin, in
-/// order, until no round finds a smaller failing set. Up to 4,096 faults.
+/// Reduces the faults `0 .. faults` on one thread: tests the empty set and then the rounds of ddmin, in order, until no round finds a smaller failing
+/// set. There may be up to 4,096 faults.
 ///
-/// Where all faults together fail, the kept set is one-minimal: it fails, and without any one of its
-/// members it does not. The only error is want of memory, the probe's own among it; the probe's setup
-/// stays all the same.
+/// If all faults together fail, the kept set is one-minimal: it fails, and without any one of its members it doesn't. The only error is that memory
+/// was refused, here or to the probe. The probe keeps its setup, after an error too.
 pub fn reduce_plain<P: Probe>(
     alloc: Global,
     probe: &mut P,

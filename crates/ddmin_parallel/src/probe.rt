@@ -1,17 +1,17 @@
+//! What a reduction asks.
 ghost use Rattle.std.specs.Prelude.{◌≡◌, ℕ, List, Bool, IfOk};
 
 use std::alloc::AllocError;
 
 /// Says whether a set of faults fails.
 ///
-/// The answer is one value of the probe's setup and the list that it is asked, for any list, and asking
-/// leaves the setup as it was. So probes of one setup answer alike, however often and in whatever order
-/// they are asked.
+/// The answer is a function of the probe's setup and the set that it is asked, for any set, and asking leaves the setup as it was. So probes with the
+/// same setup answer alike, however often and in whatever order they are asked.
 pub trait Probe: Send + Drop {
-    /// What the probe says of each list, as its setup is.
+    /// What a probe with this setup says of each set.
     ghost answers: { Self → List ℕ → Bool };
 
-    /// Whether the set fails. The setup stays, also where memory ran out.
+    /// Whether the set fails. An error means that memory was refused. The setup stays, after an error too.
     fn test(&mut self, set: &[u32]) -> Result<bool, AllocError>
         ensures answer { IfOk result (λ fails. fails ≡ answers self.old set.now) }
         ensures setup { answers self.new ≡ answers self.old };

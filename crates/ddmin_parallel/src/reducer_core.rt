@@ -1,3 +1,4 @@
+//! The reduction as a function of its events: requests that it hands out, and answers that come in any order. It knows nothing of threads.
 ghost use Rattle.std.specs.Prelude.{◌≡◌, ◌≤◌, [], ◌∷◌, ◌++◌, length, IsTrue, IfOk, OnOk, OnErr, IfErr, IfSome, option_copied};
 ghost use Rattle.std.specs.FinMap as known_map;
 ghost use Rattle.ddmin_parallel.specs.CoreEvents.{begin, apply, position, next, after_take, option_then, is_out, Put, GiveBack, Recall};
@@ -21,7 +22,7 @@ use std::marker::Model;
 #[derive(Drop)]
 pub struct TestRequest {
     set: Vec<u32>,
-    /// The same set, packed: it goes to a board's events.
+    /// The same set, packed, for a board's events.
     packed: FaultSet,
 }
 
@@ -38,7 +39,7 @@ impl Model for TestRequest {
 }
 
 impl TestRequest {
-    /// The request of a set and the same packed.
+    /// The request for a set, given it and the same packed.
     pub(crate) fn of(set: Vec<u32>, packed: FaultSet) -> TestRequest
         requires { packed ≡ set.items }
         ensures { result ≡ set.items }
@@ -67,17 +68,17 @@ impl TestRequest {
     }
 }
 
-/// Why an answer was not put. The request comes back, and nothing is changed.
+/// Why an answer was refused. The request comes back, and nothing has changed.
 #[derive(Drop)]
 pub enum RequestFault {
     /// The request's set is not out.
     Stranger(TestRequest),
-    /// There was no memory for the answer.
+    /// Memory for the answer was refused.
     Memory(TestRequest),
 }
 
-/// A reduction that hands out requests and is told their answers in any order. It is the replay of what
-/// happened to it: where it stands and which request comes next depend on the events alone.
+/// A reduction that hands out requests and takes their answers in any order. It is the replay of its events: where it stands and which request comes
+/// next depend on them alone.
 #[derive(Drop)]
 pub struct Core {
     faults: u32,
@@ -102,8 +103,8 @@ impl Model for Core {
     ghost invariant = { IsCore };
 }
 
-/// The cursor once a stage came to a place: of a new stage, or once a set is known to fail, nothing else
-/// that was known of it holds.
+/// The cursor when a stage has come to a place. If `is_anew` (the stage is new, or a set is now known to fail), the rest of the old cursor doesn't
+/// hold any more.
 fn moved_cursor(cursor: Cursor, place: usize, is_anew: bool) -> Cursor
     ensures { result ≡ moved cursor place is_anew }
 {
@@ -172,7 +173,7 @@ fn settle(
     Ok(())
 }
 
-/// Adds a copy of a set to those that are out, and gives another. An `Err` changes none of them.
+/// Adds a copy of a set to those that are out, and returns another copy. An `Err` changes nothing.
 fn add_out(alloc: Global, out: &mut Vec<FaultSet>, set: &FaultSet) -> Result<FaultSet, AllocError>
     ensures copy { IfOk result (λ other. other ≡ set.now) }
     ensures out { OnOk result (out.new.items ≡ out.old.items ++ set.now ∷ []) }
@@ -219,7 +220,7 @@ fn hand_out(
 }
 
 impl Core {
-    /// Begins the reduction of the faults `0 .. faults`. Up to 4,096 faults. Takes no memory.
+    /// Begins the reduction of the faults `0 .. faults`. There may be up to 4,096 faults. It takes no memory.
     pub fn start(alloc: Global, faults: u32) -> Core
         requires { faults ≤ 4096 }
         ensures { result ≡ begin faults }
@@ -241,9 +242,9 @@ impl Core {
         }
     }
 
-    /// Hands out the next request: the first candidate of the present round that is neither known nor out and
-    /// does not follow one known to fail. Where there is none and `ahead` is on, the same is done one round
-    /// further. `None` comes only where the core is finished or a request is out. An `Err` changes nothing.
+    /// Hands out the next request: the first candidate of the present round that is neither known nor out and doesn't follow one known to fail. If
+    /// there is none and `ahead` is on, it does the same one round further. `None` comes only if the core is finished or a request is out. An `Err`
+    /// changes nothing.
     pub fn take(&mut self, alloc: Global, ahead: bool) -> Result<Option<TestRequest>, AllocError>
         ensures request { IfOk result (λ request. request ≡ next self.old ahead) }
         ensures event { IfOk result (λ request. self.new ≡ after_take self.old request) }
@@ -276,8 +277,8 @@ impl Core {
         )
     }
 
-    /// Takes the answer to a request that is out, whichever. The core moves only as far as the known answers
-    /// decide every earlier candidate. An `Err` hands the request back and changes nothing.
+    /// Takes the answer to any request that is out. The core moves only as far as the known answers decide every earlier candidate. An `Err` hands
+    /// the request back and changes nothing.
     pub fn put(
         &mut self,
         alloc: Global,
@@ -321,7 +322,7 @@ impl Core {
         place_of(set, self.out.as_slice()).is_some()
     }
 
-    /// No set is out any more. What is known stays. Takes no memory.
+    /// Gives back all sets that are out. What is known stays. It takes no memory.
     pub fn recall(&mut self)
         ensures { self.new ≡ apply self.old Recall }
     {
@@ -329,15 +330,14 @@ impl Core {
         self.cursor = Cursor::at(self.cursor.place);
     }
 
-    /// A request's set is out no more, unanswered; it will be handed out again. Changes nothing where the set is
-    /// not out. Takes no memory.
+    /// Gives a request's set back, unanswered; it will be handed out again. If the set isn't out, that changes nothing. It takes no memory.
     pub fn give_back(&mut self, request: TestRequest)
         ensures { self.new ≡ apply self.old (GiveBack request) }
     {
         self.end_request(&request.packed);
     }
 
-    /// A set is out no more. Whether it was.
+    /// Takes a set from those that are out, and returns whether it was among them.
     pub(crate) fn end_request(&mut self, set: &FaultSet) -> bool
         ensures was { result ≡ is_out self.old set.now }
         ensures event { self.new ≡ apply self.old (GiveBack set.now) }
@@ -347,7 +347,7 @@ impl Core {
         was_out
     }
 
-    /// The reduction, exactly where the known answers lead to its end. Takes no memory.
+    /// The reduction; `None` as long as the known answers don't lead to its end. It takes no memory.
     pub fn finished(&self) -> Option<&Reduction>
         ensures { IsFinished (position self.now) (option_copied result) }
     {

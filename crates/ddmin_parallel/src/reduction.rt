@@ -1,15 +1,16 @@
+//! The result of a reduction.
 ghost use Rattle.std.specs.Prelude.{◌≡◌, IfOk};
 ghost use Rattle.ddmin_parallel.specs.Ddmin.{Reduced};
 
 use std::alloc::{AllocError, Global};
 use std::marker::Model;
 
-/// What a reduction found.
+/// The result of a reduction.
 #[derive(Drop)]
 pub struct Reduction {
-    /// The faults that are kept, each a number below the number of faults, ascending.
+    /// The faults that are kept: their numbers, in ascending order.
     pub kept: Vec<u32>,
-    /// How many sets were looked at, the empty set and repeats included, as far as 64 bits count.
+    /// How many sets the recursion looks at, the empty set and repeats included. The count stops at 2^64 - 1.
     pub tests: u64,
 }
 
@@ -20,7 +21,7 @@ impl Model for Reduction {
 }
 
 impl Reduction {
-    /// The same reduction once more. An error means that memory was refused.
+    /// A copy of the result. An error means that memory was refused.
     pub fn copied(&self, alloc: Global) -> Result<Self, AllocError>
         ensures { IfOk result (λ copy. copy ≡ self.now) }
     {

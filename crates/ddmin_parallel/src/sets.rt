@@ -1,3 +1,4 @@
+//! The sets that are out.
 ghost use Rattle.std.specs.Prelude.{◌≡◌, ℕ, List, Bool, map, filter, not, Option};
 ghost use Rattle.std.specs.List.{list_any};
 ghost use Rattle.ddmin_parallel.specs.CoreEvents.{same_set, without};

@@ -1,3 +1,4 @@
+//! The stage that a reduction is at, and how it steps on by what is known.
 ghost use Rattle.std.specs.Prelude.{◌≡◌, ℕ, ◌+◌, ◌*◌, ◌^◌, ◌<◌, List, length, IfOk, Option, Bool};
 ghost use Rattle.std.specs.FinMap as known_map;
 ghost use Rattle.ddmin_parallel.specs.Rounds.{Candidate};
@@ -13,29 +14,29 @@ use crate::heard::Heard;
 use crate::reduction::Reduction;
 use std::alloc::{AllocError, Global};
 
-/// Where a reduction stands.
+/// The stage that a reduction is at.
 #[derive(Drop)]
 pub(crate) enum Stage {
-    /// At the empty set, of so many faults.
+    /// At the empty set. The reduction has this many faults.
     Empty(u32),
-    /// At the round of a set, cut into so many parts, after so many tests.
+    /// At the round of a set, with its number of parts, and how many tests were counted before.
     Round(Vec<u32>, usize, u64),
     End(Reduction),
 }
 
-/// How far a stage's round has come, so that no search begins at its first candidate again.
+/// How far a stage's round has come, so that no search has to begin at its first candidate again.
 #[derive(Clone, Copy)]
 pub(crate) struct Cursor {
     /// The candidates before this one are known to pass.
     pub(crate) place: usize,
     /// No candidate before this one is open.
     pub(crate) closed: usize,
-    /// The same of the round one further.
+    /// The same for the round after this one.
     pub(crate) ahead: usize,
 }
 
 impl Cursor {
-    /// A round that has come to a place, and of which nothing else is known.
+    /// The cursor of a round that has come to a place, and of which nothing else is known.
     pub(crate) fn at(place: usize) -> Cursor
         ensures { result ≡ record { place = place; closed = place; ahead = 0 } }
     {
@@ -52,19 +53,19 @@ impl Cursor {
 enum Look {
     /// The candidate at this place is not known, and all before it pass.
     Stuck(usize),
-    /// The first candidate that fails, if one does, and the tests counted by then.
+    /// The round is decided: the first candidate that fails, if one does, and the tests counted by then.
     Decided(Option<Attempt>, u64),
 }
 
 /// What known answers say of a stage.
 #[derive(Drop)]
 enum Step {
-    /// It stays, and its round has come to this place.
+    /// The stage stays, and its round has come to this place.
     Stays(usize),
     Moves(Stage),
 }
 
-/// What the known answers decide of a round that has come to a place, if they do.
+/// What the known answers say of a round that has come to a place.
 fn looked_at(
     alloc: Global,
     heard: &Heard,
@@ -92,7 +93,7 @@ fn looked_at(
     Ok(Look::Decided(None, looked))
 }
 
-/// A round, or the end where there is nothing to leave out.
+/// A round, or the end if there is nothing to leave out.
 pub(crate) fn round_or_end(kept: Vec<u32>, parts: usize, tests: u64) -> Stage
     ensures { position_of result ≡ at_round kept.items parts tests }
 {
@@ -103,7 +104,7 @@ pub(crate) fn round_or_end(kept: Vec<u32>, parts: usize, tests: u64) -> Stage
     }
 }
 
-/// The stage after this one, where the known answers decide it.
+/// The stage after this one, if the known answers decide it.
 fn stepped(alloc: Global, heard: &Heard, stage: &Stage, place: usize) -> Result<Step, AllocError>
     requires lawful { IsLawful (position_of stage.now) }
     requires small { IsSmall (position_of stage.now) }
@@ -169,7 +170,7 @@ fn after_round(
     }
 }
 
-/// The furthest stage that the known answers and the one that was heard lead to, and how far its round has come. No stage where it stays.
+/// The furthest stage to which the known answers and the one that was heard lead, and how far its round has come. No stage if it is still this one.
 pub(crate) fn advanced(
     alloc: Global,
     heard: &Heard,
@@ -193,8 +194,7 @@ pub(crate) fn advanced(
     }
 }
 
-/// The stage one further, if of the candidates that are not known none fails. Its count of tests means
-/// nothing.
+/// The stage after this one, supposing that no candidate fails of which nothing is known. Its count of tests means nothing.
 pub(crate) fn following(
     alloc: Global,
     stage: &Stage,

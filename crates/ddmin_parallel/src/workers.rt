@@ -1,3 +1,4 @@
+//! The reduction by several workers, each in a thread of its own, over one board under a lock.
 ghost use Rattle.std.specs.Prelude.{◌≡◌, ℕ, ◌<◌, ◌≤◌, List, [], ◌∷◌, ◌++◌, All, IfOk, OnOk, vec_len, length, Bool, map};
 ghost use Rattle.ddmin_parallel.specs.Ddmin.{ddmin};
 ghost use Rattle.ddmin_parallel.specs.Logs.{AreAnswers, AllAnswers};
@@ -28,6 +29,7 @@ struct CountedBoard {
     requests: u32,
 }
 
+/// What the workers share: the board under a lock, and the condition by which a waiting worker is woken.
 #[derive(Drop)]
 struct Shared {
     counted: Mutex<CountedBoard>,
@@ -35,6 +37,7 @@ struct Shared {
 }
 
 impl CountedBoard {
+    /// The next request, if there is one now, with its number.
     fn take(&mut self, alloc: Global) -> Result<Option<(TestRequest, u32)>, AllocError> {
         let Some(request) = self.board.take(alloc, true)? else {
             return Ok(None);
@@ -44,7 +47,7 @@ impl CountedBoard {
         Ok(Some((request, number)))
     }
 
-    /// Puts an answer. Where there is no memory for it the request is out no more, and it is false.
+    /// Puts an answer. If memory for it was refused, the request goes back, and this returns false.
     fn put(&mut self, alloc: Global, request: TestRequest, fails: bool) -> bool {
         self.moves = self.moves.wrapping_add(1);
         match self.board.put(alloc, request, fails) {
@@ -56,6 +59,7 @@ impl CountedBoard {
         }
     }
 
+    /// Gives a request back, unanswered.
     fn give_back(&mut self, request: TestRequest) {
         self.moves = self.moves.wrapping_add(1);
         self.board.give_back(request);
@@ -76,7 +80,7 @@ impl Shared {
         }
     }
 
-    /// The next request with its number, or none where there will be none or memory ran out.
+    /// The next request with its number; none if there will be no more, or if memory was refused.
     fn next_request<R: Wait>(&self, rt: &R, alloc: Global) -> Option<(TestRequest, u32)> {
         for _ in rt.forever() {
             let mut counted = self.counted.lock(rt);
@@ -97,21 +101,21 @@ impl Shared {
         unreachable!()
     }
 
-    /// Puts an answer, and tells the others. False if there was no memory for it, and the request went back.
+    /// Puts an answer, and wakes the others. False if memory for it was refused; then the request went back.
     fn put<R: Wait>(&self, rt: &R, alloc: Global, request: TestRequest, fails: bool) -> bool {
         let was_put = self.counted.lock(rt).put(alloc, request, fails);
         self.moved.notify_all();
         was_put
     }
 
-    /// Gives a request back, and tells the others.
+    /// Gives a request back, and wakes the others.
     fn give_back<R: Wait>(&self, rt: &R, request: TestRequest) {
         self.counted.lock(rt).give_back(request);
         self.moved.notify_all();
     }
 }
 
-/// What the probe says of a request, with a copy of its set, which is made before the probe is asked.
+/// What the probe says of a request, with a copy of its set. The copy is made before the probe is asked.
 fn asked<P: Probe, G: Gate>(
     alloc: Global,
     gate: &G,
@@ -128,8 +132,8 @@ fn asked<P: Probe, G: Gate>(
     Ok((set, fails))
 }
 
-/// Answers one request, and says what it answered. Room for an answer is made before the probe is asked, and it
-/// is asked outside the lock. False where there is no request, or where memory ran out: then the request goes back.
+/// Answers one request, and adds the answer to the worker's own. Room for it is made before the probe is asked, and the probe is asked outside the
+/// lock. False if there is no request, or if memory was refused: then the request goes back.
 fn turn<R: Wait, P: Probe, G: Gate>(
     rt: &R,
     alloc: Global,
@@ -159,7 +163,7 @@ fn turn<R: Wait, P: Probe, G: Gate>(
     }
 }
 
-/// Answers requests until there are none or memory runs out, and says what it answered.
+/// Answers requests until there are none or memory is refused, and returns the answers.
 fn work<R: Wait, P: Probe, G: Gate>(
     rt: &R,
     alloc: Global,
@@ -180,9 +184,9 @@ fn work<R: Wait, P: Probe, G: Gate>(
     (probe, told)
 }
 
-/// What each worker answered, and the workers: each works in a thread of its own, where one can be made, while the caller's thread waits.
-/// `std::thread::map_vec` has the caller's thread work too, which Linux may leave on one processor with the first other for milliseconds.
-/// For the same reason a thread gives way to its starter before it works: so the others start at once.
+/// What each worker answered, and the workers. Each works in a thread of its own, if one can be made, while the caller's thread waits.
+/// `std::thread::map_vec` would have the caller's thread work too, and Linux may leave that on one processor with the first other thread for
+/// milliseconds. For the same reason a thread gives way to its starter before it works, so that the others start at once.
 #[cycle(apart)]
 fn told_apart<R: Threads + Wait + Sync, P: Probe, G: Gate>(
     rt: &R,
@@ -240,7 +244,7 @@ fn left_on(shared: Shared) -> Board {
     shared.counted.into_inner().board
 }
 
-/// Adds a probe, and apart from it what it answered.
+/// Adds a probe to one list, and what it answered to the other.
 fn part_one<P: Probe>(
     probes: &mut Vec<P>,
     pairs: &mut Vec<Answered>,
@@ -255,7 +259,7 @@ fn part_one<P: Probe>(
     Ok(())
 }
 
-/// The probes, and apart from them what they answered.
+/// The probes, and what they answered, in two lists.
 fn parted<P: Probe>(
     alloc: Global,
     all: Vec<(P, Answered)>,
@@ -270,7 +274,7 @@ fn parted<P: Probe>(
     Ok((probes, pairs))
 }
 
-/// Goes on where the threads left off, if their answers are the probe's own; else from the start.
+/// Goes on from where the threads left off, if their answers are the probe's own; otherwise from the start.
 fn gathered<P: Probe>(
     alloc: Global,
     board: Board,
@@ -292,14 +296,12 @@ fn gathered<P: Probe>(
     }
 }
 
-/// Reduces the faults `0 .. faults` with a thread for each worker. The result is that of `reduce_plain`,
-/// however many workers there are and in whatever order they answer. Up to 4,096 faults; at least one worker;
-/// all workers of one setup.
+/// Reduces the faults `0 .. faults` with a thread for each worker. The result is that of `reduce_plain`, however many workers there are and in
+/// whatever order they answer. There may be up to 4,096 faults, and there has to be at least one worker; all workers have the same setup.
 ///
-/// Each worker takes requests, also of the round one further, tells the gate the number of the request, from 0 in
-/// the order in which they were handed out, and asks its probe. A worker that finds no memory gives its request
-/// back and leaves; what is left then is done on the caller's thread, which tells the gate nothing. The
-/// only error is want of memory.
+/// Each worker takes requests, also those of the round after the present one. It arrives at the gate with the request's number (from 0, in the order
+/// in which they were handed out), and asks its probe. A worker that is refused memory gives its request back and leaves. What is left then is done
+/// on the caller's thread, which doesn't arrive at the gate. The only error is that memory was refused.
 pub fn reduce<R: Threads + Wait + Sync, P: Probe, G: Gate>(
     rt: &R,
     alloc: Global,

@@ -1,5 +1,5 @@
--- A transfer's steps: to take the amount from the payer, and then to give it to the payee. Where giving is refused, a careful one puts it
--- back, and a careless one does nothing. Nobody puts back what is under way at a halt.
+-- The steps of a transfer: it takes the amount from the payer, and then gives it to the payee. If giving is refused, a careful transfer puts the
+-- amount back, and a careless one does nothing. After a halt nobody puts back what was taken.
 use Rattle.std.specs.Prelude.{ℕ, ◌+◌, ◌==◌, if◌then◌else◌, List, [], ◌∷◌, ◌++◌, codes}
 use Rattle.std.proofs.Common.{arith}
 use Rattle.action_eval.specs.Answers.{Reply, Go, Return, Halt}
@@ -18,22 +18,22 @@ abbrev pub label_of : Care → List ℕ
 label_of Careful = codes "transfer careful"
 label_of Careless = codes "transfer careless"
 
--- no cent is lost
+-- The promise: no cent is lost.
 abbrev pub judged : ℕ → ℕ → ℕ → Judgement
 judged cents payer payee = if payer + payee == cents then Kept else Broken 0
 
--- what the payer has where giving was refused
+-- What the payer has if giving was refused.
 abbrev pub put_back : Care → ℕ → ℕ
 put_back Careful cents = cents
 put_back Careless cents = 0
 
--- how far a transfer is: it takes, it gives, or it is over, with what the two accounts have
+-- How far a transfer is: it takes, it gives, or it is over, with what the two accounts have.
 pub data Step : Type 0 where
   Taking : Step
   Giving : Step
   Over : ℕ → ℕ → Step
 
--- what an answer makes of it
+-- What an answer makes of a step.
 abbrev pub stepped : Care → ℕ → Step → Reply → Step
 stepped care cents Taking Go = Giving
 stepped care cents Taking (Return text) = Over cents 0
@@ -43,7 +43,7 @@ stepped care cents Giving (Return text) = Over (put_back care cents) 0
 stepped care cents Giving Halt = Over 0 0
 stepped care cents (Over payer payee) answer = Over payer payee
 
--- which point it asks next
+-- Which point a step asks next, or how the transfer is judged when it is over.
 abbrev pub move_of : ℕ → Step → Move
 move_of cents Taking = Ask 0
 move_of cents Giving = Ask 1
@@ -62,7 +62,7 @@ move_within cents Taking = omega arith
 move_within cents Giving = omega arith
 move_within cents (Over payer payee) = tt
 
--- each question is of one of the two points
+-- Each question is about one of the two points.
 pub asks-within : (care : Care) (cents : ℕ) (answers : List Reply) → IsWithin 2 (asks_of care cents answers)
 asks-within care cents = within_by (machine care cents) 2 (move_within cents)
 
@@ -89,6 +89,6 @@ halt_ends care cents (Over payer payee) = tt
 ends : (care : Care) (cents : ℕ) → EndsBy (machine care cents) IsOver
 ends care cents = record { done = over_done cents; stays = over_stays care cents; halts = halt_ends care cents }
 
--- none follows a halt
+-- No question follows a halt.
 pub asks-halts : (care : Care) (cents : ℕ) (before after : List Reply) → IsDone (asks_of care cents (before ++ Halt ∷ after))
 asks-halts care cents = halts_by (machine care cents) IsOver (ends care cents)

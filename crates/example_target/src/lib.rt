@@ -1,7 +1,7 @@
-//! An example of a target from outside: a transfer between two accounts, which is taken back where the second step is refused.
+//! An example of your own target: a transfer between two accounts, which is taken back if the second step is refused.
 //!
-//! It shows how a component of your own is put under faults: a variant as the setup, a workload, a device that is seen by nobody but
-//! the run, two points, a judgement by what the device holds, and what has to be proved.
+//! It shows what such a target consists of: a variant as the setup, a workload, a device that only the run sees, two points, a judgement by what the
+//! device holds, and what has to be proved.
 #![tactic(auto)]
 
 mod transfer;

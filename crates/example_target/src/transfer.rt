@@ -1,3 +1,4 @@
+//! The transfer, and its target.
 ghost use Rattle.std.specs.Prelude.{◌≡◌, codes};
 ghost use Rattle.std.proofs.Common.{rules};
 ghost use Rattle.example_target.specs.Steps.{point_names, label_of, judged, put_back, asks_of, asks-within, asks-halts};
@@ -6,7 +7,7 @@ use std::alloc::AllocError;
 use std::marker::Model;
 use target_trait::{Answer, Judgement, Session, Target};
 
-/// What a transfer does where the second step is refused.
+/// What a transfer does if the second step is refused.
 #[derive(Clone, Copy, Debug, PartialEq, Eq)]
 pub enum Care {
     /// It puts the amount back.
@@ -21,7 +22,7 @@ pub struct Amount {
     pub cents: u32,
 }
 
-/// A transfer between two accounts: what is taken from the one is given to the other. It promises that no cent is lost.
+/// A transfer between two accounts: what is taken from one is given to the other. It promises that no cent is lost.
 #[derive(Drop)]
 pub struct Transfer {
     care: Care,
@@ -38,6 +39,7 @@ impl Model for Transfer {
 }
 
 impl Transfer {
+    /// A transfer that takes this care.
     pub fn new(care: Care) -> Self
         ensures { result ≡ care }
     {
@@ -49,7 +51,7 @@ impl Transfer {
     }
 }
 
-/// What the payer has where giving was refused.
+/// What the payer has after giving was refused.
 fn put_back(care: Care, cents: u32) -> u32
     ensures { result ≡ put_back care cents }
 {

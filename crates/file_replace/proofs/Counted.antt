@@ -57,7 +57,7 @@ acknowledged_counted old reps k n step within =
 take_all : (l : List (List (List ℕ))) (k : ℕ) → take (length l - k) (drop k l) ≡ drop k l
 take_all l k = ap (λ n. take n (drop k l)) (sym (length-drop k l)) ∙ take-length (drop k l)
 
--- those begun, but for the old contents
+-- Those that were begun, except the old contents.
 pub begun_from : (x old : List ℕ) (reps : List (List (List ℕ))) (k n : ℕ) (result : Bool) → 0 < k → result ≡ is_among x (map joined (take (length (take n reps) - (k - 1)) (drop (k - 1) (take n reps)))) → result ≡ is_among x (contents_between k n (all_contents old reps))
 begun_from x old reps k n result some is =
     let back : k ≡ suc (k - 1) = omega arith in

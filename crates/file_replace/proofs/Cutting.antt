@@ -1,4 +1,4 @@
--- A run on a device that tells what is pending, up to its power cut.
+-- A run on a device that notes what is pending, up to its power cut.
 use Rattle.std.proofs.Common.{◌≡◌, ℕ, ◌+◌, ◌≤◌, Bool, List, length, Option, None, ap, sym, ◌∙◌}
 use Rattle.sim_device.specs.FileEffects.{pending}
 use Rattle.sim_device.specs.Disk.{Noted, Tells}
@@ -35,7 +35,7 @@ pub kept_judged : (v : Variant) (w : Work) (r : Run) (t : Tally) (d : Noted) (k 
     → j ≡ judged_keeping (after (machine v w) (replies r)) keep
 kept_judged v w r t d k keep j is = is ∙ ap (λ (s : State). judged_keeping s keep) (sym k.reached.here)
 
--- what a device tells at the end of a run is pending after the play of what the run is given
+-- What a device notes at the end of a run is pending after the play of what the run is given.
 pub calls_told : (v : Variant) (w : Work) (r : Run) (t : Tally) (d : Noted) → Played Tells v w r t d → point_at t.step ≡ None
     → (g : Given) → r.given ≡ g → length r.hits ≤ r.given.limit + 1 → call_texts d.pending ≡ calls_of v w g
 calls_told v w r t d k at g given few =

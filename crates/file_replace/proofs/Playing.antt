@@ -112,7 +112,7 @@ writes_on v w t zero cs es few = refl
 writes_on v w t (suc n) [] es few = let no : ⊥ = omega (arith, few) in elim no [ ]
 writes_on v w t (suc n) (c ∷ cs) es few = writes_on v w t n cs (Append (written_name v) c ∷ es) (omega (arith, few))
 
--- these chunks written at once, of those that are left
+-- Some of the chunks that are left, written at once.
 pub played_on : {D : Type 0} {stands : D → List Effect → Type 0} (v : Variant) (w : Work) (r : Run) (t : Tally) (d : D) (cs : List (List ℕ)) (n : ℕ) → Played stands v w r (at_step t (write_step v cs)) d → n ≤ length cs
     → (r' : Run) → r' ≡ hits_of r (replicate n write_point) → AllGo r (replicate n write_point) → stopped r' ≡ None
     → (d' : D) → ((es : List Effect) → stands d es → stands d' (with_chunks (written_name v) (take n cs) es))

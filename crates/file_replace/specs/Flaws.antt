@@ -1,4 +1,4 @@
--- Workloads and scenarios that a flawed replacement fails. They are the least that a campaign finds and reduces.
+-- Workloads, and the scenarios that a flawed replacement fails. They are the smallest that a campaign finds and reduces to.
 use Rattle.std.specs.Prelude.{ℕ, suc, List, [], ◌∷◌, Option, codes}
 use Rattle.scenario_values.specs.Scenario.{Entries}
 use Rattle.sim_device.specs.FileEffects.{Live, held}
@@ -10,7 +10,7 @@ use Rattle.file_replace.specs.Words.{target}
 use Rattle.file_replace.specs.Work.{Work}
 use Rattle.file_replace.specs.Steps.{effects_of, asks_of}
 
--- these contents, replaced once by the chunks `ne` and `w`
+-- These contents, replaced once by the chunks `ne` and `w`.
 abbrev pub replaced_by_new : List ℕ → Work
 replaced_by_new old = record { old = old; replacements = (codes "ne" ∷ codes "w" ∷ []) ∷ [] }
 
@@ -26,6 +26,6 @@ sync_fails = fails_once (codes "replace::sync") ∷ []
 abbrev pub write_fails : Entries
 write_fails = fails_once (codes "replace::write") ∷ []
 
--- what `target` holds after the power cut at the end of a run
+-- What `target` holds after the power cut at the end of a run.
 abbrev pub left_by : Variant → Work → Given → Option (List ℕ)
 left_by v w g = held (effects_of v w (replies (play (suc g.limit) (asks_of v w) (start g)))) Live target

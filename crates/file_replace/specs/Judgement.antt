@@ -7,32 +7,32 @@ use Rattle.target_trait.specs.declared.judgement.Judgement.{Judgement}
 use Rattle.target_trait.specs.declared.judgement.Judgement.TheVariants.{Kept, Broken}
 use Rattle.file_replace.specs.Words.{target, torn, stale}
 
--- what the judgement goes by: whole contents, the oldest first
+-- What the judgement is based on: whole contents, the oldest first.
 pub record Past : Type 0 where
-  -- the contents last acknowledged, or the old ones, and the contents of each replacement begun after that
+  -- The contents that were last acknowledged, or the old ones, and the contents of each replacement begun after that.
   pub allowed : List (List ℕ)
-  -- the old contents, and the contents of each replacement begun
+  -- The old contents, and the contents of each replacement that was begun.
   pub known : List (List ℕ)
 
 abbrev pub nothing_begun : List ℕ → Past
 nothing_begun old = record { allowed = old ∷ []; known = old ∷ [] }
 
--- a replacement with these contents is begun
+-- A replacement with these contents is begun.
 abbrev pub with_begun : List ℕ → Past → Past
 with_begun contents p = record { allowed = p.allowed ++ contents ∷ []; known = p.known ++ contents ∷ [] }
 
--- the replacement with these contents is acknowledged
+-- The replacement with these contents is acknowledged.
 abbrev pub with_acknowledged : List ℕ → Past → Past
 with_acknowledged contents p = record { allowed = contents ∷ []; known = p.known }
 
 abbrev pub is_among : List ℕ → List (List ℕ) → Bool
 is_among x xs = list_any (bytes_eq x) xs
 
--- kept is what is allowed; what is known and no longer allowed is stale; all else, or no file at all, is torn
+-- Allowed contents are kept; known contents that are no longer allowed are stale; anything else, or no file at all, is torn.
 abbrev pub judged_by : Past → Option (List ℕ) → Judgement
 judged_by p None = Broken torn
 judged_by p (Some x) = if is_among x p.allowed then Kept else (if is_among x p.known then Broken stale else Broken torn)
 
--- what stands under `target` after a power cut
+-- The judgement of what `target` holds after a power cut.
 abbrev pub judged : Past → List Effect → Judgement
 judged p effects = judged_by p (held (PowerCut [] ∷ effects) Live target)

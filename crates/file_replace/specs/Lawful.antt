@@ -24,7 +24,7 @@ step_within j SyncingLate = omega arith
 step_within j Cleaning = omega arith
 step_within j Over = tt
 
--- each question is of one of the seven points
+-- Each question is of one of the seven points.
 pub asks-within : (v : Variant) (w : Work) (answers : List Reply) → IsWithin 7 (asks_of v w answers)
 asks-within v w = within_by (machine v w) 7 (λ s. step_within (judged s.tally.past s.effects) s.tally.step)
 
@@ -43,6 +43,6 @@ ends v w = record {
   halts = λ s. refl;
 }
 
--- no question follows a halt
+-- No question follows a halt.
 pub asks-halts : (v : Variant) (w : Work) (before rest : List Reply) → IsDone (asks_of v w (before ++ Halt ∷ rest))
 asks-halts v w = halts_by (machine v w) IsOver (ends v w)

@@ -1,4 +1,4 @@
--- The protocol of atomic replacement as a table: the steps, what each asks, and what each answer does and leads to.
+-- The protocol of atomic replacement as a table: the steps, the point that each of them asks, and what each answer does and leads to.
 use Rattle.std.specs.Prelude.{ℕ, Bool, true, false, List, [], ◌∷◌, Option, Some, None, is_some}
 use Rattle.sim_device.specs.FileEffects.{Effect, Create, Append, Sync, Rename, Unlink, SyncDir, PowerCut, Live, leads}
 use Rattle.action_eval.specs.Answers.{Reply, Go, Return, Halt}
@@ -11,33 +11,33 @@ use Rattle.file_replace.specs.Words.{target, tmp, written_name, clear_point, cre
 use Rattle.file_replace.specs.Work.{Work}
 use Rattle.file_replace.specs.Judgement.{Past, nothing_begun, with_begun, with_acknowledged, judged}
 
--- the step whose question comes next, with the chunks that are left
+-- The step that is asked for next, with the chunks that are left.
 pub data Step : Type 0 where
-  -- the name that is written is cleared: `tmp` that a replacement left which failed, or, by in_place, `target`
+  -- Removes the name to write under: `tmp`, if a failed replacement left it, or `target` with `in_place`.
   Clearing : List (List ℕ) → Step
   Creating : List (List ℕ) → Step
   Writing : List ℕ → List (List ℕ) → Step
   WritingAgain : List ℕ → List (List ℕ) → Step
   Syncing : Step
   Renaming : Step
-  -- what was renamed is synced, before the directory is
+  -- Syncs the file that was renamed, before the directory is synced.
   SyncingRenamed : Step
   SyncingDir : Step
-  -- `target` is synced once it stands under its name
+  -- Syncs the file late, when it is already named `target`.
   SyncingLate : Step
-  -- `tmp` is taken away after a failure
+  -- Removes `tmp` after a failure.
   Cleaning : Step
   Over : Step
 
--- how far the replacements have come
+-- How far the replacements have come.
 pub record Tally : Type 0 where
   pub step : Step
-  -- the whole contents of the replacement under way, and the replacements after it
+  -- The whole contents of the replacement under way, and the replacements after it.
   pub whole : List ℕ
   pub rest : List (List (List ℕ))
   pub past : Past
 
--- that, and what the device accepted, the newest effect first
+-- The tally, and what the device accepted, the newest effect first.
 pub record State : Type 0 where
   pub tally : Tally
   pub effects : List Effect
@@ -53,12 +53,12 @@ at_step t step = record { step = step; whole = t.whole; rest = t.rest; past = t.
 abbrev pub is_there : Variant → List Effect → Bool
 is_there v es = is_some (leads es Live (written_name v))
 
--- the name is cleared only where it is there
+-- The name is removed first only if it exists.
 abbrev pub first_step : Bool → List (List ℕ) → Step
 first_step false chunks = Creating chunks
 first_step true chunks = Clearing chunks
 
--- the next replacement is begun: its question is the next
+-- Begins the next replacement. If there is none, the run is over.
 abbrev pub begun_of : Bool → Tally → List (List (List ℕ)) → Tally
 begun_of there t [] = record { step = Over; whole = t.whole; rest = []; past = t.past }
 begun_of there t (chunks ∷ more) = record { step = first_step there chunks; whole = joined chunks; rest = more; past = with_begun (joined chunks) t.past }
@@ -69,17 +69,17 @@ begun there t = begun_of there t t.rest
 abbrev pub acknowledged : Tally → Tally
 acknowledged t = record { step = t.step; whole = t.whole; rest = t.rest; past = with_acknowledged t.whole t.past }
 
--- the replacement under way fails, and the next is begun
+-- The replacement under way fails, and the next one is begun.
 abbrev pub failed : Variant → Tally → List Effect → State
 failed v t es = state (begun (is_there v es) t) es
 
--- the replacement under way is acknowledged, and the next is begun
+-- The replacement under way is acknowledged, and the next one is begun.
 abbrev pub done : Variant → Tally → List Effect → State
 done v t es = state (begun (is_there v es) (acknowledged t)) es
 
 -- ---- where the variants differ
 
--- late_sync and rename_first sync after the rename
+-- `late_sync` and `rename_first` sync the file only after the rename.
 abbrev pub after_writes : Variant → Step
 after_writes Sound = Syncing
 after_writes LateSync = Renaming
@@ -92,7 +92,7 @@ abbrev pub write_step : Variant → List (List ℕ) → Step
 write_step v [] = after_writes v
 write_step v (c ∷ cs) = Writing c cs
 
--- in_place has nothing to rename
+-- `in_place` has nothing to rename.
 abbrev pub after_sync : Variant → Step
 after_sync Sound = Renaming
 after_sync LateSync = Renaming
@@ -101,7 +101,7 @@ after_sync RetryWrite = Renaming
 after_sync RenameFirst = Renaming
 after_sync InPlace = SyncingDir
 
--- rename_first syncs then
+-- `rename_first` syncs the file after the rename.
 abbrev pub after_rename : Variant → Step
 after_rename Sound = SyncingDir
 after_rename LateSync = SyncingDir
@@ -118,7 +118,7 @@ after_sync_dir RetryWrite t es = done RetryWrite t es
 after_sync_dir RenameFirst t es = done RenameFirst t es
 after_sync_dir InPlace t es = done InPlace t es
 
--- what can't be written to its end is cleaned up; in_place leaves it as it is
+-- What follows if the file can't be completed: it is removed. `in_place` leaves it as it is.
 abbrev pub given_up : Variant → Tally → List Effect → State
 given_up Sound t es = state (at_step t Cleaning) es
 given_up LateSync t es = state (at_step t Cleaning) es
@@ -127,7 +127,7 @@ given_up RetryWrite t es = state (at_step t Cleaning) es
 given_up RenameFirst t es = state (at_step t Cleaning) es
 given_up InPlace t es = failed InPlace t es
 
--- retry_write writes the whole chunk again after its half
+-- `retry_write` writes the whole chunk again after half of it was written.
 abbrev pub after_half : Variant → Tally → List Effect → List ℕ → List (List ℕ) → State
 after_half Sound t es c cs = given_up Sound t es
 after_half LateSync t es c cs = given_up LateSync t es
@@ -136,7 +136,7 @@ after_half RetryWrite t es c cs = state (at_step t (WritingAgain c cs)) es
 after_half RenameFirst t es c cs = given_up RenameFirst t es
 after_half InPlace t es c cs = given_up InPlace t es
 
--- ignore_sync goes on as after a sync
+-- `ignore_sync` goes on as if the sync had succeeded.
 abbrev pub after_no_sync : Variant → Tally → List Effect → State
 after_no_sync Sound t es = given_up Sound t es
 after_no_sync LateSync t es = given_up LateSync t es
@@ -147,7 +147,7 @@ after_no_sync InPlace t es = given_up InPlace t es
 
 -- ---- the table of steps
 
--- the point that a step asks
+-- The point that a step asks.
 abbrev pub point_at : Step → Option ℕ
 point_at (Clearing chunks) = Some clear_point
 point_at (Creating chunks) = Some create_point
@@ -161,7 +161,7 @@ point_at SyncingLate = Some sync_point
 point_at Cleaning = Some unlink_point
 point_at Over = None
 
--- what a step does where it is answered to go on
+-- What a step does if it is answered with `Go`.
 abbrev pub on_go : Variant → Tally → List Effect → Step → State
 on_go v t es (Clearing chunks) = state (at_step t (Creating chunks)) (Unlink (written_name v) ∷ es)
 on_go v t es (Creating chunks) = state (at_step t (write_step v chunks)) (Create (written_name v) ∷ es)
@@ -175,7 +175,7 @@ on_go v t es SyncingLate = done v t (Sync target ∷ es)
 on_go v t es Cleaning = failed v t (Unlink tmp ∷ es)
 on_go v t es Over = state (at_step t Over) es
 
--- what it does where it is answered that it fails
+-- What a step does if it is answered with `Return`, so that it fails.
 abbrev pub on_return : Variant → Tally → List Effect → Step → State
 on_return v t es (Clearing chunks) = failed v t es
 on_return v t es (Creating chunks) = failed v t es
@@ -189,7 +189,7 @@ on_return v t es SyncingLate = failed v t es
 on_return v t es Cleaning = failed v t es
 on_return v t es Over = state (at_step t Over) es
 
--- after a halt nothing is done or asked
+-- The state after an answer. After `Halt` nothing more is done or asked.
 abbrev pub stepped : Variant → State → Reply → State
 stepped v s Go = on_go v s.tally s.effects s.tally.step
 stepped v s (Return text) = on_return v s.tally s.effects s.tally.step
@@ -197,7 +197,7 @@ stepped v s Halt = state (at_step s.tally Over) s.effects
 
 -- ---- a whole run
 
--- before a run `target` has the old contents, and both last
+-- Before a run `target` has the old contents, and both the name and the contents last.
 abbrev pub prepared : List ℕ → List Effect
 prepared old = SyncDir ∷ Sync target ∷ Append target old ∷ Create target ∷ []
 
@@ -210,14 +210,14 @@ start_of v w = state (begun (is_there v (prepared w.old)) (before_all w)) (prepa
 abbrev pub move_of : State → Move
 move_of s = move_by (judged s.tally.past s.effects) (point_at s.tally.step)
 
--- the protocol: the first state, what an answer makes of a state, and what a state asks
+-- The protocol: the first state, the state that an answer leads to, and what a state asks.
 abbrev pub machine : Variant → Work → Machine State
 machine v w = record { first = start_of v w; step = stepped v; move = move_of }
 
--- what is asked after a list of answers
+-- What is asked after a list of answers.
 abbrev pub asks_of : Variant → Work → List Reply → Move
 asks_of v w = asks_by (machine v w)
 
--- what the device accepted in a run of these answers, with the power cut at its end
+-- What the device accepted in a run with these answers, and the power cut at its end.
 abbrev pub effects_of : Variant → Work → List Reply → List Effect
 effects_of v w answers = PowerCut [] ∷ (after (machine v w) answers).effects

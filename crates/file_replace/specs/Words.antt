@@ -1,11 +1,11 @@
--- Names and numbers of the file replacement: points, labels, codes of failures, and the names on the device.
+-- Names and numbers of the file replacement: its points, labels, failure codes, and the names on the device.
 use Rattle.std.specs.Prelude.{ℕ, ◌==◌, if◌then◌else◌, List, [], ◌∷◌, codes}
 use Rattle.file_replace.specs.declared.variant.Variant.{Variant}
 use Rattle.file_replace.specs.declared.variant.Variant.TheVariants.{Sound, LateSync, IgnoreSync, RetryWrite, RenameFirst, InPlace}
 use Rattle.file_replace.specs.declared.disk.Name.{Name}
 use Rattle.file_replace.specs.declared.disk.Name.TheVariants as name
 
--- the points, in the order of their numbers
+-- The points, in the order of their numbers.
 abbrev pub point_names : List (List ℕ)
 point_names =
     codes "replace::clear" ∷ codes "replace::create" ∷ codes "replace::write" ∷ codes "replace::sync" ∷ codes "replace::rename"
@@ -40,7 +40,7 @@ label RetryWrite = codes "replace retry_write"
 label RenameFirst = codes "replace rename_first"
 label InPlace = codes "replace in_place"
 
--- the codes of failures: contents that nobody ever wrote whole, and contents that were replaced
+-- The failure codes. `torn`: the contents were never written as a whole by anybody. `stale`: the contents are ones that were replaced.
 abbrev pub torn : ℕ
 torn = 0
 
@@ -50,7 +50,7 @@ stale = 1
 abbrev pub code_text : ℕ → List ℕ
 code_text code = if code == torn then codes "torn" else codes "stale"
 
--- the names on the device: what is replaced, and what is written before
+-- The names on the device: the file that is replaced, and the one that is written first.
 abbrev pub target : ℕ
 target = 0
 
@@ -60,7 +60,7 @@ tmp = 1
 abbrev pub name_text : ℕ → List ℕ
 name_text name = if name == target then codes "target" else codes "tmp"
 
--- the name that the new contents are written under: in_place has no other than that of the old ones
+-- The name that the new contents are written under. `in_place` writes them under the name of the old ones.
 abbrev pub written_name : Variant → ℕ
 written_name Sound = tmp
 written_name LateSync = tmp

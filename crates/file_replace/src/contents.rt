@@ -20,7 +20,7 @@ fn is_one(replacements: &[Chunks], bytes: &[u8]) -> bool
     false
 }
 
-/// Whether bytes are contents of a workload with a number from `first` to `last`. Number 0 are the old ones.
+/// Whether these bytes are the contents of a workload with a number from `first` to `last`. Number 0 is the old contents.
 // Each run asks it once, with bounds that its caller knows.
 #[inline(always)]
 pub fn is_among(workload: &Replacements, first: usize, last: usize, bytes: &[u8]) -> bool

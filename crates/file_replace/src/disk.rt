@@ -1,4 +1,4 @@
-//! The devices of a run, and its calls on them. None of the calls is refused but for want of memory.
+//! The devices of a run, and its calls on them. A call can only be refused memory.
 ghost use Rattle.std.specs.Prelude.{◌≡◌, ◌≤◌, ℕ, List, [], length, take, OnOk, IsOk, MatchOption, None, Some, is_some, is_none, false};
 ghost use Rattle.sim_device.specs.FileEffects.{Effect, Append, Create, Sync, SyncDir, Rename, Unlink, Live, held, leads};
 ghost use Rattle.sim_device.specs.Disk.{StandsFor, Tells, entry_at, reads};
@@ -14,9 +14,9 @@ use std::alloc::AllocError;
 /// A name on the device.
 #[derive(Clone, Copy)]
 pub enum Name {
-    /// What is replaced.
+    /// The name whose contents are replaced.
     Target,
-    /// Where new contents are written before they take the place of the old ones.
+    /// The name under which new contents are written before they take the place of the old ones.
     Tmp,
 }
 
@@ -37,10 +37,10 @@ pub trait Device: Sized {
     // It stands for this list of effects, the newest first.
     ghost stands: { Self → List Effect → Type 0 };
 
-    // Where its names lead.
+    // What its names lead to.
     ghost names: { Self → List Entry };
 
-    // How many of so many chunks are written by one call.
+    // How many of the next `chunks` chunks one call writes.
     ghost most: { ℕ → ℕ };
 
     /// A new device, with no names.
@@ -57,12 +57,12 @@ pub trait Device: Sized {
         requires { is_none (entry_at (names self.old) (number_of name)).live ≡ false }
         ensures { OnOk result (Adds stands self.old self.new (Append (number_of name) bytes.now)) };
 
-    /// How many of so many chunks are written by one call.
+    /// How many of the next `chunks` chunks one call writes.
     fn at_once(chunks: usize) -> usize
         ensures most { result ≡ most chunks }
         ensures few { result ≤ chunks };
 
-    /// The next so many chunks at the end of a file, one after another.
+    /// Appends the next `count` chunks to a file, one after another.
     fn append_chunks(
         &mut self,
         name: Name,
@@ -73,22 +73,22 @@ pub trait Device: Sized {
         requires few { count ≤ most (length (left chunks)) }
         ensures { OnOk result ((es : List Effect) → stands self.old es → stands self.new (with_chunks (number_of name) (take count (left chunks.entry)) es)) };
 
-    /// What a file holds lasts.
+    /// Makes the contents of a file last.
     fn sync(&mut self, name: Name)
         requires { is_none (entry_at (names self.old) (number_of name)).live ≡ false }
         ensures { Adds stands self.old self.new (Sync (number_of name)) };
 
-    /// A name is gone.
+    /// Removes a name.
     fn unlink(&mut self, name: Name) -> Result<(), AllocError>
         requires { is_none (entry_at (names self.old) (number_of name)).live ≡ false }
         ensures { OnOk result (Adds stands self.old self.new (Unlink (number_of name))) };
 
-    /// The file of `tmp` comes under `target`.
+    /// Renames `tmp` to `target`.
     fn rename(&mut self) -> Result<(), AllocError>
         requires { is_none (entry_at (names self.old) tmp).live ≡ false }
         ensures { OnOk result (Adds stands self.old self.new (Rename tmp target)) };
 
-    /// The names last.
+    /// Makes the names last.
     fn sync_dir(&mut self)
         ensures { Adds stands self.old self.new SyncDir };
 
@@ -165,7 +165,7 @@ pub fn target_contents(device: &FileDevice) -> Option<&[u8]>
     device.read(Name::Target.number()).ok()
 }
 
-/// The answer of a call whose other faults are ruled out.
+/// The result of a call whose other faults are ruled out.
 fn for_memory(answer: Result<(), DeviceFault>) -> Result<(), AllocError>
     ensures { OnOk result (IsOk answer) }
 {
@@ -233,7 +233,7 @@ impl Device for CrashDevice {
     ghost led = { λ device effects name tells. tells.disk.live name };
 }
 
-/// What `target` holds on a device that told what was pending.
+/// What `target` holds on a device that says what is pending.
 pub fn target_kept(device: &CrashDevice) -> Option<&[u8]>
     ensures { MatchOption result (reads device.now.disk target ≡ None) (λ bytes. reads device.now.disk target ≡ Some bytes.now) }
 {

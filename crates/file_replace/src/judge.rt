@@ -1,3 +1,4 @@
+//! The judgement: what `target` holds after a power cut.
 ghost use Rattle.std.specs.Prelude.{◌≡◌, [], ◌∷◌, ℕ, List, Some, IfOk};
 ghost use Rattle.file_replace.specs.Words.{target};
 ghost use Rattle.sim_device.specs.FileEffects.{Effect, PowerCut, Live, held};
@@ -41,8 +42,8 @@ pub fn judge(device: &mut FileDevice, progress: &Progress<'_>) -> Judgement
     }
 }
 
-/// Cuts the power, which keeps those pending writes for which the answers say so, and judges what `target` then holds. An error means that memory
-/// was refused.
+/// Cuts the power, keeps the pending writes for which the answers say so, and judges what `target` then holds. An error means that memory was
+/// refused.
 pub fn judge_keeping(
     device: &mut CrashDevice,
     progress: &Progress<'_>,

@@ -1,4 +1,4 @@
-//! What holds of every run.
+//! Laws of the variants' runs: under which scenario each flawed one fails, and that the sound one never does.
 ghost use Rattle.std.specs.Prelude.{◌≡◌, ℕ, [], Some, codes};
 ghost use Rattle.action_eval.specs.Answers.{given_of};
 ghost use Rattle.target_trait.specs.Outcomes.{outcome};
@@ -39,16 +39,16 @@ pub fn retry_write_is_torn()
     ensures contents { (seed stream : ℕ) → left_by RetryWrite old_to_new (given_of write_fails point_names seed stream 1000) ≡ Some (codes "nnew") }
 {}
 
-/// ignore_sync fails: under `replace::sync=1*return` the replacement of empty contents by `ne` and `w` is stale. It is acknowledged, and
-/// of the new file, which was never synced, nothing lasts: `target` is as empty as before.
+/// ignore_sync fails: under `replace::sync=1*return` the replacement of empty contents by `ne` and `w` is stale. It is acknowledged, but the new file
+/// was never synced, so nothing of it lasts: `target` is as empty as before.
 pub fn ignore_sync_is_stale()
     ensures verdict { (seed stream : ℕ) → (outcome (asks_of IgnoreSync empty_to_new) (given_of sync_fails point_names seed stream 1000)).verdict ≡ Fail stale }
     ensures contents { (seed stream : ℕ) → left_by IgnoreSync empty_to_new (given_of sync_fails point_names seed stream 1000) ≡ Some [] }
 {}
 
-/// A power cut that keeps some of what is pending shows what none does that loses all. Where the directory's sync fails, or the run panics there,
-/// late_sync has renamed a file that was never synced: the cut keeps the rename alone, or it and the second chunk, and `target` holds nothing, or
-/// that chunk behind zeros. The sound variant has synced the file by then.
+/// late_sync fails in one more way if a power cut keeps some of what is pending. If the directory's sync fails, or the run panics there, it has
+/// renamed a file that was never synced. If the cut keeps the rename alone, `target` holds nothing; if it keeps the rename and the second chunk,
+/// `target` holds that chunk behind zeros. A cut that loses everything doesn't show this. The sound variant has synced the file by then.
 pub fn a_kept_rename_shows_late_sync()
     ensures renamed { (seed stream : ℕ) → (outcome (asks_with (asks_of LateSync old_to_new) (cut_of LateSync old_to_new) 7)
         (given_of renamed_alone (with_keep point_names) seed stream 1000)).verdict ≡ Fail torn }
@@ -58,8 +58,8 @@ pub fn a_kept_rename_shows_late_sync()
         (given_of renamed_unnamed (with_keep point_names) seed stream 1000)).verdict ≡ Pass }
 {}
 
-/// rename_first fails where a cut keeps the rename of a file whose sync failed, and nothing else: `target` holds nothing then. A cut that loses all doesn't
-/// show it, under the same fault.
+/// rename_first fails if a cut keeps the rename of a file whose sync failed, and nothing else: then `target` holds nothing. A cut that loses
+/// everything doesn't show this under the same fault.
 pub fn a_kept_rename_shows_rename_first()
     ensures renamed { (seed stream : ℕ) → (outcome (asks_with (asks_of RenameFirst old_to_new) (cut_of RenameFirst old_to_new) 7)
         (given_of renamed_unsynced (with_keep point_names) seed stream 1000)).verdict ≡ Fail torn }
@@ -67,7 +67,8 @@ pub fn a_kept_rename_shows_rename_first()
         (given_of sync_fails (with_keep point_names) seed stream 1000)).verdict ≡ Pass }
 {}
 
-/// in_place fails where the new file can't be created, and a cut keeps that the old name is gone. A cut that loses all doesn't show it, under the same fault.
+/// in_place fails if the new file can't be created, and a cut keeps the removal of the old name. A cut that loses everything doesn't show this under
+/// the same fault.
 pub fn a_kept_unlink_shows_in_place()
     ensures unlinked { (seed stream : ℕ) → (outcome (asks_with (asks_of InPlace old_to_new) (cut_of InPlace old_to_new) 7)
         (given_of unlinked_alone (with_keep point_names) seed stream 1000)).verdict ≡ Fail torn }
@@ -75,8 +76,8 @@ pub fn a_kept_unlink_shows_in_place()
         (given_of create_fails (with_keep point_names) seed stream 1000)).verdict ≡ Pass }
 {}
 
-/// The sound variant never fails, whatever a power cut keeps: for every scenario, of its points and of `power::keep`, the verdict of its run with the cut is
-/// pass or unresolved.
+/// The sound variant never fails, whatever a power cut keeps: for every scenario, which may name its points and `power::keep`, the verdict of its run
+/// with the cut is pass or unresolved.
 pub fn sound_survives_each_cut(
     workload: &Replacements,
     scenario: &Scenario,

@@ -32,7 +32,7 @@ enum Point {
     Unlink,
 }
 
-/// The point that a stage asks.
+/// The point that a stage asks for.
 fn point_of(stage: Stage<'_>) -> Option<u32>
     ensures { result ≡ point_at (step_of stage.entry) }
 {
@@ -48,7 +48,7 @@ fn point_of(stage: Stage<'_>) -> Option<u32>
     }
 }
 
-/// Asks one point, and does what its answer says.
+/// Asks one point, and acts on its answer.
 fn ask<D: Device>(
     variant: Variant,
     workload: &Replacements,
@@ -72,8 +72,8 @@ fn ask<D: Device>(
     Ok(())
 }
 
-/// Asks and writes chunk after chunk, as long as chunks are left and the answers are to go on. Chunks whose writes surely succeed are
-/// written together.
+/// Asks for and writes chunk after chunk, as long as chunks are left and the answers are to go on. Chunks whose writes surely succeed are written
+/// together.
 fn write_on<D: Device>(
     variant: Variant,
     workload: &Replacements,
@@ -110,7 +110,7 @@ fn write_on<D: Device>(
     Ok(())
 }
 
-/// Plays a run on a device, which is cleared first, up to where it is judged.
+/// Plays a run on a device, which is cleared first, up to its judgement.
 pub fn play_out<'w, D: Device>(
     variant: Variant,
     workload: &'w Replacements,
@@ -188,7 +188,7 @@ pub const TO_CUT: &[&str] = &[
     "power::keep",
 ];
 
-/// Plays a run on a device, which is cleared first, and its power cut, which keeps what it is told to.
+/// Plays a run on a device, which is cleared first, and its power cut, which keeps the writes for which its point returns.
 ///
 /// An error means that memory was refused. The session then has the hits up to there.
 pub fn play_to_cut(

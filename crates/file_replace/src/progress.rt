@@ -1,3 +1,4 @@
+//! How far a run has come.
 ghost use Rattle.std.specs.Prelude.{◌≡◌};
 ghost use Rattle.file_replace.specs.Judgement.{is_among};
 ghost use Rattle.file_replace.specs.Steps.{begun, at_step, acknowledged, before_all, first_step};
@@ -22,7 +23,7 @@ fn first_stage<'w>(is_there: bool, chunks: &'w Chunks) -> Stage<'w>
     }
 }
 
-/// How far the replacements of a workload have come. Contents are counted: 0 are the old ones, and 1 those of the first replacement.
+/// How far the replacements of a workload have come. Contents are numbered: 0 is the old contents, 1 that of the first replacement.
 #[derive(Drop)]
 pub struct Progress<'w> {
     workload: &'w Replacements,
@@ -61,7 +62,7 @@ impl<'w> Progress<'w> {
         }
     }
 
-    /// Begins the next replacement, if there is one. It clears the name that it writes, where that is there.
+    /// Begins the next replacement, if there is one. If the name that it writes is there, it clears that first.
     pub fn begin(&mut self, is_there: bool)
         ensures { self.new ≡ begun is_there self.old }
     {
@@ -73,19 +74,21 @@ impl<'w> Progress<'w> {
         self.stage = first_stage(is_there, next);
     }
 
-    /// The replacement under way is acknowledged.
+    /// Acknowledges the replacement under way.
     pub fn acknowledge(&mut self)
         ensures { self.new ≡ acknowledged self.old }
     {
         self.acknowledged = self.begun;
     }
 
+    /// Goes on to a stage.
     pub fn go_to(&mut self, stage: Stage<'w>)
         ensures { self.new ≡ at_step self.old (step_of stage.entry) }
     {
         self.stage = stage;
     }
 
+    /// The stage that comes next.
     pub fn stage(&self) -> Stage<'w>
         ensures { step_of result ≡ self.now.step }
     {

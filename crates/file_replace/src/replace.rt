@@ -1,3 +1,4 @@
+//! The target: its setup, its catalogue, and its runs.
 ghost use Rattle.std.specs.Prelude.{◌≡◌, map, string_bytes, IfOk};
 ghost use Rattle.std.proofs.Common.{rules};
 ghost use Rattle.action_eval.specs.Answers.{start, given_of};
@@ -55,9 +56,9 @@ impl Replace {
         }
     }
 
-    /// Plays a case up to its power cut, and tells what each write did that is pending then, in the order in which they were made: `create tmp`,
-    /// `append tmp 2`, `rename tmp target`, `unlink tmp`. Where the cut is asked, its hit K at `power::keep` stands for the K-th of them. The number
-    /// behind an append is the place of its first byte in the file, and the file's own first byte has place 0.
+    /// Plays a case up to its power cut, and returns what each write did that is pending then, in the order in which they were made: `create tmp`,
+    /// `append tmp 2`, `rename tmp target`, `unlink tmp`. If the cut is asked, its hit K at `power::keep` stands for the K-th of them. The number
+    /// behind an append is the place of its first byte in the file, counted from 0.
     ///
     /// An error means that memory was refused. The target keeps its setup, after an error too.
     pub fn pending_calls(
@@ -79,7 +80,7 @@ impl Replace {
             case.max_hits,
         )?;
         play_out(self.variant, workload, &mut self.crash_device, &mut session)?;
-        // for its clause alone, that at most one hit is past the limit
+        // Called for its contract: at most one hit is past the limit.
         let _ = session.trace();
         call_texts(alloc, self.crash_device.pending())
     }

@@ -45,7 +45,7 @@ impl<'w> Rest<'w> {
         Some((chunk, rest))
     }
 
-    /// The bytes of the next so many chunks, and the chunks after these.
+    /// The bytes of the next `count` chunks, and the chunks after these.
     pub fn split_at(self, count: usize) -> (&'w [u8], Rest<'w>)
         requires { count ≤ length (left self) }
         ensures bytes { result.0.now ≡ joined (take count (left self.entry)) }

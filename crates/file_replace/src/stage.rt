@@ -1,6 +1,7 @@
+//! The stages of a replacement.
 use crate::rest::Rest;
 
-/// The step whose question comes next, with the chunks that are left.
+/// The step that is asked for next, with the chunks that are left to be written.
 #[derive(Clone, Copy)]
 pub enum Stage<'w> {
     Clearing(Rest<'w>),

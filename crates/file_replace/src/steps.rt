@@ -1,3 +1,4 @@
+//! What a replacement does at each stage, if its step succeeds and if it fails.
 ghost use Rattle.std.specs.Prelude.{◌≡◌, ◌∷◌, ℕ, List, OnOk, is_none, false};
 ghost use Rattle.sim_device.specs.FileEffects.{Effect, Append, Sync, SyncDir, Unlink};
 ghost use Rattle.sim_device.specs.Disk.{entry_at};
@@ -17,7 +18,7 @@ use crate::variant::Variant;
 use scenario_values::Text;
 use std::alloc::AllocError;
 
-/// The name that the new contents are written under.
+/// The name under which the new contents are written.
 pub fn written(variant: Variant) -> Name
     ensures { number_of result ≡ written_name variant }
 {
@@ -89,7 +90,7 @@ fn finish<D: Device>(variant: Variant, progress: &mut Progress<'_>, device: &D)
     progress.begin(device.exists(written(variant)));
 }
 
-/// Takes `tmp` away, and begins the next replacement.
+/// Removes `tmp`, and begins the next replacement.
 fn clean<D: Device>(
     variant: Variant,
     progress: &mut Progress<'_>,
@@ -104,7 +105,7 @@ fn clean<D: Device>(
     Ok(())
 }
 
-/// What `target` holds lasts, and the replacement is acknowledged.
+/// Makes the contents of `target` last, and acknowledges the replacement.
 fn finish_late<D: Device>(variant: Variant, progress: &mut Progress<'_>, device: &mut D)
     requires { is_none (entry_at (D.names device.old) target).live ≡ false }
     ensures { (es : List Effect) → D.stands device.old es → Shows D.stands (done variant progress.old (Sync target ∷ es)) progress.new device.new }
@@ -113,7 +114,7 @@ fn finish_late<D: Device>(variant: Variant, progress: &mut Progress<'_>, device:
     finish(variant, progress, device);
 }
 
-/// The names last.
+/// Makes the names last, and goes on.
 fn sync_dir<D: Device>(variant: Variant, progress: &mut Progress<'_>, device: &mut D)
     ensures { (es : List Effect) → D.stands device.old es → Shows D.stands (after_sync_dir variant progress.old (SyncDir ∷ es)) progress.new device.new }
 {
@@ -128,7 +129,7 @@ fn sync_dir<D: Device>(variant: Variant, progress: &mut Progress<'_>, device: &m
     }
 }
 
-/// Gives up what is written: `tmp` is cleaned up next, and where there is none the next replacement is begun.
+/// Gives up what is written: `tmp` is removed next; if there is none, the next replacement begins.
 fn give_up<D: Device>(variant: Variant, progress: &mut Progress<'_>, device: &D)
     ensures { (es : List Effect) → D.stands device.now es → Shows D.stands (given_up variant progress.old es) progress.new device.now }
 {
@@ -142,7 +143,7 @@ fn give_up<D: Device>(variant: Variant, progress: &mut Progress<'_>, device: &D)
     }
 }
 
-/// Appends the first half of a chunk, and does what follows where no more of it can be written.
+/// Appends the first half of a chunk, and does what follows if no more of it can be written.
 fn write_half<'w, D: Device>(
     variant: Variant,
     progress: &mut Progress<'w>,
@@ -167,7 +168,7 @@ fn write_half<'w, D: Device>(
     Ok(())
 }
 
-/// Does what follows where a sync fails.
+/// Does what follows if a sync fails.
 fn not_synced<D: Device>(variant: Variant, progress: &mut Progress<'_>, device: &D)
     ensures { (es : List Effect) → D.stands device.now es → Shows D.stands (after_no_sync variant progress.old es) progress.new device.now }
 {
@@ -224,7 +225,7 @@ pub fn go<D: Device>(
     Ok(())
 }
 
-/// Does what follows where the step that was asked for fails.
+/// Does what follows if the step that was asked for fails.
 #[inline(always)]
 pub fn fail<D: Device>(
     variant: Variant,
@@ -254,7 +255,7 @@ pub fn fail<D: Device>(
     Ok(())
 }
 
-/// Makes `target` hold the old contents, and both last.
+/// Makes `target` hold the old contents; the name and the contents last.
 pub fn prepare<D: Device>(device: &mut D, old: &Text) -> Result<(), AllocError>
     ensures { OnOk result (D.stands device.new (prepared old.now)) }
 {

@@ -1,4 +1,4 @@
-//! What pending writes did, in words.
+//! The texts that say what pending writes did.
 ghost use Rattle.std.specs.Prelude.{◌≡◌, map, string_bytes, IfOk};
 ghost use Rattle.file_replace.specs.Words.{name_text};
 ghost use Rattle.file_replace.specs.Crash.{call_text, call_texts};

@@ -1,3 +1,4 @@
+//! The workload: old contents, and replacements.
 ghost use Rattle.std.specs.Prelude.{◌≡◌, ◌≤◌, length};
 
 use chunked_text::Chunks;
@@ -24,7 +25,7 @@ impl Model for Replacements {
 }
 
 impl Replacements {
-    /// These old contents and these replacements, moved in. It takes no memory.
+    /// A workload of these old contents and replacements, which are moved in. It takes no memory.
     pub fn new(old: Text, replacements: Vec<Chunks>) -> Self
         requires old { length old ≤ 65536 }
         requires few { length replacements.items ≤ 1000 }

@@ -92,7 +92,7 @@ pub fn cause(alloc: Global, number: u32, code: u32, scenario: &str) -> Result<Ca
     })
 }
 
-/// The plans of a report, where there is a verdict for each.
+/// The plans of a report that has a verdict for each.
 fn judged<'p>(report: &Report<'_>, plans: &'p PlanList<'p>) -> Result<CampaignPlans<'p>, Fail>
     ensures { IfOk result (λ judged. length report.now.verdicts ≡ length judged) }
 {
@@ -102,7 +102,7 @@ fn judged<'p>(report: &Report<'_>, plans: &'p PlanList<'p>) -> Result<CampaignPl
     Ok(CampaignPlans::by_census(plans))
 }
 
-/// The JSON document of a report, where there is a verdict for each plan: of its plans the last is listed, and the one before a storm.
+/// The JSON document of a report that has a verdict for each plan. Its last plan is a listed scenario, and the one before that a storm.
 pub fn json_of<N: Names>(
     alloc: Global,
     names: &N,
@@ -127,7 +127,7 @@ pub fn json_of<N: Names>(
     Ok(json_text(alloc, names, report, &notes, &shown, &runs)?)
 }
 
-/// The brief text of a report, where there is a verdict for each plan.
+/// The brief text of a report that has a verdict for each plan.
 pub fn brief_of<N: Names>(
     alloc: Global,
     names: &N,
@@ -140,7 +140,7 @@ pub fn brief_of<N: Names>(
     Ok(brief_text(alloc, names, report, &judged(report, plans)?)?)
 }
 
-/// The JUnit document of a report, where there is a verdict for each plan.
+/// The JUnit document of a report that has a verdict for each plan.
 pub fn junit_of<N: Names>(
     alloc: Global,
     names: &N,

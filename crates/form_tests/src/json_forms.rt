@@ -230,7 +230,7 @@ fn a_document_tells_an_empty_report(rt: HostRuntime) -> Result<(), Fail> {
 
 const LABEL: &str = "\"<&>'\\/\u{1}\t\n\r\u{8}\u{c}\u{1f}\u{7f}\u{e9}\u{2028}\u{1f600}";
 
-/// Where a document has which text.
+/// Which text a document has at which place.
 const TEXTS: [(&str, &str); 8] = [
     ("/label", LABEL),
     ("/seed", "7"),

@@ -1,5 +1,5 @@
-//! Tests of the forms of reports, through calls of the library: the texts of small reports, and that a reader of JSON finds in a document
-//! what the report tells. What is expected was written by hand, from docs/MACHINES.md.
+//! Tests of the forms of reports, through calls of the library: the texts of small reports, and that a reader of JSON finds in a document what the
+//! report says. The expected texts were written by hand, from docs/MACHINES.md.
 #![tactic(auto)]
 
 #[cfg(test)]

@@ -1,4 +1,4 @@
-//! Counts that stand only where they aren't 0, in each form.
+//! Counts that are left out if they are 0, in each form.
 
 use crate::given::{Words, brief_of, json_of, plans, scenarios};
 use report::{Growth, Report, text};

@@ -1,4 +1,4 @@
--- Where the point of a power cut stands, and how many faults are tried at hits of points.
+-- The place of the point of a power cut, and how many faults are tried at hits of points.
 use Rattle.std.proofs.Common.{◌≡◌, ℕ, ◌+◌, ◌-◌, ◌*◌, ◌==◌, nat_lt, not, Bool, true, false, cond, None, Some, List, [], ◌∷◌, map, length, count_by, refl, ap, sym, ◌∙◌, arith}
 use Rattle.std.specs.List.{flat_map, position, prefix_len}
 use Rattle.std.proofs.lemmas.List.{length-append, length-map}

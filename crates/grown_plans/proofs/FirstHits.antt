@@ -50,7 +50,7 @@ lt_or_le zero (suc m) = inl (omega arith)
 lt_or_le (suc j) zero = inr (omega arith)
 lt_or_le (suc j) (suc m) = elim (lt_or_le j m) [ inl low ↦ inl (omega (arith, low)) | inr high ↦ inr (omega (arith, high)) ]
 
--- each count is right, of points that no catalogue has too
+-- Each count is right, also for points that no catalogue has.
 pub counted : (counts asked : List ℕ) → AreCounts counts asked → AllByRecursion (λ q. q < 64) asked → (p : ℕ) → get_or counts p 0 ≡ times p asked
 counted counts asked are all p = elim (lt_or_le p 64) [
   | inl low ↦ are.1 p low
@@ -148,7 +148,7 @@ gained a (suc k) =
     let some : nat_lt 0 (suc k) ≡ true = grind (arith, nat_tests) in
     yes ∙ sym some
 
--- the last fault's point is asked again where there are more hits of it than up to that fault
+-- The last fault's point is asked again if there are more hits of it than up to that fault.
 pub ends_again : (r : Rig) (rs : List Rig) (asked : List ℕ) (n : ℕ) → EndsAt r.site asked n → nat_lt r.site.hit (times r.site.point asked) ≡ is_asked_again (r ∷ rs) asked
 ends_again r rs asked n e = elim e.2 [
   | inl all ↦

@@ -1,4 +1,4 @@
--- Each case in which fewer than d faults act and then a return from then on has the run of one grown plan.
+-- Each case in which fewer than d faults act and then a sticky return does has the run of one grown plan.
 use Rattle.std.proofs.Common.{◌≡◌, ℕ, suc, ◌+◌, ◌<◌, ◌≤◌, ◌==◌, ◌||◌, ◌⊎◌, inl, inr, Bool, true, false, cond, Option, List, [], ◌∷◌, ◌++◌, length, refl, ap, sym, ◌∙◌, subst, arith, append_assoc}
 use Rattle.std.specs.Prelude.{Contains}
 use Rattle.std.specs.List.{AllByRecursion, list_any}
@@ -108,7 +108,7 @@ in_case : (plan : List Rig) (b : Bool) → b ≡ true → Contains (cond b (plan
 in_case plan true e = contains_head plan []
 in_case plan false e = absurd cc
 
--- ---- the grown plan of such a run: at the hit where fault d acts, this fault is from then on
+-- ---- the grown plan of such a run: at the hit at which fault d acts, this fault is sticky
 
 record Turned (t : Subject) (d : ℕ) (ms : List Met) : Type 0 where
   plan : List Rig

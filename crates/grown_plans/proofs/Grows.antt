@@ -40,7 +40,7 @@ more_levels level n size old new gs were grows added last many pushed =
           ∙ sym (map-range_with_len_more (λ m. length (level m)) 0 (n + 1) (suc n) (omega arith)) ∙ ap (sizes_of level) (let e : n + 1 + 1 ≡ suc n + 1 = omega arith in e);
     }
 
--- where it has no room
+-- The same if there is no room for the level.
 pub too_many : (level : ℕ → List (List Rig)) (n most : ℕ) (old : GrownLevels) (gs : List Grew) → AreLevels level n old → AreNext level n old gs → most < length old.plans + length gs → most < length (levels_to level (suc n))
 unfolding levels_to
 too_many level n most old gs were grows many =

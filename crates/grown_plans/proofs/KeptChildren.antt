@@ -13,7 +13,7 @@ use Rattle.grown_plans.specs.Promises.{EachTwo}
 use Rattle.grown_plans.specs.Kept.{Grew, GrewFrom, grew, plan_of, kept_at}
 use Rattle.grown_plans.proofs.Members.{all_append}
 
--- ---- the kinds where nothing else is said
+-- ---- the kinds, if no others are given
 
 differ : OnceReturn None ≡ OncePanic → ⊥
 differ e = cc

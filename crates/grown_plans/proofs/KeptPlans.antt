@@ -88,7 +88,7 @@ parent_before n (g ∷ gs) (suc i) d before lt = let later = parent_before (n + 
 pub first_is_empty : (gs : List Grew) → get_or (plans_from ([] ∷ []) gs) 0 [] ≡ []
 first_is_empty gs = early ([] ∷ []) gs 0 (omega arith)
 
--- ---- what is added where there was room
+-- ---- what is added if there was room
 
 either : {A : Type 0} (b : Bool) (P : A → Type 0) (x y : A) → P x → P y → P (cond b x y)
 either true P x y p q = p

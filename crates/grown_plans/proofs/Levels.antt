@@ -41,7 +41,7 @@ pub hits_after_split : (s : Site) (b : List Met) (m : Met) (a : List Met) → Fr
 hits_after_split s [] m a f e = ap (λ t. cond t a (hits_after s a)) (at_self s m e)
 hits_after_split s (x ∷ b) m a f e = ap (λ t. cond t (b ++ m ∷ a) (hits_after s (b ++ m ∷ a))) (not_at s x f.0) ∙ hits_after_split s b m a f.1 e
 
--- of a run that begins with the faults of a plan, the hits past them
+-- The hits of a run past the faults of the plan with which it begins.
 pub record Past (plan : List Rig) (b ms : List Met) : Type 0 where
   pub early : List Met
   pub late : List Met

@@ -114,7 +114,7 @@ pub two_with : {A : Type 0} (P : A → Type 0) (R : A → A → Type 0) → (xs 
 two_with P R [] a b = tt
 two_with P R (x ∷ xs) a b = (all_weaker (λ y. P y × R x y) (λ y. P x × P y × R x y) (λ y h. (a.0, h.0, h.1)) xs (all_both P (R x) xs a.1 b.0), two_with P R xs a.1 b.1)
 
--- where no two members are like this, and one is, exactly one is
+-- If no two members are like this, and one is, exactly one is.
 pub one_of : {A : Type 0} (P : A → Type 0) → (xs : List A) (x : A) → Contains xs x → P x → EachTwo (λ a b. P a → P b → ⊥) xs → IsOfOne P xs
 one_of P [] x c p e = absurd (contains_none x c)
 one_of {A} P (y ∷ ys) x c p e = elim (contains_cases y x ys c) [

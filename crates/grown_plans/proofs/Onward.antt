@@ -1,4 +1,4 @@
--- Plans whose last fault acts from then on: their runs have more faults than levels tell, and their leaf is told by the first of them.
+-- Plans whose last fault is sticky: more faults act in their runs than the levels count, and their leaf follows from the first of these.
 use Rattle.std.proofs.Common.{◌≡◌, ℕ, suc, ◌+◌, ◌<◌, ◌≤◌, ◌==◌, ◌&&◌, ◌||◌, nat_le, inl, inr, Bool, true, false, cond, Option, List, [], ◌∷◌, ◌++◌, length, refl, ap, sym, ◌∙◌, subst, arith, append_assoc, length-append}
 use Rattle.std.specs.List.{AllByRecursion, list_any}
 use Rattle.std.proofs.lemmas.Bool.{cases_lt}
@@ -21,7 +21,7 @@ use Rattle.grown_plans.proofs.Faults.{noted, faults, faults_both, faults_none, f
 use Rattle.grown_plans.proofs.Levels.{IsGrown, hits_after_split, level_grown}
 use Rattle.grown_plans.proofs.Apart.{Differ, RunApart, IsGrownTo, levels_grown, levels_run_apart, level_apart}
 
--- ---- what a fault from then on answers
+-- ---- what a sticky fault answers
 
 abbrev pub from_then : Option (List ℕ) → Site → Rig
 from_then text s = rig s (OnwardReturn text)
@@ -129,7 +129,7 @@ grown_alike t n (r ∷ rs) g =
     let (b, past, rest, parents, own, still) = g.prefix in
     (b, met r.site (reply_by r.kind), met r.site Go, rest, past, own, parents, refl, refl, can_rest r rs g.can)
 
--- where a hit stands in a run is told by the hit
+-- The place of a hit in a run follows from the hit.
 same_split : (s : Site) (b c : List Met) (m n : Met) (x y : List Met) → b ++ m ∷ x ≡ c ++ n ∷ y → m.site ≡ s → n.site ≡ s → Fresh s b → Fresh s c → b ≡ c
 same_split s [] [] m n x y e f g u v = refl
 same_split s [] (z ∷ c) m n x y e f g u v = absurd (v.0 (ap (λ (k : Met). k.site) (let h : z ≡ m = cc in h) ∙ f))
@@ -139,13 +139,13 @@ same_split s (z ∷ b) (w ∷ c) m n x y e f g u v =
     let first : z ≡ w = cc in
     ap (λ (k : Met). k ∷ b) first ∙ ap (λ (l : List Met). w ∷ l) rest
 
--- ---- an onward plan, of its leaf
+-- ---- a plan with a sticky last fault, from its leaf
 
 -- the hit of a point after this one
 abbrev pub next_hit : Site → Site
 next_hit s = record { point = s.point; hit = s.hit + 1 }
 
--- up to the next hit of its point, a run with a fault from then on is the one with this fault once
+-- Up to the next hit of its point, a run with a sticky fault is the one with this fault once.
 abbrev pub GoesAsOnce : Subject → List Rig → Type 0
 GoesAsOnce t [] = ⊥
 GoesAsOnce t (r ∷ rs) =

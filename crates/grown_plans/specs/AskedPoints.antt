@@ -1,4 +1,4 @@
--- A plan's children by the points that its run asked, as who runs it is told them.
+-- A plan's children, determined by the points that its run asked, which is what the runner of the plan gets to know.
 use Rattle.std.specs.Prelude.{◌≡◌, ℕ, ◌+◌, ◌<◌, ◌≤◌, ◌==◌, ◌&&◌, length, if◌then◌else◌, Bool, false, List, [], ◌∷◌, ◌++◌, map, take, count_by, slice_index_or}
 use Rattle.std.specs.List.{flat_map, list_any, AllByRecursion}
 use Rattle.action_eval.specs.Answers.{Given}
@@ -11,12 +11,12 @@ use Rattle.target_trait.specs.Outcomes.{outcome}
 use Rattle.plan_gen.specs.LoopRuns.{times}
 use Rattle.grown_plans.specs.GrownPlans.{Subject, given_for, children, is_once_return, onward_of, run_of_plan}
 
--- the hits of these points, asked one after another, after others
+-- The hits of these points, asked one after another, after the points `before`.
 abbrev pub sites_from : List ℕ → List ℕ → List Site
 sites_from before [] = []
 sites_from before (p ∷ ps) = record { point = p; hit = times p before + 1 } ∷ sites_from (before ++ p ∷ []) ps
 
--- those after a plan's last fault
+-- The hits after a plan's last fault.
 abbrev pub sites_after : Site → List Site → List Site
 sites_after s [] = []
 sites_after s (x ∷ xs) = if (x.point == s.point) && (x.hit == s.hit) then xs else sites_after s xs
@@ -28,11 +28,11 @@ sites_past (r ∷ rs) xs = sites_after r.site xs
 abbrev pub children_by : (ℕ → List Kind) → List Rig → List ℕ → List (List Rig)
 children_by kinds plan asked = flat_map (λ s. map (λ kind. rig s kind ∷ plan) (kinds s.point)) (sites_past plan (sites_from [] asked))
 
--- a plan's children are those by the points that its run asked, under whatever seed and stream number
+-- A plan's children are those determined by the points that its run asked, under any seed and stream number.
 abbrev pub GrowsByAsked : Subject → List Rig → Type 0
 GrowsByAsked t plan = (seed stream : ℕ) → children t plan ≡ children_by t.kinds plan (outcome t.asks (given_for t plan seed stream)).asked
 
--- and so does its plan from then on: where its last fault is a return, and its point is asked once more after it
+-- The plan with its last fault sticky is determined in the same way: it exists if the last fault is a return and its point is asked again after it.
 abbrev pub is_point_of : List Rig → ℕ → Bool
 is_point_of [] p = false
 is_point_of (r ∷ rs) p = p == r.site.point
@@ -47,7 +47,7 @@ is_last_return (r ∷ rs) = is_once_return r.kind
 abbrev pub goes_onward : List Rig → List ℕ → Bool
 goes_onward plan asked = is_last_return plan && is_asked_again plan asked
 
--- the plan with its last fault from then on
+-- The plan with its last fault made sticky.
 abbrev pub from_then_on : List Rig → List Rig
 from_then_on [] = []
 from_then_on (r ∷ rs) = rig r.site (OnwardReturn (text_of r.kind)) ∷ rs
@@ -61,33 +61,33 @@ onward_by plan asked = onward_if (goes_onward plan asked) plan
 abbrev pub GoesOnwardByAsked : Subject → List Rig → Type 0
 GoesOnwardByAsked t plan = (seed stream : ℕ) → onward_of t plan ≡ onward_by plan (outcome t.asks (given_for t plan seed stream)).asked
 
--- and how often it hits a point
+-- So is how often the plan's run hits a point.
 abbrev pub ReachesByAsked : Subject → List Rig → Type 0
 ReachesByAsked t plan = (seed stream point : ℕ)
     → count_by (λ m. m.site.point == point) (run_of_plan t plan) ≡ times point (outcome t.asks (given_for t plan seed stream)).asked
 
--- what one run asks before this hit, another one asks first
+-- What one run asks before this hit, the other run asks first too.
 abbrev pub AsksFirst : Site → List ℕ → List ℕ → Type 0
 AsksFirst s one other = (n : ℕ) → n ≤ length one → times s.point (take n one) < s.hit → (n ≤ length other) × (take n one ≡ take n other)
 
--- two runs ask the same before a hit
+-- Two runs ask the same points before a hit.
 abbrev pub AskAlike : Site → List ℕ → List ℕ → Type 0
 AskAlike s one other = (0 < s.hit) × AsksFirst s one other × AsksFirst s other one
 
--- a plan's run asks the same as that of the plan that it grew from, before the hit of its last fault
+-- Before the hit of its last fault, a plan's run asks the same points as the run of the plan that it grew from.
 abbrev pub AsksLikeParent : Subject → List Rig → Type 0
 AsksLikeParent t plan =
     (r : Rig) (rs : List Rig) → plan ≡ r ∷ rs → (seed stream other : ℕ)
     → AskAlike r.site (outcome t.asks (given_for t plan seed stream)).asked (outcome t.asks (given_for t rs seed other)).asked
 
--- a run asks points of the catalogue
+-- A run asks only points of the catalogue.
 abbrev pub AsksWithin : Subject → Type 0
 AsksWithin t = (g : Given) → AllByRecursion (λ p. p < length t.names) (outcome t.asks g).asked
 
--- a catalogue has at most so many points
+-- A catalogue has at most this many points.
 abbrev pub most_points : ℕ
 most_points = 64
 
--- how often each point is among those asked
+-- How often each point is among those asked.
 abbrev pub AreCounts : List ℕ → List ℕ → Type 0
 AreCounts counts asked = (length counts ≡ most_points) × ((p : ℕ) → p < most_points → slice_index_or counts p 0 ≡ times p asked)

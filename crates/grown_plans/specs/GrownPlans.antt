@@ -14,15 +14,15 @@ use Rattle.plan_gen.specs.PlanList.{Asked, storm_part}
 use Rattle.plan_gen.specs.RiggedAnswers.{is_onward}
 use Rattle.grown_plans.specs.Runs.{Met, run}
 
--- what is put under faults: what it asks, the names of its points, how many hits of a run are answered, and which kinds of faults are tried
--- at the hits of each point, in which order
+-- What is tested: what it asks, the names of its points, how many hits of a run are answered, and which kinds of
+-- faults are tried at the hits of each point, in which order.
 pub record Subject : Type 0 where
   pub asks : List Reply → Move
   pub names : List (List ℕ)
   pub limit : ℕ
   pub kinds : ℕ → List Kind
 
--- the point at which a power cut asks which pending writes it keeps, where a catalogue has one
+-- The point at which a power cut asks which pending writes it keeps, if the catalogue has one.
 abbrev pub cut_point : List (List ℕ) → Option ℕ
 cut_point names = position (λ name. bytes_eq name (codes "power::keep")) names
 
@@ -30,15 +30,15 @@ abbrev pub is_cut : Option ℕ → ℕ → Bool
 is_cut None point = false
 is_cut (Some cut) point = point == cut
 
--- where nothing else is said: a return without a text, and a panic; at the point of a power cut a return alone, which keeps a write. Any other answer there
--- loses it, as without a fault.
+-- The kinds that are tried if none are listed: a return without a text, and a panic. At the point of a power cut it is only a return, which keeps a
+-- write: every other answer loses the write, as if there were no fault.
 abbrev pub usual_at : Option ℕ → ℕ → List Kind
 usual_at cut point = if is_cut cut point then OnceReturn None ∷ [] else (OnceReturn None ∷ OncePanic ∷ [])
 
 abbrev pub usual_kinds : List (List ℕ) → ℕ → List Kind
 usual_kinds names = usual_at (cut_point names)
 
--- the kinds that are listed for a point, in the order of the points; none where nothing is said of it
+-- The kinds that are listed for a point, in the order of the points. If nothing is listed for a point, there are none.
 abbrev pub listed_at : List (List Kind) → ℕ → List Kind
 listed_at [] point = []
 listed_at (kinds ∷ rest) zero = kinds
@@ -48,7 +48,7 @@ abbrev pub or_usual : List Kind → List Kind → List Kind
 or_usual [] usual = usual
 or_usual (kind ∷ kinds) usual = kind ∷ kinds
 
--- which kinds are tried, by where the point of a power cut stands and the kinds that are listed
+-- What determines the kinds that are tried: the point of the power cut, if there is one, and the kinds that are listed.
 pub record Tried : Type 0 where
   pub cut : Option ℕ
   pub listed : List (List Kind)
@@ -62,7 +62,7 @@ kinds_at tried point = or_usual (listed_at tried.listed point) (usual_at tried.c
 abbrev pub usual_subject : (List Reply → Move) → List (List ℕ) → ℕ → Subject
 usual_subject asks names limit = record { asks = asks; names = names; limit = limit; kinds = usual_kinds names }
 
--- ---- the scenario of a plan. A plan is the list of its faults, the last one to act first.
+-- ---- the scenario of a plan, which is the list of its faults, the last one to act first
 
 abbrev pub is_before : Site → Site → Bool
 is_before a b = nat_lt a.point b.point || ((a.point == b.point) && nat_lt a.hit b.hit)
@@ -71,7 +71,7 @@ abbrev pub placed : Rig → List Rig → List Rig
 placed r [] = r ∷ []
 placed r (t ∷ ts) = if is_before r.site t.site then r ∷ t ∷ ts else (t ∷ placed r ts)
 
--- faults in the order of points, and of the hits of each
+-- The faults in the order of their points, and at each point of its hits.
 abbrev pub in_order : List Rig → List Rig
 in_order [] = []
 in_order (r ∷ rs) = placed r (in_order rs)
@@ -81,7 +81,7 @@ is_once_return (OnceReturn text) = true
 is_once_return (OnwardReturn text) = false
 is_once_return OncePanic = false
 
--- a return just before one from then on, with the same text, is a part of that: `1*return->return` is `return`
+-- A return just before a sticky one with the same text is merged into it: `1*return->return` is `return`.
 abbrev pub is_part : Rig → Rig → Bool
 is_part r t =
     is_once_return r.kind && is_onward t.kind && is_same_text (text_of r.kind) (text_of t.kind)
@@ -95,14 +95,14 @@ abbrev pub merged : List Rig → List Rig
 merged [] = []
 merged (r ∷ rs) = merged_onto r (merged rs)
 
--- the hits that are rigged for a plan, and its scenario
+-- The hits that are rigged for a plan, and the plan's scenario.
 abbrev pub rigs_of : List Rig → List Rig
 rigs_of plan = merged (in_order plan)
 
 abbrev pub scenario_of : Subject → List Rig → Entries
 scenario_of t plan = rigged_scenario t.names (rigs_of plan)
 
--- the run of a plan. Its seed and stream number make no difference, by a law.
+-- The run of a plan. A law says that it is the same for every seed and stream number.
 abbrev pub given_for : Subject → List Rig → ℕ → ℕ → Given
 given_for t plan seed stream = given_of (scenario_of t plan) t.names seed stream t.limit
 
@@ -114,7 +114,7 @@ run_of_plan t plan = run t.asks (given_for t plan 0 0)
 abbrev pub is_at : Site → Met → Bool
 is_at s m = (m.site.point == s.point) && (m.site.hit == s.hit)
 
--- the hits of a run after a plan's last fault
+-- The hits of a run after a plan's last fault.
 abbrev pub hits_after : Site → List Met → List Met
 hits_after s [] = []
 hits_after s (m ∷ ms) = if is_at s m then ms else hits_after s ms
@@ -123,20 +123,20 @@ abbrev pub hits_past : List Rig → List Met → List Met
 hits_past [] ms = ms
 hits_past (r ∷ rs) ms = hits_after r.site ms
 
--- the plan with one more fault, in each way that is tried at the hit's point
+-- The plan with one more fault, for each kind that is tried at the hit's point.
 abbrev pub grown_at : Subject → List Rig → Met → List (List Rig)
 grown_at t plan m = map (λ kind. rig m.site kind ∷ plan) (t.kinds m.site.point)
 
--- a plan's children: one more fault at each hit of its own run after its last fault, in the order of the hits
+-- A plan's children: one more fault at each hit of its own run after its last fault, in the order of the hits.
 abbrev pub children : Subject → List Rig → List (List Rig)
 children t plan = flat_map (grown_at t plan) (hits_past plan (run_of_plan t plan))
 
--- the plans of n faults: the empty one, and the children of each plan of the level before, in order
+-- The plans of n faults: the empty plan for n = 0, and otherwise the children of each plan of the level before, in order.
 unfoldable pub level : Subject → ℕ → List (List Rig)
 level t zero = [] ∷ []
 level t (suc n) = flat_map (children t) (level t n)
 
--- levels 0 to d
+-- Levels 0 to d.
 unfoldable pub levels_to : (ℕ → List (List Rig)) → ℕ → List (List Rig)
 levels_to level zero = level zero
 levels_to level (suc d) = levels_to level d ++ level (suc d)
@@ -144,11 +144,11 @@ levels_to level (suc d) = levels_to level d ++ level (suc d)
 abbrev pub levels : Subject → ℕ → List (List Rig)
 levels t d = levels_to (level t) d
 
--- whether the point of a fault is hit once more after it
+-- Whether the point of a fault is hit again after the fault.
 abbrev pub is_hit_again : Site → List Met → Bool
 is_hit_again s ms = list_any (λ m. m.site.point == s.point) (hits_after s ms)
 
--- a plan whose last fault is a return, with this fault from then on, with its text, where its point is hit once more
+-- The plan with its last fault made sticky, with the same text, if that fault is a return and its point is hit again after it.
 abbrev pub onward_of : Subject → List Rig → List (List Rig)
 onward_of t [] = []
 onward_of t (r ∷ rs) =
@@ -157,18 +157,18 @@ onward_of t (r ∷ rs) =
 unfoldable pub onward : Subject → ℕ → List (List Rig)
 onward t d = flat_map (onward_of t) (level t d)
 
--- the grown plans of depth d
+-- The grown plans of depth d.
 abbrev pub grown : Subject → ℕ → List (List Rig)
 grown t d = levels t d ++ onward t d
 
--- the list of depth d: the grown plans, then storms and listed scenarios, as without a depth. A plan's number is its place in it.
+-- The list of depth d: the grown plans, followed by the storms and listed scenarios as without a depth. A plan's number is its place in the list.
 abbrev pub grown_list : Subject → ℕ → Asked → List Site → List Entries
 grown_list t d asked sites =
     map (scenario_of t) (grown t d) ++ storm_part t.names asked.seed asked.rate asked.storms sites ++ asked.listed
 
--- ---- what a report tells of it
+-- ---- what a report says of it
 
--- how many plans the next level has
+-- How many plans the next level has.
 abbrev pub beyond : Subject → ℕ → ℕ
 beyond t d = length (level t (suc d))
 
@@ -176,6 +176,6 @@ abbrev pub most : List ℕ → ℕ
 most [] = 0
 most (n ∷ ns) = if nat_lt (most ns) n then n else most ns
 
--- the most hits of a point that the run of a grown plan has
+-- The most hits of this point in the run of any one grown plan.
 abbrev pub reached : Subject → ℕ → ℕ → ℕ
 reached t d point = most (map (λ plan. count_by (λ m. m.site.point == point) (run_of_plan t plan)) (grown t d))

@@ -1,4 +1,4 @@
--- Plans as a list keeps them: each by the number of its parent and the fault that was added to it.
+-- Plans as a list stores them: each as the number of its parent and the fault that was added to it.
 use Rattle.std.specs.Prelude.{ℕ, ◌<◌, List, [], ◌∷◌, ◌++◌, map, slice_index_or}
 use Rattle.std.specs.List.{flat_map, AllByRecursion}
 use Rattle.action_eval.specs.declared.rig.Site.{Site}
@@ -7,7 +7,7 @@ use Rattle.action_eval.specs.declared.rig.Kind.{Kind}
 use Rattle.action_eval.specs.RiggedScenario.{rig}
 use Rattle.grown_plans.specs.AskedPoints.{sites_from, sites_past}
 
--- a plan that grew: its parent's number, and the fault that was added
+-- A plan that grew: its parent's number, and the fault that was added.
 pub record Grew : Type 0 where
   pub parent : ℕ
   pub fault : Rig
@@ -15,20 +15,20 @@ pub record Grew : Type 0 where
 abbrev pub grew : ℕ → Rig → Grew
 grew parent fault = record { parent = parent; fault = fault }
 
--- the plan itself, by the plans that are there
+-- The plan itself, given the plans among which its parent is.
 abbrev pub plan_of : List (List Rig) → Grew → List Rig
 plan_of plans g = g.fault ∷ slice_index_or plans g.parent []
 
--- plans, and after them those that grew, each from one before it
+-- Plans, followed by those that grew, each from one before it.
 abbrev pub plans_from : List (List Rig) → List Grew → List (List Rig)
 plans_from plans [] = plans
 plans_from plans (g ∷ gs) = plans_from (plans ++ plan_of plans g ∷ []) gs
 
--- each parent is one of the first n plans
+-- Each parent is one of the first n plans.
 abbrev pub GrewFrom : ℕ → List Grew → Type 0
 GrewFrom n gs = AllByRecursion (λ g. g.parent < n) gs
 
--- a plan's children, by the points that its run asked, as they are kept
+-- A plan's children, by the points that its run asked, in stored form.
 abbrev pub kept_of : ℕ → Site → List Kind → List Grew
 kept_of number s kinds = map (λ kind. grew number (rig s kind)) kinds
 

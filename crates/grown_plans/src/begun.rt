@@ -1,4 +1,4 @@
-//! How a plan grows, by the points that its run asked, without its children.
+//! How a plan grows, by the points that its run asked. Its children aren't made.
 ghost use Rattle.std.specs.Prelude.{◌≡◌, ℕ, ◌+◌, ◌<◌, ◌≤◌, ◌^◌, ◌++◌, ◌∷◌, [], List, None, length, take, slice_index_or, IfOk, OnOk};
 ghost use Rattle.std.specs.List.{AllByRecursion};
 ghost use Rattle.grown_plans.specs.AskedPoints.{AreCounts, is_asked_again};
@@ -21,11 +21,11 @@ pub struct Growing {
     pub is_again: bool,
 }
 
-/// How often the run of a plan hit each point, as it was counted last, and how often its first hits did, up to that of the plan's last fault: the
-/// runs of a plan's children begin alike, so what was counted of one serves the next.
+/// How often a plan's run hit each point, as it was counted last: all its hits, and its first hits, up to that of the plan's last fault. The runs of
+/// a plan's children begin alike, so the count of one's first hits serves the next.
 #[derive(Debug, Drop)]
 pub struct Begun {
-    /// The number of the plan whose child it is; `None` where no first hits are counted.
+    /// The number of the plan whose child it is; `None` if no first hits are counted.
     pub parent: Option<usize>,
     /// How many first hits there are.
     pub hits: usize,
@@ -45,7 +45,7 @@ fn last_site(plan: &[Rig]) -> Option<Site>
     }
 }
 
-/// How often a point was counted; one that no catalogue has never was.
+/// How often a point was counted; 0 for a point that no catalogue has.
 fn count_of(counts: &[u32], point: u32) -> u32
     ensures { result ≡ slice_index_or counts.now point 0 }
 {
@@ -61,8 +61,8 @@ fn count_hit(counts: &mut [u32], point: u32)
     counts[point as usize] += 1;
 }
 
-/// Counts the hits of a run from this one on, up to that of a fault, and without it. Answers how many hits of the run are counted then: all
-/// where the fault isn't met.
+/// Counts the hits of a run from this one on, up to that of a fault, which isn't counted. Returns how many hits of the run are counted then. If the
+/// fault isn't met, these are all.
 fn count_up_to(counts: &mut [u32], fault: Site, asked: &[u32], first: usize) -> usize
     requires within { first ≤ length asked.now }
     requires counts { AreCounts counts.old (take first asked.now) }
@@ -140,9 +140,8 @@ impl Begun {
     }
 }
 
-/// How a plan grows that grew from the plan of this number, by the points that its run asked, which are counted; its children themselves
-/// aren't made. `begun` tells how the run of another child of that plan began, or of any plan's, and then how this one's did. An error means
-/// that memory was refused.
+/// How a plan grows, by the points that its run asked, which are counted. `parent` is the number of the plan that it grew from. `begun` has the
+/// beginning of the run of another child of that plan, or of any plan, and then of this one. An error means that memory was refused.
 pub fn count_children(
     begun: &mut Begun,
     kinds: &Kinds<'_>,

@@ -8,8 +8,8 @@ use action_eval::{Kind, Rig, Site};
 use std::marker::Model;
 use std::mem::size_of;
 
-/// What is kept of a plan that grew: its parent's number, below 65536, and the fault that was added to it. A fault's point is one of at most
-/// 64. It takes 44 bytes, with the text of a return.
+/// What is kept of a plan that grew: the number of its parent, below 65536, and the fault that was added to it, which is at one of at most 64 points.
+/// It takes 44 bytes, with the text of a return.
 #[derive(Clone, Copy, Debug)]
 pub struct Child {
     hit: u32,
@@ -72,7 +72,7 @@ impl Child {
         }
     }
 
-    /// The same with its fault from then on, a return with the text that it has.
+    /// The same plan with its fault as a sticky return, with the same text.
     pub(crate) fn from_then_on(self) -> Self
         ensures { result ≡ grew self.parent (rig self.fault.site (OnwardReturn (text_of self.fault.kind))) }
     {

@@ -4,10 +4,10 @@ ghost use Rattle.grown_plans.specs.AskedPoints.{AreCounts};
 
 use std::alloc::AllocError;
 
-/// A catalogue has at most so many points.
+/// The most points that a catalogue has.
 const MOST_POINTS: usize = 64;
 
-/// Puts no hit of any point in place of what stood in the list.
+/// Puts a count of 0 for each point into the list, in place of what stood there.
 pub(crate) fn count_none(counts: &mut Vec<u32>) -> Result<(), AllocError>
     ensures { OnOk result (AreCounts counts.new.items []) }
 {

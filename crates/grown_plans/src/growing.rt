@@ -1,4 +1,4 @@
-//! What grows from a plan's run, by the points that it asked.
+//! The children of a plan, by the points that its run asked.
 ghost use Rattle.std.specs.Prelude.{◌≡◌, ℕ, ◌+◌, ◌<◌, ◌^◌, ◌++◌, ◌∷◌, [], List, length, slice_index_or, IfOk, OnOk};
 ghost use Rattle.std.specs.List.{AllByRecursion};
 ghost use Rattle.grown_plans.specs.AskedPoints.{AreCounts, is_point_of, is_asked_again};
@@ -12,7 +12,7 @@ use crate::kinds::Kinds;
 use action_eval::{Argument, Kind, Rig, Site};
 use std::alloc::AllocError;
 
-/// The next hit of a point, which is counted.
+/// The next hit of a point. It is counted.
 fn next_site(counts: &mut Vec<u32>, point: u32) -> Site
     requires point { point < length counts.old.items }
     requires few { slice_index_or counts.old.items point 0 + 1 < 2 ^ 32 }
@@ -44,7 +44,7 @@ fn is_of_last(plan: &[Rig], point: u32) -> bool
     }
 }
 
-/// Adds what grows at a hit where nothing else is listed: a return, and a panic where that is another run.
+/// Adds the usual children at a hit: a return, and a panic unless the point is that of a power cut.
 fn add_usual(
     children: &mut Vec<Child>,
     kinds: &Kinds<'_>,
@@ -61,7 +61,7 @@ fn add_usual(
     Ok(())
 }
 
-/// Adds what grows at a hit, by the kinds that are listed.
+/// Adds the children at a hit by the kinds that are listed.
 fn add_listed(
     children: &mut Vec<Child>,
     listed: &[Kind],
@@ -77,7 +77,7 @@ fn add_listed(
     Ok(())
 }
 
-/// Adds what grows at a hit, in each way that is tried at its point.
+/// Adds the children at a hit, one for each kind of fault that is tried at its point.
 fn add_at(
     children: &mut Vec<Child>,
     kinds: &Kinds<'_>,
@@ -95,10 +95,10 @@ fn add_at(
     }
 }
 
-/// Adds the children of the plan of this number, which has these faults, by the points that its run asked, and counts how often it asked
-/// each. Tells whether the run asked the last fault's point once more after that fault.
+/// Adds the children of the plan of this number, which has these faults, by the points that its run asked, and counts how often it asked each.
+/// Returns whether the run asked the last fault's point once more after that fault.
 ///
-/// The counts take the place of what stood in their list. An error means that memory was refused.
+/// The counts are put into their list in place of what stood there. An error means that memory was refused.
 pub fn add_children(
     children: &mut Vec<Child>,
     counts: &mut Vec<u32>,

@@ -1,4 +1,4 @@
-//! Lists that grow level by level: who has the runs of a level's plans, by making them or looking them up, tells what grows from them.
+//! Lists that grow level by level. The caller has the runs of a level's plans, makes them or looks them up, and says what grows from them.
 ghost use Rattle.std.specs.Prelude.{◌≡◌, ℕ, suc, ◌+◌, ◌≤◌, ◌<◌, ◌++◌, ◌∷◌, [], List, length, map, IfOk, OnOk, IsErrOf};
 ghost use Rattle.action_eval.specs.declared.rig.Rig.{Rig};
 ghost use Rattle.grown_plans.specs.Kept.{GrewFrom, plan_of};
@@ -23,17 +23,17 @@ pub struct GrownLevels {
 /// A list of plans that grew to a depth.
 #[derive(Debug, Drop)]
 pub struct GrownList {
-    /// The plans of levels 0 to the depth, and then those of the last level with their last fault from then on.
+    /// The plans of levels 0 to the depth, and behind them those of the last level with their last fault sticky.
     pub plans: GrownPlans,
     /// How many plans each level has.
     pub levels: Vec<u32>,
-    /// How many plans have their last fault from then on.
+    /// How many plans have a sticky last fault.
     pub onward: u32,
     /// How many plans the next level has.
     pub beyond: u64,
 }
 
-/// Whether so many plans more may be added.
+/// Refuses plans if there would be more than `most` with those that are there.
 fn check_room(most: usize, plans: usize, more: usize) -> Result<(), PlanFault>
     ensures ok { OnOk result (plans + more ≤ most) }
     ensures many { IsErrOf result PlanFault.TooManyPlans → most < plans + more }
@@ -44,7 +44,7 @@ fn check_room(most: usize, plans: usize, more: usize) -> Result<(), PlanFault>
     }
 }
 
-/// Adds plans that grew from those that are there, where there is room.
+/// Adds plans that grew from those that are there, unless there would be more than `most`.
 fn add_all(plans: &mut GrownPlans, more: &[Child], most: usize) -> Result<(), PlanFault>
     requires { GrewFrom (length plans.old) more.now }
     ensures added { OnOk result (plans.new ≡ plans.old ++ map (plan_of plans.old) more.now) }
@@ -66,7 +66,7 @@ fn push_size(sizes: &mut Vec<u32>, size: usize) -> Result<(), AllocError>
 }
 
 impl GrownLevels {
-    /// Level 0 alone, of a list that may have so many plans.
+    /// Level 0 alone, of a list with at most `most` plans.
     pub fn first(alloc: Global, most: usize) -> Result<Self, PlanFault>
         ensures plans { IfOk result (λ levels. levels.plans ≡ [] ∷ []) }
         ensures levels { IfOk result (λ levels. (level : ℕ → List (List Rig)) → level 0 ≡ [] ∷ [] → AreLevels level 0 levels) }
@@ -84,8 +84,8 @@ impl GrownLevels {
         })
     }
 
-    /// Adds what grew from the plans of the last level, as the next one. There may be so many plans then, up to 65536. An error leaves levels that
-    /// aren't to be gone on with: the plans may be there without their number.
+    /// Adds what grew from the plans of the last level, as the next level. There may be at most `most` plans then, up to 65536. After an error the
+    /// levels can't be used further: the plans may be there, and their number not.
     pub fn add(&mut self, children: &[Child], most: usize) -> Result<(), PlanFault>
         requires parents { GrewFrom (length self.old.plans) children.now }
         requires most { most ≤ 65536 }
@@ -104,8 +104,8 @@ impl GrownLevels {
         Ok(())
     }
 
-    /// The whole list, with those plans of the last level behind it that go on with their last fault from then on, where the next level has so many.
-    /// There may be so many plans then, up to 65536. An error leaves nothing.
+    /// The whole list. Behind the levels come the plans of the last one that are kept with their last fault sticky; `beyond` is how many plans the
+    /// next level would have. There may be at most `most` plans then, up to 65536. After an error nothing is left.
     pub fn end(self, onward: &[Child], beyond: u64, most: usize) -> Result<GrownList, PlanFault>
         requires parents { GrewFrom (length self.plans) onward.now }
         requires most { most ≤ 65536 }

@@ -11,8 +11,8 @@ use std::marker::Model;
 /// The name of the point at which a power cut asks which pending writes it keeps.
 const CUT: &str = "power::keep";
 
-/// Which kinds of faults are tried at each point, and in which order: those that are listed for it. Where none are, a return without a text and a
-/// panic; where a power cut asks which pending writes it keeps a return alone, which keeps one.
+/// Which kinds of faults are tried at each point, and in which order: those that are listed for it. If none are listed, they are a return without a
+/// text and a panic; at the point of a power cut they are a return alone, which keeps a pending write.
 #[derive(Debug, Drop)]
 pub struct Kinds<'a> {
     cut: Option<usize>,
@@ -38,7 +38,7 @@ fn is_cut_name(name: &str) -> bool
     name == CUT
 }
 
-/// Where the point of a power cut stands.
+/// The place of the point of a power cut, if there is one.
 fn cut_point(catalogue: &[&str]) -> Option<usize>
     ensures { result ≡ position (λ name. bytes_eq name.now (codes "power::keep")) catalogue.now }
 {
@@ -53,7 +53,7 @@ impl<'a> Kinds<'a> {
         Kinds::with(catalogue, &[])
     }
 
-    /// The kinds that are listed, at most 8 for each point in the order of the catalogue; where a list is empty or missing, the usual ones.
+    /// The listed kinds, at most 8 for each point, in the order of the catalogue. A point whose list is empty or missing has the usual kinds.
     pub fn with(catalogue: &[&str], listed: &'a [Vec<Kind>]) -> Self
         requires { AllByRecursion (λ kinds. length kinds.items ≤ 8) listed.now }
         ensures { result ≡ tried_over (texts catalogue.now) (map (λ kinds. kinds.items) listed.now) }
@@ -71,7 +71,7 @@ impl<'a> Kinds<'a> {
         self.cut == Some(point as usize)
     }
 
-    /// The kinds that are listed for a point; none where nothing is said of it.
+    /// The kinds that are listed for a point; none if its list is missing.
     pub(crate) fn listed_at(&self, point: u32) -> &[Kind]
         ensures kinds { result.now ≡ listed_at self.now.listed point }
         ensures few { length result.now ≤ 8 }
@@ -82,7 +82,7 @@ impl<'a> Kinds<'a> {
         }
     }
 
-    /// How many faults are tried at hits of these points where nothing is listed.
+    /// How many faults are tried at hits of these points, if nothing is listed.
     fn count_usual(&self, points: &[u32]) -> usize
         ensures { result ≡ length (flat_map (usual_at self.now.cut) points.now) }
     {

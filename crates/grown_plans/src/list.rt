@@ -9,10 +9,10 @@ use action_eval::{Kind, Rig};
 use std::alloc::{AllocError, Global};
 use std::marker::Model;
 
-/// Plans that grow from each other's runs: the plan without faults, and others, each of which has one fault more than a plan before it. A
-/// plan's number is its place, from 0. Contracts see the list of the plans, each as the list of its faults, the last one to act first.
+/// Plans that grow from each other's runs: the plan without faults, and others, each of which has one fault more than a plan before it. A plan's
+/// number is its place, from 0. Contracts see the list of the plans, each as the list of its faults, with the one that acts last first.
 ///
-/// It keeps 44 bytes a plan.
+/// It keeps 44 bytes for each plan.
 #[derive(Debug, Drop)]
 pub struct GrownPlans {
     children: Vec<Child>,
@@ -48,7 +48,7 @@ impl GrownPlans {
         self.children.len() + 1
     }
 
-    /// Adds plans that grew from some that are there. An error means that memory was refused, and adds none.
+    /// Adds plans that grew from plans that are there. An error means that memory was refused; none is added then.
     pub fn add(&mut self, children: &[Child]) -> Result<(), AllocError>
         requires { GrewFrom (length self.old) children.now }
         ensures ok { OnOk result (self.new ≡ self.old ++ map (plan_of self.old) children.now) }
@@ -57,8 +57,8 @@ impl GrownPlans {
         self.children.extend_from_slice(children)
     }
 
-    /// Puts the faults of the plan of this number in place of what stood in the list, the last one to act first. An error means that memory
-    /// was refused.
+    /// Puts the faults of the plan of this number into the list, the one that acts last first, in place of what stood there. An error means that
+    /// memory was refused.
     pub fn faults_of(&self, number: usize, faults: &mut Vec<Rig>) -> Result<(), AllocError>
         requires { number < length self.now }
         ensures { OnOk result (faults.new.items ≡ slice_index_or self.now number []) }
@@ -74,7 +74,8 @@ impl GrownPlans {
         Ok(())
     }
 
-    /// The number of the plan that the plan of this number grew from, which stands before it; 0 of the plan without faults, which grew from none.
+    /// The number of the plan from which the plan of this number grew, which stands before it. For the plan without faults, which grew from none, it
+    /// is 0.
     pub fn parent_of(&self, number: usize) -> usize
         requires { number < length self.now }
         ensures before { result ≤ number - 1 }
@@ -88,7 +89,7 @@ impl GrownPlans {
         child.parent()
     }
 
-    /// The plan of this number with its last fault from then on, as it is kept. None where that fault isn't a return, or there is none.
+    /// The plan of this number with its last fault sticky, as it is kept. `None` if that fault isn't a return, or the plan has no fault.
     pub fn from_then_on(&self, number: usize) -> Option<Child>
         requires { number < length self.now }
         ensures { MatchOption result (is_last_return (slice_index_or self.now number []) ≡ false)

@@ -8,7 +8,7 @@ use Rattle.grown_runs.specs.declared.input.Purpose.{Purpose}
 use Rattle.grown_plans.specs.Lists.{AreLevels}
 use Rattle.grown_plans.specs.declared.grown_list.GrownLevels.{GrownLevels}
 use Rattle.grown_plans.proofs.Grows.{levels_more}
-use Rattle.grown_runs.specs.declared.levels.Outcomes.{Outcomes}
+use Rattle.grown_runs.specs.declared.outcomes.Outcomes.{Outcomes}
 use Rattle.grown_runs.specs.Grown.{begun, begun_from}
 use Rattle.grown_runs.specs.inside.Levels.{HaveBegun}
 
@@ -121,7 +121,7 @@ begun_most t d count =
     let long = ap length front.1 ∙ length-append (begun t d count) front.0 in
     omega (arith, long)
 
--- where there are fewer than were asked for, they are all
+-- If there are fewer than were asked for, they are all.
 all_last : (t : Subject) (count n : ℕ) (b : Bool) → nat_le count (length (levels t n)) ≡ b → length (cond b (levels t n) (grown t n)) < count
     → cond b (levels t n) (grown t n) ≡ grown t n
 all_last t count n true is lt = let le = leb-true count (length (levels t n)) is in absurd (omega (arith, le, lt))

@@ -1,6 +1,6 @@
 -- What is kept of runs, one after another.
 use Rattle.std.proofs.Common.{◌≡◌, ℕ, zero, suc, ◌+◌, ◌*◌, ◌<◌, ◌≤◌, ◌==◌, ◌&&◌, Bool, true, false, cond, Option, max, replicate, List, [], ◌∷◌, ◌++◌, map, length, get_or, refl, ap, sym, ◌∙◌, subst, arith}
-use Rattle.std.proofs.lemmas.List.{length-append, append-nil, map-append}
+use Rattle.std.proofs.lemmas.List.{length-append, length-replicate, append-nil, map-append}
 use Rattle.action_eval.specs.declared.rig.Rig.{Rig}
 use Rattle.plan_gen.specs.LoopRuns.{times}
 use Rattle.grown_plans.specs.GrownPlans.{Subject, most}
@@ -16,10 +16,9 @@ use Rattle.grown_runs.specs.declared.input.Place.TheVariants.{Inner, Last, Onwar
 use Rattle.grown_runs.specs.declared.input.Purpose.{Purpose}
 use Rattle.grown_runs.specs.declared.input.Purpose.TheVariants.{Plans, Report}
 use Rattle.grown_runs.specs.declared.kept.Growth.{Growth}
-use Rattle.grown_runs.specs.declared.levels.Outcomes.{Outcomes}
+use Rattle.grown_runs.specs.declared.outcomes.Outcomes.{Outcomes}
 use Rattle.grown_runs.specs.GrownRuns.{over, told, verdict_at, children_at, onward_at, hits_at, cause_at}
-use Rattle.grown_runs.specs.inside.Growths.{if_inner, if_last, if_report, IsGrowth}
-use Rattle.grown_runs.specs.inside.Levels.{AreTold}
+use Rattle.grown_runs.specs.inside.Growths.{if_inner, if_last, if_report, AreTold, IsGrowth}
 use Rattle.grown_runs.proofs.Overs.{over_parts, over_next, over_more, most_parts, most_single}
 
 inner_next : {A : Type 0} (place : Place) (f : ℕ → List Rig → List A) (plans : List (List Rig)) (first count n : ℕ) (old new : List A) → first + count ≡ n
@@ -59,40 +58,46 @@ report_next : {A : Type 0} (purpose : Purpose) (f : ℕ → List Rig → List A)
 report_next Plans f plans first count n old new at so_far added = added ∙ append-nil old ∙ so_far
 report_next Report f plans first count n old new at so_far added = over_next f plans first count n old new (f n (get_or plans n [])) at so_far refl added
 
-pub report_nil : {A : Type 0} (purpose : Purpose) → [] ≡ if_report {A = A} purpose []
+report_nil : {A : Type 0} (purpose : Purpose) → [] ≡ if_report {A = A} purpose []
 report_nil Plans = refl
 report_nil Report = refl
 
 -- one plan more
 pub growth_next : (t : Subject) (seed : ℕ) (part : Part) (plans : List (List Rig)) (first count n : ℕ) (old new : Growth) → first + count ≡ n
     → IsGrowth t seed part plans first count old
-    → new.verdicts.items ≡ old.verdicts.items ++ verdict_at t seed n (get_or plans n [])
+    → new.outcomes.verdicts.items ≡ old.outcomes.verdicts.items ++ verdict_at t seed n (get_or plans n [])
     → new.children.items ≡ old.children.items ++ if_inner part.place (children_at t seed n (get_or plans n []))
     → new.child_count ≡ old.child_count + length (children_at t seed n (get_or plans n []))
     → map (plan_of plans) new.onward.items ≡ map (plan_of plans) old.onward.items ++ if_last part.place (onward_at t seed n (get_or plans n []))
     → GrewFrom (length plans) new.onward.items
-    → new.causes.items ≡ old.causes.items ++ if_report part.purpose (cause_at t seed n (get_or plans n []))
-    → length new.hits.items ≡ length old.hits.items
-    → ((p : ℕ) → p < length old.hits.items → get_or new.hits.items p 0 ≡ max (get_or old.hits.items p 0) (times p (told t seed n (get_or plans n [])).asked))
+    → new.outcomes.causes.items ≡ old.outcomes.causes.items ++ if_report part.purpose (cause_at t seed n (get_or plans n []))
+    → length new.outcomes.hits.items ≡ length old.outcomes.hits.items
+    → ((p : ℕ) → p < length old.outcomes.hits.items
+    → get_or new.outcomes.hits.items p 0 ≡ max (get_or old.outcomes.hits.items p 0) (times p (told t seed n (get_or plans n [])).asked))
     → IsGrowth t seed part plans first (count + 1) new
-growth_next t seed part plans first count n old new at was verdicts children many onward from causes hits most =
+growth_next t seed part plans first count n old new at is verdicts children many onward from causes hits most =
+    let a = old.outcomes in
+    let b = new.outcomes in
+    let was = is.told in
     record {
-      verdicts = over_next (verdict_at t seed) plans first count n old.verdicts.items new.verdicts.items _ at was.verdicts refl verdicts;
-      children = inner_next part.place (children_at t seed) plans first count n old.children.items new.children.items at was.children children;
+      told = record {
+        verdicts = over_next (verdict_at t seed) plans first count n a.verdicts.items b.verdicts.items _ at was.verdicts refl verdicts;
+        causes = report_next part.purpose (cause_at t seed) plans first count n a.causes.items b.causes.items at was.causes causes;
+        hits = hits ∙ was.hits;
+        most = λ p lt.
+            let low : p < length a.hits.items = omega (arith, lt, hits) in
+            most_next t seed plans first count n p (get_or a.hits.items p 0) (get_or b.hits.items p 0) at (was.most p low) (most p low);
+      };
+      children = inner_next part.place (children_at t seed) plans first count n old.children.items new.children.items at is.children children;
       many =
           let one : List Grew = children_at t seed n (get_or plans n []) in
           let before : List Grew = over (children_at t seed) plans first count in
           let whole = ap length (over_next (children_at t seed) plans first count n before (before ++ one) one at refl refl refl) in
           let long = length-append before one in
-          let so_far = was.many in
+          let so_far = is.many in
           omega (arith, many, whole, long, so_far);
-      onward = last_next part.place (onward_at t seed) plans first count n (map (plan_of plans) old.onward.items) (map (plan_of plans) new.onward.items) at was.onward onward;
+      onward = last_next part.place (onward_at t seed) plans first count n (map (plan_of plans) old.onward.items) (map (plan_of plans) new.onward.items) at is.onward onward;
       from = from;
-      causes = report_next part.purpose (cause_at t seed) plans first count n old.causes.items new.causes.items at was.causes causes;
-      hits = hits ∙ was.hits;
-      most = λ p lt.
-          let low : p < length old.hits.items = omega (arith, lt, hits) in
-          most_next t seed plans first count n p (get_or old.hits.items p 0) (get_or new.hits.items p 0) at (was.most p low) (most p low);
     }
 
 -- ---- two parts of a list
@@ -117,26 +122,44 @@ report_more : {A : Type 0} (purpose : Purpose) (f : ℕ → List Rig → List A)
 report_more Plans f plans first count more old new further so_far then_these added = added ∙ ap (λ l. l ++ further) so_far ∙ then_these
 report_more Report f plans first count more old new further so_far then_these added = over_more f plans first count more old new further so_far then_these added
 
-pub most_more : (t : Subject) (seed : ℕ) (plans : List (List Rig)) (first count more p was further now : ℕ) → was ≡ most (over (hits_at t seed p) plans first count)
+most_more : (t : Subject) (seed : ℕ) (plans : List (List Rig)) (first count more p was further now : ℕ) → was ≡ most (over (hits_at t seed p) plans first count)
     → further ≡ most (over (hits_at t seed p) plans (first + count) more) → now ≡ max was further → now ≡ most (over (hits_at t seed p) plans first (count + more))
 most_more t seed plans first count more p was further now so_far then_these raised =
     raised ∙ ap (λ k. max k further) so_far ∙ ap (λ k. max (most (over (hits_at t seed p) plans first count)) k) then_these
     ∙ sym (most_parts (over (hits_at t seed p) plans first count) (over (hits_at t seed p) plans (first + count) more))
     ∙ ap most (sym (over_parts (hits_at t seed p) plans first count more))
 
-pub growth_joined : (t : Subject) (seed : ℕ) (part : Part) (plans : List (List Rig)) (first count more : ℕ) (old further new : Growth)
-    → IsGrowth t seed part plans first count old → IsGrowth t seed part plans (first + count) more further
+pub told_joined : (t : Subject) (seed : ℕ) (purpose : Purpose) (plans : List (List Rig)) (first count next more : ℕ) (old further new : Outcomes) → first + count ≡ next
+    → AreTold t seed purpose plans first count old → AreTold t seed purpose plans next more further
     → new.verdicts.items ≡ old.verdicts.items ++ further.verdicts.items
-    → new.children.items ≡ old.children.items ++ further.children.items
-    → new.child_count ≡ old.child_count + further.child_count
-    → new.onward.items ≡ old.onward.items ++ further.onward.items
     → new.causes.items ≡ old.causes.items ++ further.causes.items
     → length new.hits.items ≡ length old.hits.items
     → ((p : ℕ) → p < length old.hits.items → get_or new.hits.items p 0 ≡ max (get_or old.hits.items p 0) (get_or further.hits.items p 0))
-    → IsGrowth t seed part plans first (count + more) new
-growth_joined t seed part plans first count more old further new was then_these verdicts children many onward causes hits most =
+    → AreTold t seed purpose plans first (count + more) new
+told_joined t seed purpose plans first count next more old further new at was then_these verdicts causes hits raised =
+    let these : AreTold t seed purpose plans (first + count) more further = subst (λ n. AreTold t seed purpose plans n more further) (sym at) then_these in
     record {
-      verdicts = over_more (verdict_at t seed) plans first count more old.verdicts.items new.verdicts.items further.verdicts.items was.verdicts then_these.verdicts verdicts;
+      verdicts = over_more (verdict_at t seed) plans first count more old.verdicts.items new.verdicts.items further.verdicts.items was.verdicts these.verdicts verdicts;
+      causes = report_more purpose (cause_at t seed) plans first count more old.causes.items new.causes.items further.causes.items was.causes these.causes causes;
+      hits = hits ∙ was.hits;
+      most = λ p lt.
+          let low : p < length old.hits.items = omega (arith, lt, hits) in
+          let same_one = was.hits in
+          let same_two = these.hits in
+          most_more t seed plans first count more p (get_or old.hits.items p 0) (get_or further.hits.items p 0) (get_or new.hits.items p 0) (was.most p low)
+          (these.most p (omega (arith, low, same_one, same_two))) (raised p low);
+    }
+
+pub growth_joined : (t : Subject) (seed : ℕ) (part : Part) (plans : List (List Rig)) (first count more : ℕ) (old further new : Growth)
+    → IsGrowth t seed part plans first count old → IsGrowth t seed part plans (first + count) more further
+    → AreTold t seed part.purpose plans first (count + more) new.outcomes
+    → new.children.items ≡ old.children.items ++ further.children.items
+    → new.child_count ≡ old.child_count + further.child_count
+    → new.onward.items ≡ old.onward.items ++ further.onward.items
+    → IsGrowth t seed part plans first (count + more) new
+growth_joined t seed part plans first count more old further new was then_these told children many onward =
+    record {
+      told = told;
       children = inner_more part.place (children_at t seed) plans first count more old.children.items new.children.items further.children.items was.children then_these.children children;
       many =
           let whole = ap length (over_parts (children_at t seed) plans first count more) in
@@ -148,54 +171,34 @@ growth_joined t seed part plans first count more old further new was then_these 
           last_more part.place (onward_at t seed) plans first count more (map (plan_of plans) old.onward.items) (map (plan_of plans) new.onward.items) (map (plan_of plans) further.onward.items)
           was.onward then_these.onward (ap (map (plan_of plans)) onward ∙ map-append (plan_of plans) old.onward.items further.onward.items);
       from = subst (GrewFrom (length plans)) (sym onward) (all_append (λ (g : Grew). g.parent < length plans) old.onward.items further.onward.items was.from then_these.from);
-      causes = report_more part.purpose (cause_at t seed) plans first count more old.causes.items new.causes.items further.causes.items was.causes then_these.causes causes;
-      hits = hits ∙ was.hits;
-      most = λ p lt.
-          let low : p < length old.hits.items = omega (arith, lt, hits) in
-          let same_one = was.hits in
-          let same_two = then_these.hits in
-          most_more t seed plans first count more p (get_or old.hits.items p 0) (get_or further.hits.items p 0) (get_or new.hits.items p 0) (was.most p low)
-          (then_these.most p (omega (arith, low, same_one, same_two))) (most p low);
     }
 
-pub told_joined : (t : Subject) (seed : ℕ) (part : Part) (plans : List (List Rig)) (count more : ℕ) (old new : Outcomes) (further : Growth)
-    → AreTold t seed part.purpose plans count old → IsGrowth t seed part plans count more further
-    → new.verdicts.items ≡ old.verdicts.items ++ further.verdicts.items
-    → new.causes.items ≡ old.causes.items ++ further.causes.items
-    → length new.hits.items ≡ length old.hits.items
-    → ((p : ℕ) → p < length old.hits.items → get_or new.hits.items p 0 ≡ max (get_or old.hits.items p 0) (get_or further.hits.items p 0))
-    → AreTold t seed part.purpose plans (count + more) new
-told_joined t seed part plans count more old new further was then_these verdicts causes hits raised =
-    let zeroth : count ≡ 0 + count = omega arith in
-    record {
-      verdicts =
-          over_more (verdict_at t seed) plans 0 count more old.verdicts.items new.verdicts.items further.verdicts.items was.verdicts
-          (then_these.verdicts ∙ ap (λ k. over (verdict_at t seed) plans k more) zeroth) verdicts;
-      causes =
-          report_more part.purpose (cause_at t seed) plans 0 count more old.causes.items new.causes.items further.causes.items was.causes
-          (then_these.causes ∙ ap (λ k. if_report part.purpose (over (cause_at t seed) plans k more)) zeroth) causes;
-      hits = hits ∙ was.hits;
-      most = λ p lt.
-          let low : p < length old.hits.items = omega (arith, lt, hits) in
-          let same_one = was.hits in
-          let same_two = then_these.hits in
-          most_more t seed plans 0 count more p (get_or old.hits.items p 0) (get_or further.hits.items p 0) (get_or new.hits.items p 0) (was.most p low)
-          (then_these.most p (omega (arith, low, same_one, same_two)) ∙ ap (λ k. most (over (hits_at t seed p) plans k more)) zeroth) (raised p low);
-    }
+-- ---- no plan
 
-pub growth_none : (t : Subject) (seed : ℕ) (part : Part) (plans : List (List Rig)) (first : ℕ) (g : Growth) → g.verdicts.items ≡ [] → g.children.items ≡ []
-    → g.child_count ≡ 0 → g.onward.items ≡ [] → g.causes.items ≡ [] → length g.hits.items ≡ length t.names → ((p : ℕ) → get_or g.hits.items p 0 ≡ 0)
-    → IsGrowth t seed part plans first 0 g
-growth_none t seed part plans first g verdicts children many onward causes hits zeros =
+zeros : (n p : ℕ) → get_or {A = ℕ} (replicate n 0) p 0 ≡ 0
+zeros zero p = refl
+zeros (suc n) zero = refl
+zeros (suc n) (suc p) = zeros n p
+
+pub told_none : (t : Subject) (seed : ℕ) (purpose : Purpose) (plans : List (List Rig)) (first points : ℕ) (o : Outcomes) → o.verdicts.items ≡ [] → o.causes.items ≡ []
+    → o.hits.items ≡ replicate points 0 → length t.names ≡ points → AreTold t seed purpose plans first 0 o
+told_none t seed purpose plans first points o verdicts causes hits many =
     record {
       verdicts = verdicts;
+      causes = causes ∙ report_nil purpose;
+      hits = ap length hits ∙ length-replicate points 0 ∙ sym many;
+      most = λ p lt. ap (λ hs. get_or hs p 0) hits ∙ zeros points p;
+    }
+
+pub growth_none : (t : Subject) (seed : ℕ) (part : Part) (plans : List (List Rig)) (first : ℕ) (g : Growth) → AreTold t seed part.purpose plans first 0 g.outcomes → g.children.items ≡ []
+    → g.child_count ≡ 0 → g.onward.items ≡ [] → IsGrowth t seed part plans first 0 g
+growth_none t seed part plans first g told children many onward =
+    record {
+      told = told;
       children = children ∙ inner_nil part.place;
       many = many;
       onward = ap (map (plan_of plans)) onward ∙ last_nil part.place;
       from = subst (GrewFrom (length plans)) (sym onward) tt;
-      causes = causes ∙ report_nil part.purpose;
-      hits = hits;
-      most = λ p lt. zeros p;
     }
 
 -- ---- how many children there are
@@ -235,10 +238,5 @@ verdicts_many t seed plans first zero = refl
 verdicts_many t seed plans first (suc count) = ap (λ n. suc n) (verdicts_many t seed plans (first + 1) count)
 
 pub growth_many : (t : Subject) (seed : ℕ) (part : Part) (plans : List (List Rig)) (first count : ℕ) (g : Growth) → IsGrowth t seed part plans first count g
-    → length g.verdicts.items ≡ count
-growth_many t seed part plans first count g is = ap length is.verdicts ∙ verdicts_many t seed plans first count
-
-pub zeros : (n p : ℕ) → get_or {A = ℕ} (replicate n 0) p 0 ≡ 0
-zeros zero p = refl
-zeros (suc n) zero = refl
-zeros (suc n) (suc p) = zeros n p
+    → length g.outcomes.verdicts.items ≡ count
+growth_many t seed part plans first count g is = ap length is.told.verdicts ∙ verdicts_many t seed plans first count

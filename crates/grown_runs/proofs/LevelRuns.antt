@@ -1,4 +1,4 @@
--- What runs of a level come to: the next level, and those that go onward.
+-- What the runs of a level lead to: the next level, and the plans with a sticky last fault.
 use Rattle.std.proofs.Common.{◌≡◌, ℕ, zero, suc, ◌+◌, ◌-◌, ◌<◌, ◌≤◌, ◌==◌, List, [], ◌∷◌, ◌++◌, map, length, get_or, refl, ap, sym, ◌∙◌, subst, arith, append_assoc}
 use Rattle.std.specs.List.{AllByRecursion, flat_map, count_by, range_with_len}
 use Rattle.std.proofs.lemmas.List.{map-append, length-append, length_push, length-map}
@@ -23,10 +23,10 @@ use Rattle.grown_plans.proofs.AskedSites.{asks_like_parents}
 use Rattle.grown_runs.specs.inside.Beginnings.{AskLikeParents}
 use Rattle.grown_plans.specs.Lists.{AreLevels, AreNext}
 use Rattle.grown_plans.specs.declared.grown_list.GrownLevels.{GrownLevels}
-use Rattle.grown_runs.specs.inside.Levels.{AreTold}
+use Rattle.grown_runs.specs.inside.Growths.{AreTold}
 use Rattle.grown_runs.specs.inside.Growths.{if_report}
 use Rattle.grown_runs.specs.declared.input.Purpose.{Purpose}
-use Rattle.grown_runs.specs.declared.levels.Outcomes.{Outcomes}
+use Rattle.grown_runs.specs.declared.outcomes.Outcomes.{Outcomes}
 use Rattle.grown_runs.proofs.Overs.{over_same}
 
 -- ---- each parent was run
@@ -110,7 +110,7 @@ next_many asks names limit seed n l lawful are =
     let t : Subject = usual_subject asks names limit in
     sym (length-map (over (children_at t seed) l.plans l.last (length l.plans - l.last)) (plan_of l.plans)) ∙ ap length (next_level asks names limit seed n l lawful are)
 
--- ---- those that go onward
+-- ---- the plans with a sticky last fault
 
 pub onward_is : (t : Subject) (seed n : ℕ) (l : GrownLevels) → IsLawful t → AreLevels (level t) n l → over (onward_at t seed) l.plans l.last (length l.plans - l.last) ≡ onward t n
 unfolding onward
@@ -151,9 +151,9 @@ reached_by t seed d counts lawful many at =
 -- ---- plans that come behind make no difference
 
 pub told_more : (t : Subject) (seed : ℕ) (purpose : Purpose) (count : ℕ) (plans more new : List (List Rig)) (o : Outcomes) → count ≤ length plans → new ≡ plans ++ more
-    → AreTold t seed purpose plans count o → AreTold t seed purpose new count o
+    → AreTold t seed purpose plans 0 count o → AreTold t seed purpose new 0 count o
 told_more t seed purpose count plans more new o le is was =
-    subst (λ ps. AreTold t seed purpose ps count o) (sym is)
+    subst (λ ps. AreTold t seed purpose ps 0 count o) (sym is)
     (record {
       verdicts = was.verdicts ∙ sym (over_same (verdict_at t seed) plans more 0 count (omega (arith, le)));
       causes = was.causes ∙ ap (if_report purpose) (sym (over_same (cause_at t seed) plans more 0 count (omega (arith, le))));
@@ -168,7 +168,7 @@ all_in P [] n d all lt = absurd (omega (arith, lt))
 all_in P (x ∷ xs) zero d all lt = all.0
 all_in P (x ∷ xs) (suc n) d all lt = all_in P xs n d all.1 (omega (arith, lt))
 
--- what is so of each grown plan
+-- What holds of each grown plan.
 each_of : (P : List Rig → Type 0) (whole plans : List (List Rig)) → AllByRecursion P whole → plans ≡ whole → (n : ℕ) → n < length plans → P (get_or plans n [])
 each_of P whole plans all is n lt = all_in P plans n [] (subst (λ (ps : List (List Rig)). AllByRecursion P ps) (sym is) all) lt
 

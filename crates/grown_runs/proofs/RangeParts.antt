@@ -70,7 +70,7 @@ range_next t seed part plans first count ranges yielded rest g whole new are is 
 
 pub range_room : (t : Subject) (seed : ℕ) (part : Part) (plans : List (List Rig)) (first count : ℕ) (ranges yielded rest : List Growth) (g whole : Growth)
     → AreRanges t seed part plans first count ranges → yielded ++ g ∷ rest ≡ ranges → IsGrowth t seed part plans first (range_start count (length yielded)) whole → count ≤ 65536
-    → length whole.verdicts.items + length g.verdicts.items ≤ 65536
+    → length whole.outcomes.verdicts.items + length g.outcomes.verdicts.items ≤ 65536
 range_room t seed part plans first count ranges yielded rest g whole are is was few =
     let k = length yielded in
     let within = range_within count k in

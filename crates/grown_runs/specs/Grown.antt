@@ -9,19 +9,19 @@ use Rattle.grown_runs.specs.declared.parts.Conditions.{Conditions}
 use Rattle.grown_runs.specs.declared.levels.Grown.{Grown}
 use Rattle.grown_runs.specs.GrownRuns.{subject_of, over, verdict_at, cause_at}
 
--- what plans are run on, by what a caller gives
+-- The subject on which plans are run, from what a caller gives.
 abbrev pub subject_in : {T W G R : Type 0} → Ghosts T W → Conditions T G R W → Subject
 subject_in target on = subject_of target on.target.now on.workload.now on.limits.max_hits
 
--- how many plans each of the first so many levels has
+-- How many plans each of the first `count` levels has.
 abbrev pub level_sizes : Subject → ℕ → List ℕ
 level_sizes t count = sizes_of (level t) count
 
--- the most hits of each point that a run of a grown plan has
+-- The most hits of each point that a run of a plan to a depth has.
 abbrev pub reached_each : Subject → ℕ → List ℕ
 reached_each t d = map (reached t d) (range_with_len 0 (length t.names))
 
--- the plans of a depth, and all that is told of them
+-- The plans to a depth, and all that their runs came to.
 pub record HasGrown (t : Subject) (seed d : ℕ) (g : Grown) : Type 0 where
   pub plans : g.list.plans ≡ grown t d
   pub levels : g.list.levels.items ≡ level_sizes t (d + 1)
@@ -31,12 +31,12 @@ pub record HasGrown (t : Subject) (seed d : ℕ) (g : Grown) : Type 0 where
   pub causes : g.outcomes.causes.items ≡ over (cause_at t seed) (grown t d) 0 (length (grown t d))
   pub reached : g.outcomes.hits.items ≡ reached_each t d
 
--- the plans with which a list begins: levels 0 to n, where these are as many as are asked for, else those to n + 1, and so on for k levels
--- more; where the last of them are still fewer, all grown plans
+-- The plans with which a list begins: levels 0 to n if these have at least `count` plans, else levels 0 to n + 1, and so on for up to k more levels.
+-- If the last of these still have fewer, it is all plans that grow.
 unfoldable pub begun_from : Subject → ℕ → ℕ → ℕ → List (List Rig)
 begun_from t count n zero = if nat_le count (length (levels t n)) then levels t n else grown t n
 begun_from t count n (suc k) = if nat_le count (length (levels t n)) then levels t n else begun_from t count (suc n) k
 
--- of a depth, as many plans as are asked for at least, or all
+-- The first levels of the list to a depth that have at least `count` plans, or else the whole list.
 abbrev pub begun : Subject → ℕ → ℕ → List (List Rig)
 begun t d count = begun_from t count 0 d

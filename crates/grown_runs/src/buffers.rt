@@ -1,4 +1,4 @@
-//! One run of rigged hits, with the points that it asked.
+//! One run of rigged hits, and the points that it asked.
 ghost use Rattle.std.specs.Prelude.{◌≡◌, ◌<◌, ◌^◌, length, IfOk, OnOk};
 ghost use Rattle.action_eval.specs.RiggedScenario.{CanBeRigged};
 ghost use Rattle.grown_runs.specs.GrownRuns.{told_of_rigs};
@@ -10,7 +10,8 @@ use std::alloc::{AllocError, Global};
 use std::mem;
 use target_trait::{Target, Verdict, run_session};
 
-/// Where runs are made, one after another, without memory of their own. Whatever it holds before a run makes no difference to the run.
+/// What runs are made in, one after another, so that they needn't take memory of their own. What it holds before a run makes no difference to the
+/// run.
 #[derive(Drop)]
 pub struct RunBuffers {
     table: FaultTable<'static>,
@@ -31,8 +32,8 @@ impl RunBuffers {
         }
     }
 
-    /// The verdict of the run of these rigged hits under a stream number. An error means that memory was refused. The target keeps its setup,
-    /// after an error too.
+    /// The verdict of the run of these rigged hits under a stream number. An error means that memory was refused. The target keeps its setup, even
+    /// after an error.
     pub fn run<T: Target>(
         &mut self,
         target: &mut T,

@@ -11,7 +11,7 @@ use std::alloc::AllocError;
 use target_trait::{Target, Verdict};
 
 /// Whether a verdict is a failure with this code.
-fn is_failure(verdict: Verdict, code: u32) -> bool
+pub fn fails_with(code: u32, verdict: Verdict) -> bool
     ensures { result ≡ fails_with code verdict }
 {
     match verdict {
@@ -20,8 +20,8 @@ fn is_failure(verdict: Verdict, code: u32) -> bool
     }
 }
 
-/// Puts all of these but one in place of what stood in a list.
-fn leave_out(less: &mut Vec<Rig>, rigs: &[Rig], left_out: usize) -> Result<(), AllocError>
+/// Puts all of these rigged hits except one into the list, in place of what stood there. An error means that memory was refused.
+pub fn leave_out(less: &mut Vec<Rig>, rigs: &[Rig], left_out: usize) -> Result<(), AllocError>
     requires { left_out < length rigs.now }
     ensures { OnOk result (less.new.items ≡ slice_range rigs.now 0 left_out ++ slice_range rigs.now (left_out + 1) (length rigs.now)) }
 {
@@ -38,7 +38,7 @@ pub struct Ran<'a> {
     pub verdict: Verdict,
 }
 
-/// Whether rigged hits don't fail with a code where any one of them is left out.
+/// Whether these rigged hits don't fail with a code if any one of them is left out.
 fn is_cause<T: Target>(
     buffers: &mut RunBuffers,
     less: &mut Vec<Rig>,
@@ -55,16 +55,16 @@ fn is_cause<T: Target>(
     for left_out in 0..ran.rigs.len() {
         leave_out(less, ran.rigs, left_out)?;
         let verdict = buffers.run(target, input, less.as_slice(), u64::from(ran.number))?;
-        if is_failure(verdict, code) {
+        if fails_with(code, verdict) {
             return Ok(false);
         }
     }
     Ok(true)
 }
 
-/// The code of a run that is a cause: it fails, and where any one of its rigged hits is left out it doesn't fail with this code. Where runs are
-/// made for the plans alone nothing is tested, and it has none. `less` is a list to work in. An error means that memory was refused. The target
-/// keeps its setup, after an error too.
+/// The code of a run that is a cause: it fails, and if any one of its rigged hits is left out it doesn't fail with this code. If runs are made for
+/// the list of plans alone, nothing is tested, and no run has one. `less` is a list to work in. An error means that memory was refused. The target
+/// keeps its setup, even after an error.
 pub fn cause_of<T: Target>(
     buffers: &mut RunBuffers,
     less: &mut Vec<Rig>,

@@ -1,4 +1,4 @@
-//! Runs of a part's plans, range by range, as a job of workers.
+//! Runs of the plans of a part of a list, range by range, as a job of workers.
 ghost use Rattle.std.specs.Prelude.{◌≡◌, ℕ, ◌+◌, ◌-◌, List, length};
 ghost use Rattle.grown_plans.specs.GrownPlans.{usual_subject};
 ghost use Rattle.plan_ranges.specs.Ranges.{range_count, range_start};
@@ -17,7 +17,7 @@ use target_trait::Target;
 use work_gate::Gate;
 use worker_pool::Job;
 
-/// What a grower's answers depend on. No value is made.
+/// What a grower's answers depend on. It is for contracts: no value of it is made.
 pub struct Setup<T: Target> {
     pub target: T,
     pub workload: T::Workload,
@@ -29,8 +29,8 @@ pub struct Setup<T: Target> {
     pub plans: LinkedList<LinkedList<Rig>>,
 }
 
-/// A target, with the input whose plans it runs, and with a workspace of its own that each run takes over from the one before. The gate
-/// is told what each range came to.
+/// A target, and the input whose plans it runs. Each run takes over the workspace from the run before. After each range the grower reports to the
+/// gate what its plans came to.
 #[derive(Drop)]
 pub struct Grower<'a, T: Target, G: Gate> {
     pub gate: &'a G,
@@ -75,11 +75,10 @@ where
             &mut self.target,
             &mut self.workspace,
             input,
-            input.first + first as usize,
-            input.first + end as usize,
+            input.first + first as usize..input.first + end as usize,
         )?;
         if self.gate.is_watched() {
-            let verdicts = growth.verdicts.as_slice();
+            let verdicts = growth.outcomes.verdicts.as_slice();
             self.gate
                 .ended(ended_of(verdicts, growth.child_count as usize));
         }

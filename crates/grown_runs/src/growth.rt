@@ -1,5 +1,5 @@
-//! What runs of plans one after another come to.
-ghost use Rattle.std.specs.Prelude.{◌≡◌, ℕ, ◌+◌, ◌-◌, ◌*◌, ◌<◌, ◌≤◌, ◌^◌, ◌++◌, ◌&&◌, [], List, length, map, max, slice_index_or, replicate, IfOk, OnOk};
+//! What plans come to that are run one after another.
+ghost use Rattle.std.specs.Prelude.{◌≡◌, ℕ, ◌+◌, ◌-◌, ◌<◌, ◌≤◌, ◌^◌, ◌++◌, ◌&&◌, [], List, length, map, slice_index_or, IfOk, OnOk};
 ghost use Rattle.std.specs.List.{AllByRecursion};
 ghost use Rattle.action_eval.specs.declared.rig.Rig.{Rig};
 ghost use Rattle.grown_plans.specs.AskedPoints.{AreCounts, is_asked_again, is_last_return, onward_if};
@@ -15,15 +15,17 @@ use crate::buffers::RunBuffers;
 use crate::causes::{Ran, cause_of};
 use crate::input::{GrownRunInput, Place};
 use crate::kept::Growth;
+use crate::outcomes::{Outcomes, raise};
 use action_eval::Rig;
 use grown_plans::{
     Begun, Child, Growing, GrownPlans, Kinds, add_children, count_children, rigs_of,
 };
 use std::alloc::{AllocError, Global};
+use std::ops::Range;
 use target_trait::Target;
 
-/// What a worker's plans are run in, one after another, without memory of their own. Whatever it holds before a plan makes no difference to
-/// the plan.
+/// What a worker's plans are run in, one after another, so that they needn't take memory of their own. What it holds before a plan makes no
+/// difference to the plan.
 #[derive(Drop)]
 pub struct Workspace {
     buffers: RunBuffers,
@@ -48,19 +50,7 @@ impl Workspace {
     }
 }
 
-/// Raises each of these counts to that which stands at its place.
-pub fn raise(hits: &mut Vec<u32>, counts: &[u32])
-    requires { length hits.old.items ≤ length counts.now }
-    ensures many { length hits.new.items ≡ length hits.old.items }
-    ensures most { (p : ℕ) → p < length hits.old.items
-        → slice_index_or hits.new.items p 0 ≡ max (slice_index_or hits.old.items p 0) (slice_index_or counts.now p 0) }
-{
-    for point in 0..hits.len() {
-        hits[point] = hits[point].max(counts[point]);
-    }
-}
-
-/// The number of a plan, that of the plan that it grew from, and where in the list it stands.
+/// The number of a plan, the number of the plan that it grew from, and where in the list it stands.
 #[derive(Clone, Copy, Debug)]
 struct Descent {
     number: usize,
@@ -68,8 +58,8 @@ struct Descent {
     place: Place,
 }
 
-/// How a plan with these faults grows, by the points that its run asked, which are counted. The children of a level that isn't the last one are
-/// kept.
+/// How a plan with these faults grows, by the points that its run asked. These are counted. The children are kept, unless the plan is one of the last
+/// level or behind it.
 fn grow_one(
     kinds: &Kinds<'_>,
     kept: &mut Vec<Child>,
@@ -102,7 +92,7 @@ fn grow_one(
     })
 }
 
-/// Keeps a plan of the last level from then on, where its last fault is a return whose point its run hits again.
+/// Keeps a plan of the last level as one with its last fault sticky, if that is a return whose point its run hits again.
 fn keep_onward(
     place: Place,
     onward: &mut Vec<Child>,
@@ -123,7 +113,7 @@ fn keep_onward(
     Ok(())
 }
 
-/// Keeps a cause.
+/// Keeps a cause, if there is one.
 fn keep_cause(
     causes: &mut Vec<(u32, u32)>,
     number: u32,
@@ -137,7 +127,7 @@ fn keep_cause(
     Ok(())
 }
 
-/// Runs the plan of this number, and adds what it comes to. The target keeps its setup, after an error too.
+/// Runs the plan of this number, and adds what it comes to. The target keeps its setup, even after an error.
 fn run_one<T: Target>(
     target: &mut T,
     input: &GrownRunInput<'_, T>,
@@ -146,15 +136,15 @@ fn run_one<T: Target>(
     number: usize,
 ) -> Result<(), AllocError>
     requires within { number < length input.now.plans.now }
-    requires room { length growth.old.verdicts.items < 2 ^ 16 }
-    requires hits { length growth.old.hits.items ≡ length T.names }
+    requires room { length growth.old.outcomes.verdicts.items < 2 ^ 16 }
+    requires hits { length growth.old.outcomes.hits.items ≡ length T.names }
     requires alike { AskLikeParents (subject_on T.Target target.old input.now) input.now.plans.now }
     requires begun { TellsParent (subject_on T.Target target.old input.now) input.now.limits.seed input.now.plans.now workspace.old.begun }
     ensures begun { OnOk result (TellsParent (subject_on T.Target target.old input.now) input.now.limits.seed input.now.plans.now workspace.new.begun) }
     ensures grown { OnOk result ((first count : ℕ) → first + count ≡ number → IsGrowthOn T.Target target.old input.now first count growth.old
         → IsGrowthOn T.Target target.old input.now first (count + 1) growth.new) }
-    ensures many { OnOk result (length growth.new.verdicts.items ≡ length growth.old.verdicts.items + 1) }
-    ensures hits { length growth.new.hits.items ≡ length growth.old.hits.items }
+    ensures many { OnOk result (length growth.new.outcomes.verdicts.items ≡ length growth.old.outcomes.verdicts.items + 1) }
+    ensures hits { length growth.new.outcomes.hits.items ≡ length growth.old.outcomes.hits.items }
     ensures setup { target.new ≡ target.old }
 {
     let Workspace {
@@ -180,9 +170,9 @@ fn run_one<T: Target>(
     let children = &mut growth.children;
     let kinds = &input.kinds;
     let growing = grow_one(kinds, children, begun, descent, faults.as_slice(), asked)?;
-    growth.verdicts.push(verdict)?;
+    growth.outcomes.verdicts.push(verdict)?;
     growth.child_count += growing.children as u64;
-    raise(&mut growth.hits, begun.whole.as_slice());
+    raise(&mut growth.outcomes.hits, begun.whole.as_slice());
     let is_again = growing.is_again;
     keep_onward(place, &mut growth.onward, input.plans, number, is_again)?;
     let number = number as u32;
@@ -192,71 +182,59 @@ fn run_one<T: Target>(
         verdict,
     };
     let cause = cause_of(buffers, less, target, input, &ran)?;
-    keep_cause(&mut growth.causes, number, cause)?;
+    keep_cause(&mut growth.outcomes.causes, number, cause)?;
     Ok(())
 }
 
 impl Growth {
-    /// What no plan comes to, over so many points.
+    /// What no plans come to, over so many points. An error means that memory was refused.
     pub fn none(alloc: Global, points: usize) -> Result<Self, AllocError>
-        ensures verdicts { IfOk result (λ growth. growth.verdicts.items ≡ []) }
-        ensures children { IfOk result (λ growth. growth.children.items ≡ []) }
-        ensures many { IfOk result (λ growth. growth.child_count ≡ 0) }
-        ensures onward { IfOk result (λ growth. growth.onward.items ≡ []) }
-        ensures causes { IfOk result (λ growth. growth.causes.items ≡ []) }
-        ensures hits { IfOk result (λ growth. growth.hits.items ≡ replicate points 0) }
+        ensures { IfOk result (λ growth. (t : Subject) (seed : ℕ) (part : Part) (plans : List (List Rig)) (first : ℕ)
+            → length t.names ≡ points → IsGrowth t seed part plans first 0 growth) }
     {
-        let mut hits = Vec::new(alloc);
-        hits.resize(points, 0)?;
         Ok(Growth {
-            verdicts: Vec::new(alloc),
+            outcomes: Outcomes::none(alloc, points)?,
             children: Vec::new(alloc),
             child_count: 0,
             onward: Vec::new(alloc),
-            causes: Vec::new(alloc),
-            hits,
         })
     }
 
-    /// Runs the plans of an input from this number on, before `end`, in their order. An error means that memory was refused. The target keeps
-    /// its setup, after an error too.
+    /// Runs the plans of these numbers of an input, in their order. An error means that memory was refused. The target keeps its setup, even after an
+    /// error.
     pub fn run_over<T: Target>(
         alloc: Global,
         target: &mut T,
         workspace: &mut Workspace,
         input: &GrownRunInput<'_, T>,
-        first: usize,
-        end: usize,
+        numbers: Range<usize>,
     ) -> Result<Self, AllocError>
-        requires within { (first ≤ end) × (end ≤ length input.now.plans.now) }
+        requires within { (numbers.start ≤ numbers.end) × (numbers.end ≤ length input.now.plans.now) }
         requires alike { AskLikeParents (subject_on T.Target target.old input.now) input.now.plans.now }
-        ensures grown { IfOk result (λ growth. IsGrowthOn T.Target target.old input.now first (end - first) growth) }
+        ensures grown { IfOk result (λ growth. IsGrowthOn T.Target target.old input.now numbers.start (numbers.end - numbers.start) growth) }
         ensures setup { target.new ≡ target.old }
     {
         let mut growth = Growth::none(alloc, T::catalogue().len())?;
         workspace.begun.forget();
-        for number in first..end {
+        for number in numbers.start..numbers.end {
             run_one(target, input, workspace, &mut growth, number)?;
         }
         Ok(growth)
     }
 
-    /// Adds what the plans after these came to. An error means that memory was refused.
+    /// Adds what the plans behind these came to. An error means that memory was refused.
     pub fn absorb(&mut self, further: Growth) -> Result<(), AllocError>
-        requires room { length self.old.verdicts.items + length further.verdicts.items ≤ 2 ^ 16 }
-        requires hits { length self.old.hits.items ≤ length further.hits.items }
+        requires room { length self.old.outcomes.verdicts.items + length further.outcomes.verdicts.items ≤ 2 ^ 16 }
+        requires hits { length self.old.outcomes.hits.items ≤ length further.outcomes.hits.items }
         ensures grown { OnOk result ((t : Subject) (seed : ℕ) (part : Part) (plans : List (List Rig)) (first count more : ℕ)
             → IsGrowth t seed part plans first count self.old → IsGrowth t seed part plans (first + count) more further
             → IsGrowth t seed part plans first (count + more) self.new) }
     {
-        self.verdicts
-            .extend_from_slice(further.verdicts.as_slice())?;
+        self.outcomes.absorb(&further.outcomes)?;
         self.child_count += further.child_count;
         self.children
             .extend_from_slice(further.children.as_slice())?;
         self.onward.extend_from_slice(further.onward.as_slice())?;
-        self.causes.extend_from_slice(further.causes.as_slice())?;
-        raise(&mut self.hits, further.hits.as_slice());
         Ok(())
     }
 }

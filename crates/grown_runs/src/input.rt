@@ -12,13 +12,13 @@ use target_trait::Target;
 pub struct Limits {
     /// The seed of the random words of each run.
     pub seed: u64,
-    /// A run that hits more often than this is unresolved.
+    /// After so many hits a run is unresolved.
     pub max_hits: u32,
-    /// How many faults a plan has at most, up to 64.
+    /// The most faults that a plan may have, up to 64.
     pub depth: u32,
-    /// How many plans there may be, up to 65536.
+    /// The most plans that there may be, up to 65536.
     pub most_plans: u32,
-    /// How many workers run them, 1 or more.
+    /// How many workers run the plans, 1 or more.
     pub workers: u32,
     ghost depth_high: { depth ≤ 64 },
     ghost plans_high: { most_plans ≤ 65536 },
@@ -30,29 +30,29 @@ pub struct Limits {
 pub enum Purpose {
     /// For the list of plans alone.
     Plans,
-    /// For what a report tells as well: of each plan that fails it is tested whether it is a cause.
+    /// For a report too: each plan that fails is tested for whether it is a cause.
     Report,
 }
 
-/// Where in a list plans stand, and so what is kept of their runs.
+/// The part of a list in which plans stand. It decides what is kept of their runs.
 #[derive(Clone, Copy, Debug, PartialEq, Eq)]
 pub enum Place {
     /// A level before the last one: the children of its plans are kept.
     Inner,
-    /// The last level: its children are counted, and it is kept which of its plans go onward.
+    /// The last level: the children of its plans are counted, and those of its plans are kept that make another run with their last fault sticky.
     Last,
-    /// The plans with a fault from then on.
+    /// The plans behind the last level, whose last fault is sticky.
     Onward,
 }
 
-/// A part of a list that is run, and what for.
+/// Which part of a list is run, and what for.
 #[derive(Clone, Copy, Debug, PartialEq, Eq)]
 pub struct Part {
     pub place: Place,
     pub purpose: Purpose,
 }
 
-/// A workload and a part of the plans that have grown so far, with how they are run. Runs on any thread borrow it.
+/// A workload and a part of the plans that have grown so far, and how they are run. Runs on any thread borrow it.
 #[derive(Drop)]
 pub struct GrownRunInput<'a, T: Target> {
     pub workload: &'a T::Workload,

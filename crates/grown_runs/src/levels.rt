@@ -1,38 +1,25 @@
-//! Levels of plans, each grown from the runs of the one before.
-ghost use Rattle.std.specs.Prelude.{◌≡◌, ℕ, ◌+◌, ◌-◌, ◌≤◌, ◌<◌, ◌^◌, List, length, map, replicate, [], OnOk, IfOk, IsErrOf};
-ghost use Rattle.action_eval.specs.declared.rig.Rig.{Rig};
-ghost use Rattle.grown_plans.specs.GrownPlans.{Subject, beyond, grown, level, onward};
+//! Levels of plans, each of which grows from the runs of the level before.
+ghost use Rattle.std.specs.Prelude.{◌≡◌, ◌-◌, ◌≤◌, ◌<◌, ◌^◌, length, map, OnOk, IfOk, IsErrOf};
+ghost use Rattle.grown_plans.specs.GrownPlans.{beyond, grown, level, onward};
 ghost use Rattle.grown_plans.specs.Kept.{GrewFrom, plan_of};
 ghost use Rattle.grown_plans.specs.Lists.{AreLevels, AreNext};
-ghost use Rattle.grown_runs.specs.declared.input.Part.{Part};
 ghost use Rattle.grown_runs.specs.declared.input.Place.TheVariants.{Inner, Last, Onward};
 ghost use Rattle.grown_runs.specs.declared.input.Purpose.TheVariants.{Report};
 ghost use Rattle.grown_runs.specs.inside.Growths.{IsGrowth};
 ghost use Rattle.grown_runs.specs.Grown.{subject_in, begun, HasGrown};
-ghost use Rattle.grown_runs.specs.inside.Levels.{AreTold, HaveBegun};
+ghost use Rattle.grown_runs.specs.inside.Levels.{HaveBegun};
 
-use crate::growth::raise;
 use crate::input::{Part, Place, Purpose};
 use crate::kept::Growth;
+use crate::outcomes::Outcomes;
 use crate::parts::{Conditions, run_part};
 use grown_plans::{GrownLevels, GrownList, GrownPlans, each_target_is_a_lawful_subject};
 use plan_gen::PlanFault;
 use std::alloc::{AllocError, Global};
 use std::sync::Wait;
 use std::thread::Threads;
-use target_trait::{Target, Verdict};
+use target_trait::Target;
 use work_gate::{Gate, Stage};
-
-/// What the runs of plans came to, from plan 0 on.
-#[derive(Drop)]
-pub struct Outcomes {
-    /// Their verdicts.
-    pub verdicts: Vec<Verdict>,
-    /// Those that are causes, by their numbers, with their codes.
-    pub causes: Vec<(u32, u32)>,
-    /// The most hits of each point of the catalogue that a run has.
-    pub hits: Vec<u32>,
-}
 
 /// Plans that grew, and what their runs came to.
 #[derive(Drop)]
@@ -41,38 +28,7 @@ pub struct Grown {
     pub outcomes: Outcomes,
 }
 
-impl Outcomes {
-    /// Those of no runs, over so many points. An error means that memory was refused.
-    fn none(alloc: Global, points: usize) -> Result<Self, AllocError>
-        ensures verdicts { IfOk result (λ outcomes. outcomes.verdicts.items ≡ []) }
-        ensures causes { IfOk result (λ outcomes. outcomes.causes.items ≡ []) }
-        ensures hits { IfOk result (λ outcomes. outcomes.hits.items ≡ replicate points 0) }
-    {
-        let mut hits = Vec::new(alloc);
-        hits.resize(points, 0)?;
-        Ok(Outcomes {
-            verdicts: Vec::new(alloc),
-            causes: Vec::new(alloc),
-            hits,
-        })
-    }
-
-    /// Adds what the plans after these came to. An error means that memory was refused.
-    fn note(&mut self, growth: &Growth) -> Result<(), AllocError>
-        requires { length self.old.hits.items ≤ length growth.now.hits.items }
-        ensures told { OnOk result ((t : Subject) (seed : ℕ) (part : Part) (plans : List (List Rig)) (count more : ℕ)
-            → AreTold t seed part.purpose plans count self.old → IsGrowth t seed part plans count more growth.now
-            → AreTold t seed part.purpose plans (count + more) self.new) }
-        ensures many { OnOk result (length self.new.hits.items ≡ length self.old.hits.items) }
-    {
-        self.verdicts.extend_from_slice(growth.verdicts.as_slice())?;
-        self.causes.extend_from_slice(growth.causes.as_slice())?;
-        raise(&mut self.hits, growth.hits.as_slice());
-        Ok(())
-    }
-}
-
-/// Runs the plans of a level before the last one, from which the next grows.
+/// Runs the plans of a level before the last one. The next level grows from them.
 fn run_level<T: Target + Send, G: Gate, R: Threads + Wait + Sync>(
     on: &Conditions<'_, T, G, R>,
     levels: &GrownLevels,
@@ -119,7 +75,7 @@ where
     run_part(on, &levels.plans, part, stage, levels.last)
 }
 
-/// Runs the plans behind the last level, from `first` on, for a report.
+/// Runs the plans behind the last level for a report. The first of them is `first`.
 fn run_behind<T: Target + Send, G: Gate, R: Threads + Wait + Sync>(
     on: &Conditions<'_, T, G, R>,
     plans: &GrownPlans,
@@ -141,8 +97,8 @@ where
     run_part(on, plans, part, Stage::Onward, first)
 }
 
-/// Grows plans level by level, to the depth, or until there are so many, and runs all but those of the last level. Answers the levels, and what the
-/// runs came to.
+/// Grows plans level by level, to the depth or until there are at least `count`, and runs all except those of the last level. Returns the levels, and
+/// what the runs came to.
 fn grow_levels<T: Target + Send, G: Gate, R: Threads + Wait + Sync>(
     on: &Conditions<'_, T, G, R>,
     purpose: Purpose,
@@ -167,19 +123,19 @@ where
         }
         let growth = run_level(on, &levels, number, purpose)?;
         levels.add(growth.children.as_slice(), most)?;
-        outcomes.note(&growth)?;
+        outcomes.absorb(&growth.outcomes)?;
     }
     Ok((levels, outcomes))
 }
 
-/// Grows plans from each other's runs, level by level, and runs them all: level 0 is the plan without faults, and the next level the children
-/// of each plan of the one before, in order; after the last level those of its plans with their last fault from then on, where that is another
-/// run. Each runs once under its number as the stream number; a failing one runs again without each of its faults, for whether it is a cause.
+/// Grows plans from each other's runs, level by level, and runs them all. Level 0 is the plan without faults. The next level has the children of each
+/// plan of the level before, in order. Behind the last level come its plans with their last fault sticky, if that makes another run. Each plan runs
+/// once, under its number as the stream number. A plan that fails is run again without each of its faults in turn, to see whether it is a cause.
 ///
-/// As many threads as the limits say run the plans of a level, each on a twin of its own: the caller's target isn't touched, and what all
-/// comes to is what one thread would find. A worker arrives at the gate with each plan's number before it runs the plan.
+/// As many threads as the limits say run the plans of a level, each on a twin of its own: the caller's target isn't touched, and the plans come to
+/// the same as with one thread. A worker arrives at the gate with each plan's number before it runs the plan.
 ///
-/// The plans are too many where a level, or those from then on, would make more than the limits say: none of these has been run then.
+/// `TooManyPlans` comes if a level, or the plans behind the last one, would make more plans than the limits say. None of these has been run then.
 pub fn grow<T: Target + Send, G: Gate, R: Threads + Wait + Sync>(
     on: &Conditions<'_, T, G, R>,
 ) -> Result<Grown, PlanFault>
@@ -197,16 +153,16 @@ where
     let growth = run_last(on, &levels, purpose)?;
     let onward = growth.onward.as_slice();
     let list = levels.end(onward, growth.child_count, on.limits.most_plans as usize)?;
-    outcomes.note(&growth)?;
+    outcomes.absorb(&growth.outcomes)?;
     let growth = run_behind(on, &list.plans, end)?;
-    outcomes.note(&growth)?;
+    outcomes.absorb(&growth.outcomes)?;
     Ok(Grown { list, outcomes })
 }
 
-/// The plans with which the list of a depth begins: the first levels that have so many plans, or, where all levels have fewer, all plans. Only
-/// the levels before the last of these are run; no plan from then on is, and nothing is tested for causes.
+/// The plans with which the list of a depth begins: level by level until there are at least `count`, or else all plans. Only the levels before the
+/// last of these are run, and all levels if all plans are listed. No plan with a sticky fault is run, and nothing is tested for causes.
 ///
-/// Plans are run as by [`grow`]. They are too many only where these plans are more than the limits say, whatever further levels would have.
+/// Plans are run as by [`grow`]. `TooManyPlans` comes only if these plans are more than the limits say, whatever further levels would have.
 pub fn grow_list<T: Target + Send, G: Gate, R: Threads + Wait + Sync>(
     on: &Conditions<'_, T, G, R>,
     count: usize,

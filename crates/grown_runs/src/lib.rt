@@ -8,8 +8,10 @@ mod growth;
 mod input;
 mod kept;
 mod levels;
+mod outcomes;
 mod parts;
 
+pub use causes::{fails_with, leave_out};
 pub use input::Limits;
 pub use levels::{Grown, grow, grow_list};
 pub use parts::Conditions;

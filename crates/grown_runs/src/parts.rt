@@ -1,4 +1,4 @@
-//! Runs of a part of a list on workers.
+//! A part of a list, run on workers.
 ghost use Rattle.std.specs.Prelude.{◌≡◌, ℕ, ◌-◌, ◌≤◌, ◌<◌, length, slice_index_or, [], All, IfOk};
 ghost use Rattle.action_eval.specs.RiggedScenario.{CanBeRigged};
 ghost use Rattle.grown_plans.specs.GrownPlans.{rigs_of};
@@ -18,8 +18,8 @@ use std::thread::Threads;
 use target_trait::Target;
 use work_gate::{Gate, Stage};
 
-/// What plans are run on and with: the threads that workers are, the memory, the gate at which workers arrive, the target, twins of which are run,
-/// and the workload of each run.
+/// What plans are run with: the threads of the workers, the memory, the gate at which workers arrive, the target, of which twins are run, and the
+/// workload of each run.
 #[derive(Drop)]
 pub struct Conditions<'a, T: Target, G: Gate, R: Threads + Wait + Sync> {
     pub rt: &'a R,
@@ -57,8 +57,8 @@ where
     Ok(all)
 }
 
-/// Runs the plans of a part of a list, from `first` on, with a thread for each worker. The gate is told which stage that is. What they come to is
-/// what one thread would find. An error means that memory was refused.
+/// Runs the plans of a part of a list, from `first` on, with a thread for each worker, and names the stage to the gate. The plans come to the same as
+/// with one thread. An error means that memory was refused.
 pub fn run_part<T: Target + Send, G: Gate, R: Threads + Wait + Sync>(
     on: &Conditions<'_, T, G, R>,
     plans: &GrownPlans,

@@ -1,4 +1,4 @@
--- What a target asks that cleans up: its write, and where that is refused its undo. An undo that is refused breaks the promise.
+-- What a target asks that cleans up: its write and, if that is refused, its undo. An undo that is refused breaks the promise.
 use Rattle.std.specs.Prelude.{ℕ, List, [], ◌∷◌, ◌++◌, codes}
 use Rattle.std.proofs.Common.{arith}
 use Rattle.action_eval.specs.Answers.{Reply, Go, Return, Halt}
@@ -8,7 +8,7 @@ use Rattle.target_trait.specs.Play.{Move, Ask, Done, IsWithin, IsDone}
 abbrev pub point_names : List (List ℕ)
 point_names = codes "step::write" ∷ codes "step::undo" ∷ []
 
--- what is asked once the write was refused
+-- What is asked after the write was refused.
 abbrev pub undo_of : List Reply → Move
 undo_of [] = Ask 1
 undo_of (Go ∷ rest) = Done Kept
@@ -27,7 +27,7 @@ undo_within (Go ∷ rest) = tt
 undo_within (Return text ∷ rest) = tt
 undo_within (Halt ∷ rest) = tt
 
--- each question is of one of the two points
+-- Each question is about one of the two points.
 pub asks-within : (answers : List Reply) → IsWithin 2 (asks_of answers)
 asks-within [] = omega arith
 asks-within (Go ∷ rest) = tt
@@ -40,7 +40,7 @@ undo_halts (Go ∷ rest) after = tt
 undo_halts (Return text ∷ rest) after = tt
 undo_halts (Halt ∷ rest) after = tt
 
--- none follows a halt
+-- No question follows a halt.
 pub asks-halts : (before after : List Reply) → IsDone (asks_of (before ++ Halt ∷ after))
 asks-halts [] after = tt
 asks-halts (Go ∷ rest) after = tt

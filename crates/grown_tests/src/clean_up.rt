@@ -1,4 +1,4 @@
-//! A target that breaks its promise only where its clean-up fails, and that counts its runs.
+//! A target that breaks its promise only if its clean-up fails, and that counts its runs.
 ghost use Rattle.std.specs.Prelude.{◌<◌, ◌≤◌, length, codes};
 ghost use Rattle.std.proofs.Common.{rules};
 ghost use Rattle.grown_tests.specs.CleanUp.{point_names, asks_of, asks-within, asks-halts};
@@ -31,7 +31,7 @@ impl Runs {
     }
 }
 
-/// A target of one write, which is undone where it is refused.
+/// A target of one write, which is undone if it is refused.
 #[derive(Clone, Copy, Debug, Drop)]
 struct CleanUp;
 
@@ -125,7 +125,7 @@ fn faults_of_the_run_without_faults_never_meet_the_clean_up(rt: HostRuntime) -> 
     Ok(())
 }
 
-/// What a depth comes to on so many workers, and how often the target was run for it.
+/// What a depth comes to on this many workers, and how often the target was run for it.
 fn grown<R: Threads + Wait + Sync>(
     rt: &R,
     alloc: Global,
@@ -141,8 +141,8 @@ fn grown<R: Threads + Wait + Sync>(
     Ok((grown, runs.count.load(Ordering::SeqCst)))
 }
 
-/// To depth 1 the write fails or halts. To depth 2 the undo that follows fails, which is plan 3, or halts. Each plan is run once; and plan 3
-/// without each of its two faults, which tells that it is a cause.
+/// To depth 1 the write fails or halts. To depth 2 the undo that follows fails, which is plan 3, or halts. Each plan is run once. Plan 3 is also run
+/// without each of its two faults, which shows that it is a cause.
 #[test]
 fn a_clean_up_that_fails_is_found_at_depth_2(rt: HostRuntime) -> Result<(), Fail> {
     for workers in [1, 3] {

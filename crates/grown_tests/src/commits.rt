@@ -1,5 +1,5 @@
-//! How plans of the commit protocol grow, with two participants that vote yes on one transaction, where a commit record that is refused is
-//! tried once more: neither failure is met by one fault or two.
+//! How plans of the commit protocol grow, with two participants that vote yes on one transaction. A commit record that is refused is tried once more,
+//! so neither failure is met by one fault or two.
 
 use crate::growing::{Wanted, grown_on, have_grown, to_depth};
 use commit_target::{Commit, LOST, SPLIT, Transactions, Variant, Vote, Votes};
@@ -17,8 +17,8 @@ pub fn one_transaction(alloc: Global) -> Result<Transactions, AllocError> {
     Ok(Transactions::new(2, transactions))
 }
 
-/// After two refusals each participant is to be told commit. One that isn't, or that writes no record, inquires and is told abort; the other one
-/// has committed, but where the run halts before or the refusals go on.
+/// After two refusals each participant is to be told commit. One that isn't, or that writes no record, inquires and is told abort; the other has
+/// committed, unless the run halts before or the refusals go on.
 #[test]
 fn three_faults_split_and_lose_what_is_tried_twice(rt: HostRuntime) -> Result<(), Fail> {
     let alloc = rt.alloc();

@@ -1,4 +1,4 @@
-//! How plans of a delivery grow, of one message in the chunks `He` and `llo`, where both attempts write on what stands under one name.
+//! How plans of a delivery grow, of one message in the chunks `He` and `llo`. Both attempts write on at the end of what stands under one name.
 
 use crate::growing::{Wanted, grown_on, have_grown, to_depth};
 use chunked_text::Chunks;

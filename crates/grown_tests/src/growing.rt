@@ -1,4 +1,4 @@
-//! How a target's plans grow, and what is wanted of that.
+//! How a target's plans grow, and what is expected of that.
 ghost use Rattle.std.specs.Prelude.{◌≤◌};
 
 use grown_runs::{Conditions, Grown, Limits, grow};
@@ -11,7 +11,7 @@ use std::thread::Threads;
 use target_trait::{Target, Verdict};
 use work_gate::FreeGate;
 
-/// What plans of a depth come to that grew on so many workers, at most so many of them.
+/// What the plans of a depth come to, if they grow on this many workers and are at most this many.
 pub fn grown_on<T: Target + Send, R: Threads + Wait + Sync>(
     rt: &R,
     alloc: Global,
@@ -45,7 +45,7 @@ pub fn to_depth(depth: u32, workers: u32) -> Limits
     }
 }
 
-/// What is wanted of plans that grew.
+/// What is expected of plans that grew.
 #[derive(Drop)]
 pub struct Wanted<'a> {
     /// How many plans each level has.
@@ -56,7 +56,7 @@ pub struct Wanted<'a> {
     pub causes: &'a [(u32, u32)],
 }
 
-/// They grew as is wanted; there are as many plans, and verdicts, as that makes.
+/// They grew as expected, and there are as many plans and verdicts as that makes.
 pub fn have_grown(rt: &impl Abort, grown: &Grown, wanted: &Wanted<'_>) {
     assert_eq!(rt; grown.list.levels.as_slice(), wanted.levels);
     assert_eq!(rt; grown.list.onward, wanted.onward);

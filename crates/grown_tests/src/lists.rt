@@ -1,5 +1,5 @@
-//! Lists of plans, and which runs they take, where two participants vote yes on one transaction whose commit record is tried twice. The levels
-//! to three faults have 1, 26, 66 and 46 plans, three go onward, and the level after them has 20.
+//! Lists of plans, and which runs they take, if two participants vote yes on one transaction whose commit record is tried twice. The levels to three
+//! faults have 1, 26, 66 and 46 plans, three more plans have a sticky last fault, and the level after them has 20.
 
 use crate::commits::one_transaction;
 use crate::growing::to_depth;
@@ -16,7 +16,7 @@ use target_checks::Arrivals;
 /// How many plans the list to depth 3 has.
 const PLANS: u32 = 142;
 
-/// How many plans a list has that is looked at for so many, and who arrived at the gate for it.
+/// How many plans a list has if this many are looked for, and which plans arrived at the gate for it.
 fn listed<R: Threads + Wait + Sync>(
     rt: &R,
     alloc: Global,

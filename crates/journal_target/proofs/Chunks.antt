@@ -181,7 +181,7 @@ adds_on s x r a b p q h k = record {
   committed = k.committed ∙ ap (either q) h.committed ∙ either_on p q s.committed;
 }
 
--- where the same is found at both ends
+-- The same for scans that have found the same at both ends.
 adds_by : (s t x r : Scan) (a : ℕ) (p : Bool) → SameFound s t → Adds t x a p → SameFound r x → Adds s r a p
 adds_by s t x r a p h k i = record {
   whole = omega (arith, h.whole, k.whole, i.whole);

@@ -44,7 +44,7 @@ record Waits (w : List (List (List ℕ))) (acked : List ℕ) (lasting waiting : 
   waits : commits (i + 1) waiting ≡ true
   told : was_acknowledged acked (i + 1) ≡ false
 
--- of the transaction under way, by the step that comes next
+-- What holds of the transaction under way, by the step that comes next.
 abbrev Under : Step → List (List (List ℕ)) → List ℕ → List Chunk → List Chunk → ℕ → Type 0
 Under (Appending place) w acked lasting waiting i = Fresh acked lasting waiting i place × (place < count w i)
 Under SyncingRecords w acked lasting waiting i = Fresh acked lasting waiting i (count w i)
@@ -52,7 +52,7 @@ Under Committing w acked lasting waiting i = Fresh acked lasting waiting i (coun
 Under Syncing w acked lasting waiting i = Waits w acked lasting waiting i
 Under Over w acked lasting waiting i = Settled w acked lasting waiting i
 
--- of all
+-- What holds of the file and of all transactions.
 record Sturdy (w : List (List (List ℕ))) (p : Progress) : Type 0 where
   lasting : List Chunk
   waiting : List Chunk
@@ -172,7 +172,7 @@ step_after w acked a b i k false e few h =
     let same : k ≡ count w i = grind (arith, nat_tests, e, few) in
     subst (λ (n : ℕ). Fresh acked a b i n) same h
 
--- where a transaction is over, the next is begun
+-- If a transaction is over, the next is begun.
 record Between (w : List (List (List ℕ))) (p : Progress) : Type 0 where
   lasting : List Chunk
   waiting : List Chunk

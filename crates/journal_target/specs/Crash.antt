@@ -1,4 +1,5 @@
--- What a run asks, and what it leaves to the power cut at its end. And a workload and scenarios in which only a kept write shows a flaw.
+-- What a run of the journal asks, and what the power cut at its end keeps and judges. The example is a workload with scenarios in which only a kept
+-- write shows a flaw.
 use Rattle.std.specs.Prelude.{ℕ, List, [], ◌∷◌, Some, None, codes}
 use Rattle.scenario_values.specs.declared.term.Term.{Term}
 use Rattle.scenario_values.specs.declared.term.Task.{Task}
@@ -18,18 +19,18 @@ asks_of v w = asks_by (by_table (steps v w))
 abbrev pub cut_of : Variant → List (List (List ℕ)) → Cut
 cut_of v w = cut_by (steps v w) (cuts v w)
 
--- one transaction, of two records
+-- One transaction with two records.
 abbrev pub two_records : List (List (List ℕ))
 two_records = (codes "a" ∷ codes "bc" ∷ []) ∷ []
 
 abbrev pub once : Task → Term
 once what = record { share = 1000000; count = Some 1; task = what }
 
--- `journal::sync=1*panic`: the run halts at its first sync
+-- The scenario `journal::sync=1*panic`: the run halts at its first sync.
 abbrev pub sync_panics : Entries
 sync_panics = (codes "journal::sync", once (task.Panic None) ∷ []) ∷ []
 
--- the same, and of two records and the commit record behind them the cut keeps the third: `power::keep=2*off->1*return`
+-- The same, and of three pending appends the cut keeps the third, the commit record after two records: `power::keep=2*off->1*return`.
 abbrev pub commit_alone : Entries
 commit_alone = (codes "journal::sync", once (task.Panic None) ∷ [])
     ∷ (codes "power::keep", record { share = 1000000; count = Some 2; task = task.Off } ∷ once (task.Return None) ∷ []) ∷ []

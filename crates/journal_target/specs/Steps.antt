@@ -1,6 +1,5 @@
--- The journal, told by a table of its steps. The transactions of the workload are committed one after another: the records of each are
--- appended to one file, and the file is synced; then a commit record is appended, and the file is synced again. A step that fails gives the
--- transaction up, and the next is begun.
+-- The journal as a table of its steps. It commits the transactions of the workload one after another: it appends the records of each to one file and
+-- syncs the file; then it appends a commit record and syncs again. If a step fails, the journal gives the transaction up and begins the next.
 use Rattle.std.specs.Prelude.{ℕ, ◌+◌, nat_lt, if◌then◌else◌, Bool, List, [], ◌∷◌, ◌++◌, Option, Some, None, length}
 use Rattle.std.proofs.Common.{arith}
 use Rattle.target_trait.specs.declared.judgement.Judgement.{Judgement}
@@ -17,17 +16,17 @@ use Rattle.journal_target.specs.Frames.{record_frame, commit_frame, half}
 use Rattle.journal_target.specs.File.{File, appended_to, synced_file, left}
 use Rattle.journal_target.specs.Judgement.{judged_from}
 
--- how far a run has come
+-- How far a run has come.
 pub record Progress : Type 0 where
-  -- the step whose question comes next
+  -- The step that is asked for next.
   pub step : Step
-  -- the place of the transaction under way in the workload, from 0
+  -- The place in the workload of the transaction under way, from 0.
   pub index : ℕ
-  -- the numbers of the transactions acknowledged so far
+  -- The numbers of the transactions that are acknowledged by now.
   pub acknowledged : List ℕ
   pub file : File
 
--- transactions are numbered from 1, since lost bytes read as zeros
+-- Transactions are numbered from 1, since lost bytes read as zeros.
 abbrev pub number : Progress → ℕ
 number p = p.index + 1
 
@@ -47,21 +46,22 @@ acknowledged p = record { step = p.step; index = p.index; acknowledged = p.ackno
 
 -- ---- where the variants differ
 
--- after the last record: its records are synced before the commit record is appended. no_commit_record has none, and one_sync syncs both at once
+-- The step after the last record. The records are synced before the commit record is appended, except that `no_commit_record` has no commit record,
+-- and `one_sync` syncs both at once.
 abbrev pub last_step : Variant → Step
 last_step Sound = SyncingRecords
 last_step EarlyAck = SyncingRecords
 last_step NoCommitRecord = Syncing
 last_step OneSync = Committing
 
--- early_ack acknowledges once the commit record is appended
+-- `early_ack` acknowledges a transaction when its commit record is appended.
 abbrev pub commit_acknowledged : Variant → Progress → Progress
 commit_acknowledged Sound p = p
 commit_acknowledged EarlyAck p = acknowledged p
 commit_acknowledged NoCommitRecord p = p
 commit_acknowledged OneSync p = p
 
--- the others once it is synced
+-- The other variants acknowledge it after the last sync.
 abbrev pub sync_acknowledged : Variant → Progress → Progress
 sync_acknowledged Sound p = acknowledged p
 sync_acknowledged EarlyAck p = p
@@ -70,11 +70,11 @@ sync_acknowledged OneSync p = acknowledged p
 
 -- ---- between records and transactions
 
--- the record at this place of so many, or what follows the last
+-- The step for the record at this place of `count`, or the one after the last record.
 abbrev pub append_step : Variant → ℕ → ℕ → Step
 append_step v place count = if nat_lt place count then Appending place else last_step v
 
--- the transaction at this place is begun, if there is one
+-- The transaction at this place begins, if there is one.
 abbrev pub begun : Variant → List (List (List ℕ)) → ℕ → Progress → Progress
 begun v w n p =
     if nat_lt n (length w)
@@ -83,7 +83,7 @@ begun v w n p =
 
 -- ---- the table of steps
 
--- before a run the file is there, empty
+-- Before a run the file exists and is empty.
 abbrev pub before_all : Progress
 before_all = record { step = Over; index = 0; acknowledged = []; file = record { bytes = []; synced = 0; pending = [] } }
 
@@ -94,7 +94,7 @@ point_at Committing = Some append_commit_point
 point_at Syncing = Some sync_point
 point_at Over = None
 
--- what a step does where it is answered to go on
+-- What a step does if the answer is to go on.
 abbrev pub on_go : Variant → List (List (List ℕ)) → Progress → Step → Progress
 on_go v w p (Appending place) =
     at_step (append_step v (place + 1) (length (records_of w p.index))) (appended (record_frame (number p) (record_at w p.index place)) p)
@@ -103,7 +103,7 @@ on_go v w p Committing = at_step Syncing (commit_acknowledged v (appended (commi
 on_go v w p Syncing = begun v w (p.index + 1) (sync_acknowledged v (synced p))
 on_go v w p Over = p
 
--- what it does where it is answered that it fails: half of the frame is written, and the transaction is given up
+-- What a step does if the answer is that it fails: an append writes half of its frame, and the transaction is given up.
 abbrev pub on_fail : Variant → List (List (List ℕ)) → Progress → Step → Progress
 on_fail v w p (Appending place) = begun v w (p.index + 1) (appended (half (record_frame (number p) (record_at w p.index place))) p)
 on_fail v w p SyncingRecords = begun v w (p.index + 1) p
@@ -111,7 +111,7 @@ on_fail v w p Committing = begun v w (p.index + 1) (appended (commit_mark ∷ []
 on_fail v w p Syncing = begun v w (p.index + 1) p
 on_fail v w p Over = p
 
--- the power is cut, these pending appends are kept, and what is left is judged
+-- The power is cut, these pending appends are kept, and what is left is judged.
 abbrev pub judged : Variant → List (List (List ℕ)) → Progress → List Bool → Judgement
 judged v w p keep = judged_from v p.acknowledged (left p.file keep) 1 w
 
@@ -124,7 +124,7 @@ steps v w = record {
   judge = λ p. judged v w p [];
 }
 
--- each append since the last sync is pending
+-- Each append after the last sync is pending.
 abbrev pub cuts : Variant → List (List (List ℕ)) → CutTable Progress
 cuts v w = record {
   pending = λ p. length p.file.pending;
@@ -138,6 +138,6 @@ step_within j Committing = omega arith
 step_within j Syncing = omega arith
 step_within j Over = tt
 
--- each question is of one of the three points
+-- Each question is about one of the three points.
 pub steps-within : (v : Variant) (w : List (List (List ℕ))) (p : Progress) → IsWithin 3 (move_by ((steps v w).judge p) ((steps v w).point p))
 steps-within v w p = step_within (judged v w p []) p.step

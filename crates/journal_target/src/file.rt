@@ -1,14 +1,15 @@
+//! The journal's file, with what is pending.
 ghost use Rattle.std.specs.Prelude.{◌≡◌, ◌<◌, ◌+◌, ◌^◌, [], length, take, drop, OnOk};
 ghost use Rattle.journal_target.specs.File.{appended_to, synced_file};
 
 use std::alloc::{AllocError, Global};
 use std::marker::Model;
 
-/// The journal's file, on a disk with a cache: what was appended lasts once the file is synced. Until then each append is a write that is pending,
-/// and a power cut may keep it or lose it, whatever became of the others.
+/// The journal's file, on a disk with a cache: what was appended lasts once the file is synced. Until then each append is a pending write, and a
+/// power cut may keep it or lose it, whatever became of the others.
 ///
-/// `sim_device::CrashDevice` is such a disk, with names. To lay what is kept it takes memory, and a judgement can't say that memory was refused: so a
-/// scan reads what is left where it lies.
+/// `sim_device::CrashDevice` is such a disk, with names. But laying out what is kept takes memory there, and a judgement can't say that memory was
+/// refused. So here a scan reads what is left in place.
 #[derive(Drop)]
 pub struct File {
     bytes: Vec<u8>,
@@ -26,7 +27,7 @@ impl Model for File {
     ghost view = { λ f. record { bytes = f.bytes.items; synced = f.synced; pending = f.pending.items } };
 }
 
-/// The first so many bytes, or all where there are no more, and those behind them.
+/// The first `count` bytes, or all if there are no more, and the bytes behind them.
 pub fn split_front(bytes: &[u8], size: usize) -> (&[u8], &[u8])
     ensures front { result.0.now ≡ take size bytes.now }
     ensures behind { result.1.now ≡ drop size bytes.now }
@@ -47,6 +48,7 @@ impl File {
         }
     }
 
+    /// Appends bytes, which are pending then. An error means that memory was refused.
     pub fn append(&mut self, bytes: &[u8]) -> Result<(), AllocError>
         ensures { OnOk result (self.new ≡ appended_to self.old bytes.now) }
     {
@@ -55,6 +57,7 @@ impl File {
         Ok(())
     }
 
+    /// Makes everything that is there last.
     pub fn sync(&mut self)
         ensures { self.new ≡ synced_file self.old }
     {

@@ -1,4 +1,4 @@
-//! The functions that tell a journal, each an entry of its tables.
+//! The functions of a journal, each of which does what an entry of its tables says.
 ghost use Rattle.std.specs.Prelude.{◌≡◌, OnOk};
 ghost use Rattle.std.proofs.Common.{rules};
 ghost use Rattle.journal_target.specs.Words.{label, code_text, point_names};
@@ -23,9 +23,9 @@ const SYNC: u32 = 2;
 
 /// A write-ahead journal. Its setup, which is all that contracts see of it, is the variant. `ByTable` makes a target of it.
 ///
-/// A run commits the transactions of its workload one after another. The records of each are appended to one file, and the file is synced;
-/// then a commit record is appended, the file is synced again, and the transaction acknowledged. At the end the power is cut, which keeps any
-/// of the appends since the last sync, and what recovery finds in the file is judged: no acknowledged transaction may be missing, and no
+/// A run commits the transactions of its workload one after another. The records of a transaction are appended to one file, and the file is synced;
+/// then a commit record is appended, the file is synced again, and the transaction is acknowledged. At the end the power is cut, which keeps any of
+/// the appends since the last sync. Then it is judged what recovery finds in the file: no acknowledged transaction may be missing, and no
 /// half-written one may be taken for committed.
 #[derive(Drop)]
 pub struct Journal {
@@ -49,7 +49,7 @@ impl Journal {
         Journal { alloc, variant }
     }
 
-    /// The judgement of what a power cut leaves that keeps these pending appends.
+    /// The judgement of what is left by a power cut that keeps these pending appends.
     fn judged(&self, workload: &Transactions, progress: &Progress, kept: &[bool]) -> Judgement
         ensures { result ≡ judged self.now workload.now progress.now kept.now }
     {
@@ -67,7 +67,7 @@ fn acknowledge_commit(variant: Variant, progress: &mut Progress) -> Result<(), A
     }
 }
 
-/// After the sync of the commit record, or of all at once.
+/// After the sync of the commit record, or of everything at once.
 fn acknowledge_sync(variant: Variant, progress: &mut Progress) -> Result<(), AllocError>
     ensures { OnOk result (progress.new ≡ sync_acknowledged variant progress.old) }
 {

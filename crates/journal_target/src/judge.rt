@@ -35,7 +35,7 @@ fn judged_by(is_committed: bool, is_whole: bool, is_acknowledged: bool) -> Judge
     }
 }
 
-/// The judgement of a transaction of so many records.
+/// The judgement of a transaction with this many records.
 fn judged_one(
     variant: Variant,
     progress: &Progress,
@@ -54,7 +54,7 @@ fn judged_one(
     )
 }
 
-/// The judgement of what a power cut leaves of the file which keeps these pending appends, for these transactions, numbered from 1.
+/// The judgement of what is left of the file by a power cut that keeps these pending appends, for these transactions, numbered from 1.
 pub fn judged_all(
     variant: Variant,
     progress: &Progress,

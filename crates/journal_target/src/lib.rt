@@ -1,4 +1,4 @@
-//! A write-ahead journal, as a target that is told by a table of its steps, in four variants: the one that docs/OWN_TARGET.md builds.
+//! A write-ahead journal, as a target that is given by a table of its steps, in four variants: the one that docs/OWN_TARGET.md builds.
 #![tactic(auto)]
 
 mod file;

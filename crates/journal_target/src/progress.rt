@@ -20,7 +20,7 @@ fn last_step(variant: Variant) -> Step
     }
 }
 
-/// The step for the record at this place of so many, or what follows the last.
+/// The step for the record at this place, of this many; or the step after the last record.
 fn append_step(variant: Variant, place: usize, count: usize) -> Step
     ensures { result ≡ append_step variant place count }
 {
@@ -31,7 +31,7 @@ fn append_step(variant: Variant, place: usize, count: usize) -> Step
     }
 }
 
-/// The step after the record at this place of so many.
+/// The step after the record at this place, of this many.
 fn next_step(variant: Variant, place: usize, count: usize) -> Step
     ensures { result ≡ append_step variant (place + 1) count }
 {
@@ -43,7 +43,7 @@ fn next_step(variant: Variant, place: usize, count: usize) -> Step
     }
 }
 
-/// How far a run has come: the step whose question comes next, the transaction under way, those that were acknowledged, and the file.
+/// How far a run has come: the step that is asked for next, the transaction under way, the transactions that were acknowledged, and the file.
 #[derive(Drop)]
 pub struct Progress {
     step: Step,
@@ -76,7 +76,7 @@ impl Progress {
         }
     }
 
-    /// The step whose question comes next.
+    /// The step that is asked for next.
     pub fn step(&self) -> Step
         ensures { result ≡ self.now.step }
     {
@@ -111,19 +111,21 @@ impl Progress {
         &self.file
     }
 
+    /// Appends bytes to the file. An error means that memory was refused.
     pub fn append(&mut self, bytes: &[u8]) -> Result<(), AllocError>
         ensures { OnOk result (self.new ≡ appended bytes.now self.old) }
     {
         self.file.append(bytes)
     }
 
+    /// Syncs the file.
     pub fn sync(&mut self)
         ensures { self.new ≡ synced self.old }
     {
         self.file.sync();
     }
 
-    /// The transaction under way is acknowledged.
+    /// Acknowledges the transaction under way.
     pub fn acknowledge(&mut self) -> Result<(), AllocError>
         ensures { OnOk result (self.new ≡ acknowledged self.old) }
     {
@@ -132,13 +134,14 @@ impl Progress {
         Ok(())
     }
 
+    /// Goes on to a step.
     pub fn go_to(&mut self, step: Step)
         ensures { self.new ≡ at_step step self.old }
     {
         self.step = step;
     }
 
-    /// Goes on after the record at this place of so many.
+    /// Goes on after the record at this place, of this many.
     pub fn go_after(&mut self, variant: Variant, place: usize, count: usize)
         ensures { self.new ≡ at_step (append_step variant (place + 1) count) self.old }
     {

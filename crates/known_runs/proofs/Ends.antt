@@ -1,4 +1,4 @@
--- Where nothing is left to be run, the part of a list that is known is the whole list; and no plan is to be run twice.
+-- If nothing is left to be run, the part of a list that is known is the whole list; and no plan is to be run twice.
 use Rattle.std.proofs.Common.{◌≡◌, ◌≢◌, ℕ, zero, suc, ◌+◌, ◌≤◌, length, ◌&&◌, Bool, true, false, cond, List, [], ◌∷◌, ◌++◌, refl, ap, sym, ◌∙◌, arith}
 use Rattle.std.specs.Prelude.{Contains, Option, Some, None, is_none}
 use Rattle.std.specs.List.{AllByRecursion, filter}
@@ -47,7 +47,7 @@ both : (a b : Bool) → a ≡ true → b ≡ true → (a && b) ≡ true
 both true b e f = f
 both false b e f = absurd cc
 
--- what is told of a run, and not without its hits, is told with them
+-- A run that is recorded, and not without its hits, is recorded with them.
 with_hits : (o : Option Told) → is_none o ≡ false → is_without_hits o ≡ false → are_told (hits_told o) ≡ true
 with_hits None e f = absurd cc
 with_hits (Some told) e f = by_hits told.hits f
@@ -107,7 +107,7 @@ onward_reached t d known h =
     let one : is_reached known plan ≡ true = all_contains (λ (p : List Rig). is_reached known p ≡ true) (level t d) plan reached c in
     of_leaf t known plan (h plan (level_in_levels t d d plan (omega arith) c) one) one))
 
--- the hits of each known plan are told
+-- The hits of each known plan are recorded.
 pub all_seen : (t : Subject) (d : ℕ) (known : KnownRuns) → to_run t d known ≡ [] → unseen t d known ≡ [] → AllByRecursion (λ plan. are_told (hits_of known plan) ≡ true) (known_part t d known)
 all_seen t d known e f =
     all_weaker (λ (plan : List Rig). (is_none (known plan) ≡ false) × (is_unseen known plan ≡ false)) (λ (plan : List Rig). are_told (hits_of known plan) ≡ true)

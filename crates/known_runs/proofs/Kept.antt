@@ -143,7 +143,7 @@ next_level kinds known n l are =
 next_size : (kinds : ℕ → List Kind) (known : KnownRuns) (n : ℕ) (l : GrownLevels) → KnownLevels kinds known n l → length (kept_over kinds known l.plans l.last (length l.plans - l.last)) ≡ length (level_known kinds known (suc n))
 next_size kinds known n l are = sym (length-map (kept_over kinds known l.plans l.last (length l.plans - l.last)) (plan_of l.plans)) ∙ ap length (next_level kinds known n l are)
 
--- and those of its plans that go onward
+-- And the plans of that level once more with a sticky last fault.
 leaves_are : (kinds : ℕ → List Kind) (known : KnownRuns) (d : ℕ) (l : GrownLevels) → KnownLevels kinds known d l → onward_over known l.plans l.last (length l.plans - l.last) ≡ behind_known kinds known d
 leaves_are kinds known d l are =
     let s = split kinds known d l are in
@@ -192,9 +192,9 @@ part_short kinds known d =
     (all_weaker (λ (plan : List Rig). length plan ≤ d) (λ (plan : List Rig). Short d (onward_told plan (hits_of known plan))) (λ plan le. leaf_short d plan (hits_of known plan) le) (level_known kinds known d)
     (level_short kinds known d)))
 
--- ---- the whole list, of each subject that agrees
+-- ---- the whole list, for each subject that agrees
 
--- how many plans each level has, and how many go onward
+-- How many plans each level has, and how many have a sticky last fault.
 size_of : (kinds : ℕ → List Kind) (known : KnownRuns) (d n : ℕ) (t : Subject) → IsLawful t → t.kinds ≡ kinds → Agrees t d known → n ≤ d + 1 → length (level_known kinds known n) ≡ level_size t known n
 size_of kinds known d n t lawful usual agrees le = ap length (ap (λ (ks : ℕ → List Kind). level_known ks known n) (sym usual) ∙ sym (level_is t lawful d n known agrees le))
 
@@ -233,7 +233,7 @@ known_short kinds known d k h = subst (λ (ps : List (List Rig)). AllByRecursion
 
 -- ---- how many there are
 
--- where a level has no room, the levels of the whole depth have none
+-- If a level has no room, the levels of the whole depth have none.
 pub no_room : (kinds : ℕ → List Kind) (known : KnownRuns) (n d most : ℕ) → n < d → most < length (levels_known kinds known (suc n)) → most < length (levels_known kinds known d)
 no_room kinds known n d most lt many =
     let more = levels_more (level_known kinds known) (suc n) (d - suc n) in

@@ -6,3 +6,4 @@ pub mod Kept
 pub mod Ends
 pub mod Seen
 pub mod Breaking
+pub mod Found

@@ -1,4 +1,4 @@
--- Plans that grow from what is told of runs are the part of the subject's list that is known.
+-- Plans that grow from what is recorded of runs are the part of the subject's list that is known.
 use Rattle.std.proofs.Common.{◌≡◌, ℕ, zero, suc, ◌+◌, ◌≤◌, ◌&&◌, Bool, true, false, cond, List, [], ◌∷◌, ◌++◌, refl, ap, sym, ◌∙◌, arith}
 use Rattle.std.specs.Prelude.{Contains, flat_map, Option, Some, None}
 use Rattle.std.specs.List.{AllByRecursion, filter}
@@ -36,7 +36,7 @@ filter_flat {A} {B} p q f g (x ∷ xs) a =
     by_test true = refl
     by_test false = refl
 
--- where hits are told, what grows by them; else nothing
+-- If hits are recorded, what grows by them; otherwise nothing.
 by_hits : {A : Type 0} (o : Option (List ℕ)) (reached : Bool) (all : List A) (grows : Option (List ℕ) → List A) → grows None ≡ [] → ((hits : List ℕ) → o ≡ Some hits → all ≡ grows (Some hits))
     → cond (are_told o && reached) all [] ≡ cond reached (grows o) []
 by_hits None true all grows none some = sym none
@@ -77,7 +77,7 @@ levels_is t l d (suc n) known a le =
     ∙ ap (λ (x : List (List Rig)). x ++ filter (is_reached known) (level t (suc n))) (levels_is t l d n known a (omega (arith, le)))
     ∙ ap (λ (x : List (List Rig)). levels_known t.kinds known n ++ x) (level_is t l d (suc n) known a (omega (arith, le)))
 
--- ---- those from then on
+-- ---- plans with a sticky last fault
 
 filter_one : {A : Type 0} (q : A → Bool) (y : A) (b : Bool) → filter q (cond b (y ∷ []) []) ≡ cond (q y) (cond b (y ∷ []) []) []
 filter_one q y b = by_tests b (q y) refl

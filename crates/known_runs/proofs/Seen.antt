@@ -1,4 +1,4 @@
--- What a known part of a list promises where nothing of it is left to be run: a plan that isn't known has a tail that nobody has seen.
+-- What a known part of a list promises if nothing of it is left to be run: a plan that isn't known has a tail that nobody has seen.
 use Rattle.std.proofs.Common.{◌≡◌, ◌≢◌, ℕ, zero, suc, ◌+◌, ◌<◌, ◌≤◌, ◌⊎◌, inl, inr, length, ◌&&◌, Bool, true, false, cond, List, [], ◌∷◌, ◌++◌, refl, ap, sym, ◌∙◌, subst, arith, append_assoc}
 use Rattle.std.specs.Prelude.{Contains, Option, Some, None, is_none, flat_map}
 use Rattle.std.specs.List.{AllByRecursion, filter}
@@ -124,7 +124,7 @@ pub record Leaves (t : Subject) (r : Rig) (rs : List Rig) : Type 0 where
   pub still : AllGo past
   pub still_own : AllGo rest
 
--- a hit's place in a run is told by the hit
+-- A hit's place in a run follows from the hit.
 pub same_place : (s : Site) (b c : List Met) (m n : Met) (x y : List Met) → b ++ m ∷ x ≡ c ++ n ∷ y → m.site ≡ s → n.site ≡ s → Fresh s b → Fresh s c → (b ≡ c) × (x ≡ y)
 same_place s [] [] m n x y e f g u v = (refl, let rest : x ≡ y = cc in rest)
 same_place s [] (z ∷ c) m n x y e f g u v = absurd (v.0 (ap (λ (k : Met). k.site) (let h : z ≡ m = cc in h) ∙ f))
@@ -249,7 +249,7 @@ begins_like_tail t l (suc n) (r ∷ front) plan c =
     (begins_on t plan (run_of_plan t (front ++ plan)) e.before (met r.site Go ∷ e.past) (met r.site (reply_by r.kind) ∷ e.rest)
     (begins_like_tail t l n front plan (tail_in_level t n r (front ++ plan) c)) e.parent (refl, e.still))
 
--- ---- a plan whose last fault is from then on begins like that with this fault once
+-- ---- the run of a plan with a sticky last fault begins like that of the plan with this fault once
 
 pub record IsTurned (t : Subject) (d : ℕ) (plan : List Rig) : Type 0 where
   pub r : Rig
@@ -341,7 +341,7 @@ untold_tail t known (suc n) (r ∷ rs) c e =
     by_tests further false true f g h =
         record { front = r ∷ []; tail = rs; at = n; below = omega arith; split = refl; in_level = tail_in_level t n r rs c; reached = g; untold = f }
 
--- ---- where nothing is left to be run, that tail is unseen
+-- ---- if nothing is left to be run, that tail is unseen
 
 without_hits : (o : Option Told) → is_none o ≡ false → are_told (hits_told o) ≡ false → is_without_hits o ≡ true
 without_hits None e f = absurd cc
@@ -424,7 +424,7 @@ module _ (t : Subject) (l : IsLawful t) (d : ℕ) (known : KnownRuns) (done : to
   second true b e = e
   second false b e = absurd cc
 
-  -- where no plan of the next level is known, none of a later one is
+  -- if no plan of the next level is known, none of a later one is
   no_longer : level_size t known (d + 1) ≡ 0 → (n : ℕ) (plan : List Rig) → Contains (level t n) plan → is_reached known plan ≡ true → n ≤ d
   no_longer none zero plan c e = omega arith
   no_longer none (suc n) [] c e = absurd (not_empty t n c)
@@ -450,7 +450,7 @@ module _ (t : Subject) (l : IsLawful t) (d : ℕ) (known : KnownRuns) (done : to
           let u = untold_tail t known n plan at e in
           inr (begins_unseen n plan at u (no_longer none u.at u.tail u.in_level u.reached))
 
-  -- ---- from then on
+  -- ---- sticky faults
 
   abbrev FoundOr : List Rig → Type 0
   FoundOr plan = Contains (known_part t d known) plan ⊎ BeginsUnseen t d known (run_of_plan t plan)

@@ -1,4 +1,4 @@
--- The hits of a plan's run, by the points that are told of it.
+-- The hits of a plan's run, by the points that are recorded of it.
 use Rattle.std.proofs.Common.{◌≡◌, ℕ, Bool, true, false, cond, List, [], ◌∷◌, ◌++◌, map, refl, ap, sym, ◌∙◌}
 use Rattle.std.specs.Prelude.{Contains, Option, Some, None, IfSome}
 use Rattle.action_eval.specs.declared.rig.Site.{Site}
@@ -29,7 +29,7 @@ pub plan_asked : (t : Subject) (plan : List Rig) → points_met (run_of_plan t p
 unfolding run_of_plan
 plan_asked t plan = asked_met t.asks (given_for t plan 0 0)
 
--- what a plan's run asks is what is told of it
+-- What a plan's run asks is what is recorded of it.
 pub asked_told : (t : Subject) (plan : List Rig) (hits : List ℕ) → points_met (run_of_plan t plan) ≡ hits → (outcome t.asks (given_for t plan 0 0)).asked ≡ hits
 unfolding run_of_plan
 asked_told t plan hits e = sym (asked_met t.asks (given_for t plan 0 0)) ∙ e
@@ -50,11 +50,11 @@ past_sites : (plan : List Rig) (ms : List Met) → sites_of (hits_past plan ms) 
 past_sites [] ms = refl
 past_sites (r ∷ rs) ms = after_sites r.site ms
 
--- the hits past a plan's last fault, by what is told of its run
+-- The hits past a plan's last fault, by what is recorded of its run.
 pub past_told : (t : Subject) (plan : List Rig) (hits : List ℕ) → points_met (run_of_plan t plan) ≡ hits → sites_past plan (sites_from [] hits) ≡ sites_of (hits_past plan (run_of_plan t plan))
 past_told t plan hits e = ap (sites_past plan) (sym (sites_told t plan hits e)) ∙ sym (past_sites plan (run_of_plan t plan))
 
--- ---- what is told of a plan of the list
+-- ---- what is recorded of a plan of the list
 
 told_true : (t : Subject) (plan : List Rig) (o : Option Told) (hits : List ℕ) → IfSome o (IsTrueOf t plan) → hits_told o ≡ Some hits → points_met (run_of_plan t plan) ≡ hits
 told_true t plan None hits h e = absurd cc

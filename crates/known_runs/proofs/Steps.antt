@@ -73,7 +73,7 @@ pub goes_on : (known : KnownRuns) (rigs : List Rig) (d left less : ℕ) (plan lo
 goes_on known rigs d left less plan longer r e is l h =
     ap (walk_from known rigs less) is ∙ sym (one_step known rigs less plan r h) ∙ ap (λ (n : ℕ). walk_from known rigs n plan) (sym e) ∙ l
 
--- the same by what a step tells
+-- The same by what a step says.
 told_step : (known : KnownRuns) (rigs plan plan' : List Rig) (s x : Step) → plan' ≡ plan → s ≡ x → IsStep known rigs plan' s → IsStep known rigs plan x
 told_step known rigs plan plan' s x e is h = subst (λ (p : List Rig). IsStep known rigs p x) e (subst (λ (y : Step). IsStep known rigs plan' y) is h)
 
@@ -104,7 +104,7 @@ pub walk_ends : (known : KnownRuns) (rigs : List Rig) (d left : ℕ) (plan plan'
 walk_ends known rigs d left plan plan' o e zeroth is l =
     is ∙ ap (λ (p : List Rig). verdict_at known (walk_from known rigs 0 p)) e ∙ ap (λ (n : ℕ). verdict_at known (walk_from known rigs n plan)) (sym zeroth) ∙ ap (verdict_at known) l
 
--- ---- the plan from then on
+-- ---- the plan with a sticky last fault
 
 none_onward : (plan : List Rig) (b : Bool) → onward_if (b && false) plan ≡ []
 none_onward plan true = refl
@@ -166,7 +166,7 @@ sees_alike known rigs plan hits s v children b is h kept alike =
     by_test true k = sym (ap verdict_told k)
     by_test false k = refl
 
--- the one plan from then on, or none
+-- The one plan with a sticky last fault, or none.
 pub no_onward : (known : KnownRuns) (rigs plan : List Rig) → onward_told plan (hits_of known plan) ≡ [] → None ≡ verdict_at known (onward_walked known rigs plan)
 no_onward known rigs plan e = sym (ap (λ (ps : List (List Rig)). verdict_at known (alike_of known rigs ps)) e)
 

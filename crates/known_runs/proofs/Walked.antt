@@ -38,7 +38,7 @@ AllGo ms = AllByRecursion (λ m. m.reply ≡ Go) ms
 abbrev answers : List Rig → Site → Reply
 answers rigs s = rigged_reply rigs s.point s.hit
 
--- ---- where a rigged hit acts first
+-- ---- the first hit at which a rigged hit acts
 
 record Found (rigs : List Rig) (s : Site) (r : Rig) : Type 0 where
   in' : Contains rigs r
@@ -224,7 +224,7 @@ record Came (t : Subject) (d : ℕ) (rigs plan : List Rig) : Type 0 where
   in' : Contains (grown t d) plan
   is : IsRunOf t rigs plan
 
--- ---- the plan from then on
+-- ---- the plan with a sticky last fault
 
 texts_reply : (a b : Option (List ℕ)) → is_same_text a b ≡ true → Return a ≡ Return b
 texts_reply a b e = ap (λ (text : Option (List ℕ)). Return text) (same_text a b e)

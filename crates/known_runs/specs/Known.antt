@@ -1,4 +1,4 @@
--- Runs of plans that are known, as whoever ran them tells.
+-- Recorded runs of plans, and which subjects agree with them.
 use Rattle.std.specs.Prelude.{◌≡◌, ℕ, List, Option, None, Some, IfSome, map}
 use Rattle.std.specs.List.{AllByRecursion}
 use Rattle.action_eval.specs.declared.rig.Rig.{Rig}
@@ -7,12 +7,12 @@ use Rattle.grown_plans.specs.Runs.{Met}
 use Rattle.grown_plans.specs.GrownPlans.{Subject, run_of_plan, grown}
 use Rattle.grown_plans.specs.Promises.{verdict_of_plan}
 
--- what is told of a run: its verdict, and the points of its hits in order, where these are known
+-- What is recorded of a run: its verdict, and the points of its hits in order, if these are known.
 pub record Told : Type 0 where
   pub verdict : Verdict
   pub hits : Option (List ℕ)
 
--- what is told of a plan's run, where it is known
+-- The recorded run of each plan, if there is one.
 abbrev pub KnownRuns : Type 0
 KnownRuns = List Rig → Option Told
 
@@ -20,19 +20,19 @@ abbrev pub hits_told : Option Told → Option (List ℕ)
 hits_told None = None
 hits_told (Some told) = told.hits
 
--- the points of the hits of a plan's run, where they are known
+-- The points of the hits of a plan's run, if they are known.
 abbrev pub hits_of : KnownRuns → List Rig → Option (List ℕ)
 hits_of known plan = hits_told (known plan)
 
--- the points of a run's hits, in order
+-- The points of a run's hits, in order.
 abbrev pub points_met : List Met → List ℕ
 points_met ms = map (λ m. m.site.point) ms
 
--- what is told of a plan is true of a subject, under whatever seed and stream number the plan is run
+-- What is recorded of a plan is true of a subject, under whatever seed and stream number the plan is run.
 pub record IsTrueOf (t : Subject) (plan : List Rig) (told : Told) : Type 0 where
   pub verdict : (seed stream : ℕ) → verdict_of_plan t seed stream plan ≡ told.verdict
   pub hits : IfSome told.hits (λ points. points_met (run_of_plan t plan) ≡ points)
 
--- a subject agrees with what is known: of each plan of its list to a depth what is told is true
+-- A subject agrees with recorded runs: each run that is recorded for a plan of its list to a depth is true of it.
 abbrev pub Agrees : Subject → ℕ → KnownRuns → Type 0
 Agrees t d known = AllByRecursion (λ plan. IfSome (known plan) (IsTrueOf t plan)) (grown t d)

@@ -1,4 +1,4 @@
--- The part of a subject's list of plans that is known by what is told of runs, and what of it is still to be run.
+-- The part of a subject's list of plans that recorded runs make known, and which of its plans are still to be run.
 use Rattle.std.specs.Prelude.{ℕ, ◌&&◌, Bool, true, false, List, [], ◌∷◌, ◌++◌, Option, None, Some, is_none}
 use Rattle.std.specs.List.{filter}
 use Rattle.action_eval.specs.declared.rig.Rig.{Rig}
@@ -11,12 +11,12 @@ abbrev pub are_told : {A : Type 0} → Option A → Bool
 are_told None = false
 are_told (Some x) = true
 
--- the hits of each plan that a plan grew from are known; then it is known that the plan is one
+-- The hits of each plan that this one grew from are known. So it is known that this plan is in the list.
 abbrev pub is_reached : KnownRuns → List Rig → Bool
 is_reached known [] = true
 is_reached known (r ∷ rs) = are_told (hits_of known rs) && is_reached known rs
 
--- the plan from which one with its last fault from then on comes: that with this fault once
+-- The plan that one with a sticky last fault comes from: the same with this fault once.
 abbrev pub once_of : List Rig → List Rig
 once_of [] = []
 once_of (r ∷ rs) = rig r.site (OnceReturn (text_of r.kind)) ∷ rs
@@ -24,13 +24,13 @@ once_of (r ∷ rs) = rig r.site (OnceReturn (text_of r.kind)) ∷ rs
 abbrev pub is_reached_onward : KnownRuns → List Rig → Bool
 is_reached_onward known plan = are_told (hits_of known (once_of plan)) && is_reached known (once_of plan)
 
--- the part of a subject's list to a depth that is known by now, in its order
+-- The known plans of the levels to a depth, in the order of the list.
 abbrev pub known_levels : Subject → ℕ → KnownRuns → List (List Rig)
 known_levels t d known = filter (is_reached known) (levels t d)
 
 abbrev pub known_part : Subject → ℕ → KnownRuns → List (List Rig)
 known_part t d known = known_levels t d known ++ filter (is_reached_onward known) (onward t d)
 
--- and of it what is still to be run
+-- The known plans that are still to be run.
 abbrev pub to_run : Subject → ℕ → KnownRuns → List (List Rig)
 to_run t d known = filter (λ plan. is_none (known plan)) (known_part t d known)

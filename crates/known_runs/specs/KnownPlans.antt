@@ -6,11 +6,11 @@ use Rattle.known_runs.specs.Known.{KnownRuns}
 use Rattle.known_runs.specs.KnownPart.{is_reached, is_reached_onward, known_part}
 use Rattle.grown_plans.specs.declared.grown_list.GrownList.{GrownList}
 
--- how many plans of a level are known
+-- How many plans of a level are known.
 abbrev pub level_size : Subject → KnownRuns → ℕ → ℕ
 level_size t known n = length (filter (is_reached known) (level t n))
 
--- of a subject's list to a depth
+-- These are the known plans of a subject's list to a depth, with the known size of each level and of the one after the last.
 pub record AreKnown (t : Subject) (d : ℕ) (known : KnownRuns) (k : GrownList) : Type 0 where
   pub plans : k.plans ≡ known_part t d known
   pub levels : k.levels.items ≡ map (level_size t known) (range_with_len 0 (d + 1))

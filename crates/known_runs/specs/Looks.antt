@@ -1,4 +1,4 @@
--- What a look into a table of runs tells.
+-- What a look into a table of recorded runs finds.
 use Rattle.std.specs.Prelude.{◌≡◌, ℕ, List, Option, None, Some}
 use Rattle.target_trait.specs.declared.judgement.Verdict.{Verdict}
 use Rattle.known_runs.specs.Known.{Told}
@@ -8,7 +8,7 @@ use Rattle.known_runs.specs.declared.table.Look.TheVariants as look
 abbrev pub told : Verdict → Option (List ℕ) → Told
 told verdict hits = record { verdict = verdict; hits = hits }
 
--- what is told of a run, the points of whose hits are these, where they are told
+-- A look finds what is recorded of a run. If it finds hits, these are their points.
 abbrev pub IsLook : Option Told → List ℕ → Look → Type 0
 IsLook o hits look.Unknown = o ≡ None
 IsLook o hits (look.Unseen verdict) = o ≡ Some (told verdict None)

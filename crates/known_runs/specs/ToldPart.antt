@@ -1,4 +1,4 @@
--- The list of plans as it grows from the hits that are told, whoever asks: of each subject that agrees it is the known part of the list.
+-- The list of plans as it grows from recorded hits alone. For each subject that agrees with them it is the known part of the subject's list.
 use Rattle.std.specs.Prelude.{ℕ, zero, suc, List, [], ◌∷◌, ◌++◌, Option, None, Some}
 use Rattle.std.specs.List.{flat_map}
 use Rattle.action_eval.specs.declared.rig.Rig.{Rig}
@@ -7,7 +7,7 @@ use Rattle.grown_plans.specs.AskedPoints.{children_by, onward_by}
 use Rattle.grown_plans.specs.GrownPlans.{levels_to}
 use Rattle.known_runs.specs.Known.{KnownRuns, hits_of}
 
--- the children of a plan whose hits are told
+-- The children of a plan whose hits are recorded.
 abbrev pub children_told : (ℕ → List Kind) → List Rig → Option (List ℕ) → List (List Rig)
 children_told kinds plan None = []
 children_told kinds plan (Some hits) = children_by kinds plan hits
@@ -22,7 +22,7 @@ level_known kinds known (suc n) = flat_map (children_known kinds known) (level_k
 abbrev pub levels_known : (ℕ → List Kind) → KnownRuns → ℕ → List (List Rig)
 levels_known kinds known d = levels_to (level_known kinds known) d
 
--- and the plan with its last fault from then on
+-- The plan with its last fault sticky, if that is a return and its point is hit again in the recorded hits.
 abbrev pub onward_told : List Rig → Option (List ℕ) → List (List Rig)
 onward_told plan None = []
 onward_told plan (Some hits) = onward_by plan hits

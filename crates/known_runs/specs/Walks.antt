@@ -1,5 +1,6 @@
--- What rigged hits come to, by runs that are known: from the plan without faults a walk follows which rigged hit acts next in the run of the
--- plan that it has come to. Where more act than plans have faults, it may end at the plan with its last fault from then on.
+-- What rigged hits come to, by recorded runs. A walk starts at the plan without faults. It looks up which rigged hit acts next in the run of the plan
+-- that it has come to, and goes on to the plan with that fault too. If more of them act than plans have faults, it may end at a plan with a sticky
+-- last fault.
 use Rattle.std.specs.Prelude.{ℕ, zero, suc, ◌&&◌, Bool, true, false, not, if◌then◌else◌, List, [], ◌∷◌, Option, None, Some, find, option_map}
 use Rattle.std.specs.List.{list_all}
 use Rattle.action_eval.specs.declared.rig.Site.{Site}
@@ -13,13 +14,13 @@ use Rattle.target_trait.specs.declared.judgement.Verdict.{Verdict}
 use Rattle.known_runs.specs.Known.{KnownRuns, Told, hits_of}
 use Rattle.known_runs.specs.ToldPart.{onward_told}
 
--- what a fault does at one hit at which it acts: one from then on returns, with its text
+-- What a fault does at one hit at which it acts: a sticky one returns, with its text.
 abbrev pub once : Kind → Kind
 once (OnceReturn text) = OnceReturn text
 once (OnwardReturn text) = OnceReturn text
 once OncePanic = OncePanic
 
--- at the first of these hits at which a rigged one acts, what it does there
+-- The first of these hits at which a rigged one acts, with what that does there.
 abbrev pub acting_by : Site → Option Rig → Option Rig → Option Rig
 acting_by s None later = later
 acting_by s (Some r) later = Some (rig s (once r.kind))
@@ -28,7 +29,7 @@ abbrev pub first_acting : List Rig → List Site → Option Rig
 first_acting rigs [] = None
 first_acting rigs (s ∷ ss) = acting_by s (find (acts_at s.point s.hit) rigs) (first_acting rigs ss)
 
--- the next fault that acts in the run of a plan: nobody knows, none, or this one
+-- What acts next in the run of a plan: nobody knows, nothing, or this fault.
 pub data Next : Type 0 where
   Unknown : Next
   Nothing : Next
@@ -42,15 +43,15 @@ abbrev pub next_told : List Rig → List Rig → Option (List ℕ) → Next
 next_told rigs plan None = Unknown
 next_told rigs plan (Some hits) = next_of (first_acting rigs (sites_past plan (sites_from [] hits)))
 
--- the plan that rigged hits come to with at most so many more faults, where known runs lead there
+-- The plan that a walk comes to from this one, given what acts next: none if nobody knows that, this plan if nothing acts.
 abbrev pub walk_on : (List Rig → Option (List Rig)) → List Rig → Next → Option (List Rig)
 walk_on further plan Unknown = None
 walk_on further plan Nothing = Some plan
 walk_on further plan (Acts r) = further (r ∷ plan)
 
--- ---- from then on
+-- ---- sticky faults
 
--- what rigged hits do at a hit
+-- What rigged hits do at a hit.
 abbrev pub doing : List Rig → Site → Option Kind
 doing rigs s = option_map (λ r. r.kind) (find (acts_at s.point s.hit) rigs)
 
@@ -59,7 +60,7 @@ is_return (OnceReturn text) = true
 is_return (OnwardReturn text) = true
 is_return OncePanic = false
 
--- two faults are answered alike: both return with the same text, or both stop
+-- Two faults do the same: both return with the same text, or both panic.
 abbrev pub are_alike : Kind → Kind → Bool
 are_alike a b = if is_return a then is_return b && is_same_text (text_of a) (text_of b) else not (is_return b)
 
@@ -69,11 +70,11 @@ is_alike None (Some b) = false
 is_alike (Some a) None = false
 is_alike (Some a) (Some b) = are_alike a b
 
--- rigged hits do the same at each of these hits as others
+-- Two lists of rigged hits do the same at each of these hits.
 abbrev pub do_alike : List Rig → List Rig → List Site → Bool
 do_alike rigs others ss = list_all (λ s. is_alike (doing rigs s) (doing others s)) ss
 
--- a plan whose run is told, where rigged hits do the same at each of its hits
+-- The plan, if its hits are recorded and the rigged hits do the same as the plan at each of them.
 abbrev pub if_alike : List Rig → List Rig → Option (List ℕ) → Option (List Rig)
 if_alike rigs plan None = None
 if_alike rigs plan (Some hits) = if do_alike rigs plan (sites_from [] hits) then Some plan else None
@@ -82,7 +83,7 @@ abbrev pub alike_of : KnownRuns → List Rig → List (List Rig) → Option (Lis
 alike_of known rigs [] = None
 alike_of known rigs (plan ∷ plans) = if_alike rigs plan (hits_of known plan)
 
--- of a plan the one with its last fault from then on, where that is such a plan
+-- The plan with its last fault sticky, if there is one and the rigged hits do the same at each hit of its run.
 abbrev pub onward_walked : KnownRuns → List Rig → List Rig → Option (List Rig)
 onward_walked known rigs plan = alike_of known rigs (onward_told plan (hits_of known plan))
 
@@ -95,7 +96,7 @@ walk_from known rigs (suc n) plan = walk_on (walk_from known rigs n) plan (next_
 abbrev pub walk : KnownRuns → List Rig → ℕ → Option (List Rig)
 walk known rigs d = walk_from known rigs d []
 
--- the verdict that rigged hits come to, where known runs tell it
+-- The verdict that rigged hits come to, if recorded runs give one.
 abbrev pub verdict_told : Option Told → Option Verdict
 verdict_told None = None
 verdict_told (Some told) = Some told.verdict

@@ -1,20 +1,20 @@
-//! Where a run breaks with the one that it ought to begin like.
+//! Finds the first hit at which a run doesn't go as the run that it ought to begin like.
 ghost use Rattle.std.specs.Prelude.{◌≡◌, ◌+◌, ◌<◌, ◌^◌, length};
 ghost use Rattle.known_runs.specs.Breaks.{break_of, shared_to};
 ghost use Rattle.known_runs.specs.inside.BreakSteps.{met_more};
 
 use action_eval::{Kind, Rig, Site};
 
-/// How the run of a plan breaks with the one that it begins like.
+/// How the run of a plan breaks with that of its forerunner, which it ought to begin like.
 #[derive(Clone, Copy, Debug, PartialEq, Eq)]
 pub enum Break {
-    /// This hit, from 1, is of another point.
+    /// The hit of this number, from 1, is of another point.
     Differs(u32),
-    /// The run ends before the hit up to which it goes as the other one.
+    /// The run ends before the hit up to which it has to go as the other one.
     NotMet,
 }
 
-/// How often the point was met, with a hit of this point.
+/// How often the site's point was hit, after one more hit, which is of this point.
 fn met_more(site: Site, met: u32, point: u32) -> u32
     requires { met + 1 < 2 ^ 32 }
     ensures { result ≡ met_more site met point }
@@ -22,7 +22,7 @@ fn met_more(site: Site, met: u32, point: u32) -> u32
     if point == site.point { met + 1 } else { met }
 }
 
-/// Up to which hit of its last fault's point a run goes as that of its plan's forerunner.
+/// The hit of its last fault's point up to which a run goes as that of its plan's forerunner.
 fn last_shared(fault: Rig) -> u64
     ensures { result ≡ (shared_to fault).hit }
 {
@@ -33,8 +33,9 @@ fn last_shared(fault: Rig) -> u64
     }
 }
 
-/// The first break of a run whose last fault is this one with the run of its plan's forerunner, up to where they go alike. Each is told by the points of
-/// its hits in order. A component whose next hit follows from the answers so far has none.
+/// The first break of a plan's run with that of its forerunner, up to where the two have to go alike. `fault` is the plan's last fault. Each run is
+/// given by the points of its hits, in order: `earlier` is that of the forerunner. A component whose next hit is a function of the answers to its
+/// earlier hits has no break.
 pub fn break_of(fault: &Rig, earlier: &[u32], hits: &[u32]) -> Option<Break>
     requires { length earlier.now < 2 ^ 32 }
     ensures { result ≡ break_of (shared_to fault.now) earlier.now hits.now }

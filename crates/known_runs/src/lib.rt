@@ -1,5 +1,4 @@
-//! Runs of plans that grow which are known, as whoever ran them tells: which plans are known by now, and what other faults come to without
-//! another run.
+//! A table of recorded runs: which plans they make known, and which other scenarios' verdicts follow from them.
 #![tactic(auto)]
 
 mod breaks;
@@ -9,10 +8,10 @@ mod table;
 mod walking;
 
 pub use breaks::{Break, break_of};
-pub use growing::{Workspace, known_plans};
+pub use growing::{ToldList, Workspace, known_plans};
 pub use laws::{
     each_plan_is_to_be_run_once, known_runs_tell_others, lawful_runs_never_break,
     nothing_is_skipped_as_far_as_seen, nothing_to_run_is_the_whole_list,
 };
-pub use table::{Look, RunTable};
+pub use table::{Look, RunTable, look_up, read_found};
 pub use walking::verdict_of;

@@ -1,4 +1,4 @@
-//! What rigged hits come to, by runs that are known.
+//! The verdict of rigged hits, by recorded runs.
 ghost use Rattle.std.specs.Prelude.{◌≡◌, ◌∷◌, ◌<◌, ◌^◌, ℕ, None, length, map, find, option_map, Contains, IfOk, IfSome, OnOk};
 ghost use Rattle.std.specs.List.{AllByRecursion};
 ghost use Rattle.plan_gen.specs.RiggedAnswers.{AreInOrder, acts_at};
@@ -13,7 +13,7 @@ ghost use Rattle.known_runs.specs.inside.Grown.{again_told};
 ghost use Rattle.known_runs.specs.inside.WalkSteps.{IsOnward, IsStep, grew_at, verdict_ended};
 
 use crate::growing::Workspace;
-use crate::table::{Look, RunTable};
+use crate::table::{Look, RunTable, look_up};
 use action_eval::{Kind, Rig, Site, is_same_text};
 use grown_plans::{Child, Kinds, add_children};
 use std::alloc::{AllocError, Global};
@@ -22,15 +22,15 @@ use target_trait::Verdict;
 /// What follows the plan that a walk has come to.
 #[derive(Clone, Copy, Debug)]
 enum Step {
-    /// Nobody knows.
+    /// Its run isn't recorded with its hits.
     Unknown,
-    /// No rigged hit acts any more, and the plan has this verdict.
+    /// No further rigged hit acts, and the plan has this verdict.
     Ends(Verdict),
-    /// This is the next one to act.
+    /// This rigged hit is the next one to act.
     Acts(Rig),
 }
 
-/// Whether a rigged hit acts at a hit.
+/// Whether a rigged hit acts at this site.
 fn acts_at(rig: &Rig, site: Site) -> bool
     ensures { result ≡ acts_at site.point site.hit rig.now }
 {
@@ -41,7 +41,7 @@ fn acts_at(rig: &Rig, site: Site) -> bool
     rig.site.point == site.point && is_there
 }
 
-/// What the first rigged hit that acts at a hit does there.
+/// What is done at a site by the first rigged hit that acts there.
 fn kind_at(rigs: &[Rig], site: Site) -> Option<Kind>
     ensures { result ≡ option_map (λ r. r.kind) (find (acts_at site.point site.hit) rigs.now) }
 {
@@ -53,7 +53,7 @@ fn kind_at(rigs: &[Rig], site: Site) -> Option<Kind>
     None
 }
 
-/// What a fault does at one hit at which it acts.
+/// What a fault does at one of the hits at which it acts.
 fn once(kind: Kind) -> Kind
     ensures { result ≡ once kind }
 {
@@ -63,7 +63,7 @@ fn once(kind: Kind) -> Kind
     }
 }
 
-/// The first of the hits at which these children grew at which a rigged hit acts, with what it does there.
+/// The first hit at which a child grew and a rigged hit acts, with what that does there.
 fn first_acting(rigs: &[Rig], children: &[Child]) -> Option<Rig>
     ensures { result ≡ first_acting rigs.now (grew_at children.now) }
 {
@@ -77,8 +77,8 @@ fn first_acting(rigs: &[Rig], children: &[Child]) -> Option<Rig>
     None
 }
 
-/// Puts what grows where a plan's run hits a point past its last fault in place of what stood in the list. Tells whether these hits have that
-/// fault's point once more. A walk looks at where children grew alone, so any kinds of faults do.
+/// Puts the children that grow from a plan's hits past its last fault into the list, in place of what stood there. Returns whether that fault's point
+/// is hit once more. A walk only looks at where children grew, so any kinds of faults will do.
 fn put_children(
     children: &mut Vec<Child>,
     counts: &mut Vec<u32>,
@@ -94,7 +94,7 @@ fn put_children(
     add_children(children, counts, &Kinds::of(&[]), 0, plan, hits)
 }
 
-/// What follows a plan, with its faults, the last one to act first.
+/// What follows a plan. In the list of its faults the one that acts last comes first.
 fn next_step<T: RunTable>(
     table: &T,
     rigs: &[Rig],
@@ -104,7 +104,7 @@ fn next_step<T: RunTable>(
 ) -> Result<Step, AllocError>
     ensures { IfOk result (IsStep (T.known table.now) rigs.now plan.now) }
 {
-    match table.look(plan, &mut workspace.hits)? {
+    match look_up(table, plan, &mut workspace.hits)? {
         Look::Unknown | Look::Unseen(_) => Ok(Step::Unknown),
         Look::Seen(verdict) => {
             let hits = workspace.hits.as_slice();
@@ -126,7 +126,7 @@ fn put_first(plan: &mut Vec<Rig>, fault: Rig) -> Result<(), AllocError>
     Ok(())
 }
 
-/// Whether two faults are answered alike.
+/// Whether two kinds of faults answer a hit alike.
 fn are_alike(one: &Kind, other: &Kind) -> bool
     ensures { result ≡ are_alike one.now other.now }
 {
@@ -139,7 +139,7 @@ fn are_alike(one: &Kind, other: &Kind) -> bool
     }
 }
 
-/// Whether two faults do the same at a hit, where they act there.
+/// Whether two faults do the same at a hit; `None` is no fault.
 fn is_alike(one: Option<Kind>, other: Option<Kind>) -> bool
     ensures { result ≡ is_alike one other }
 {
@@ -172,7 +172,7 @@ fn do_alike(rigs: &[Rig], others: &[Rig], children: &[Child]) -> bool
     true
 }
 
-/// The verdict of a plan whose run is told, where rigged hits do the same at each of its hits.
+/// The verdict of a plan, if the hits of its run are recorded and the rigged hits do the same as the plan at each of them.
 fn verdict_alike<T: RunTable>(
     table: &T,
     rigs: &[Rig],
@@ -182,10 +182,10 @@ fn verdict_alike<T: RunTable>(
 ) -> Result<Option<Verdict>, AllocError>
     ensures { IfOk result (λ verdict. verdict ≡ verdict_at (T.known table.now) (if_alike rigs.now plan.now (hits_of (T.known table.now) plan.now))) }
 {
-    let Look::Seen(verdict) = table.look(plan, &mut workspace.hits)? else {
+    let Look::Seen(verdict) = look_up(table, plan, &mut workspace.hits)? else {
         return Ok(None);
     };
-    // each hit, as none of them is past a fault of the plan without faults
+    // children at each hit, as none of them is past a fault of the plan without faults
     let hits = workspace.hits.as_slice();
     put_children(children, &mut workspace.counts, &[], hits)?;
     if do_alike(rigs, plan, children.as_slice()) {
@@ -195,7 +195,7 @@ fn verdict_alike<T: RunTable>(
     }
 }
 
-/// Whether a plan's run, where it is told, hits its last fault's point once more after that fault.
+/// Whether a plan's run hits its last fault's point once more after that fault. False if its hits aren't recorded.
 fn is_asked_again<T: RunTable>(
     table: &T,
     plan: &[Rig],
@@ -204,15 +204,15 @@ fn is_asked_again<T: RunTable>(
 ) -> Result<bool, AllocError>
     ensures { IfOk result (λ is_again. is_again ≡ again_told plan.now (hits_of (T.known table.now) plan.now)) }
 {
-    let Look::Seen(_) = table.look(plan, &mut workspace.hits)? else {
+    let Look::Seen(_) = look_up(table, plan, &mut workspace.hits)? else {
         return Ok(false);
     };
     let hits = workspace.hits.as_slice();
     put_children(children, &mut workspace.counts, plan, hits)
 }
 
-/// Puts a plan with its last fault from then on in place of what stood in the list, where that fault is a return and its point is hit once
-/// more. Tells whether there is such a plan.
+/// Puts a plan into the list with its last fault as a sticky fault, in place of what stood there. Returns false, and puts nothing, if that fault
+/// isn't a return whose point is hit once more.
 fn put_onward<T: RunTable>(
     table: &T,
     plan: &[Rig],
@@ -240,7 +240,7 @@ fn put_onward<T: RunTable>(
     Ok(true)
 }
 
-/// The verdict of rigged hits by the plan that a walk has come to, whose last fault is from then on.
+/// The verdict of rigged hits by the plan that a walk has come to, with its last fault as a sticky fault.
 fn verdict_onward<T: RunTable>(
     alloc: Global,
     table: &T,
@@ -258,7 +258,7 @@ fn verdict_onward<T: RunTable>(
     verdict_alike(table, rigs, onward.as_slice(), workspace, children)
 }
 
-/// The verdict where a walk of so many faults ends.
+/// The verdict where a walk has come to a plan with as many faults as the depth allows.
 fn verdict_after<T: RunTable>(
     alloc: Global,
     table: &T,
@@ -276,10 +276,11 @@ fn verdict_after<T: RunTable>(
     }
 }
 
-/// The verdict of rigged hits, in order, where runs that are known lead to it with at most so many faults: from the plan without faults on,
-/// the next rigged hit to act is the next fault; where more act, with the last one from then on. None where they don't.
+/// The verdict of rigged hits, which are in order, if recorded runs lead to it with at most `depth` faults. The walk begins at the plan without
+/// faults, and the next rigged hit to act becomes the plan's next fault. If more than `depth` of them act, the last fault becomes a sticky one.
+/// `None` if a run on the way isn't recorded with its hits, or if the plan with the sticky fault doesn't do the same as the rigged hits.
 ///
-/// It is that of each lawful subject that agrees with the table and tries each rigged hit's kind at its point. An error means that memory was
+/// It is the verdict of each lawful subject that agrees with the table and tries each rigged hit's kind at its point. An error means that memory was
 /// refused.
 pub fn verdict_of<T: RunTable>(
     alloc: Global,

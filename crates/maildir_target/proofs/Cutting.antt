@@ -1,4 +1,4 @@
--- A run on a device that tells what is pending, up to its power cut.
+-- A run on a device that notes what is pending, up to its power cut.
 use Rattle.std.proofs.Common.{◌≡◌, ℕ, ◌+◌, ◌≤◌, Bool, List, ◌∷◌, length, Option, ap, sym, ◌∙◌}
 use Rattle.sim_device.specs.FileEffects.{PowerCut, pending}
 use Rattle.sim_device.specs.Disk.{Noted, Tells}
@@ -42,7 +42,7 @@ kept_judged v w r box k keep j is =
     ∙ ap (λ (l : List ℕ). judged_now w l (standing (PowerCut keep ∷ k.played.effects))) (sym k.acknowledged)
     ∙ ap (λ (s : State). judged_keeping w s keep) (sym k.played.reached.here)
 
--- what a device tells at the end of a run is pending after the play of what the run is given
+-- What a device notes at the end of a run is pending after the play of what the run is given.
 pub calls_told : (v : Variant) (w : List (List (List ℕ))) (r : Run) (box : Mailbox Noted) → IsOver Tells v w r box
     → (g : Given) → r.given ≡ g → length r.hits ≤ r.given.limit + 1 → call_texts box.device.pending ≡ calls_of v w g
 calls_told v w r box k g given few =

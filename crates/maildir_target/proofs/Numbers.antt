@@ -1,4 +1,4 @@
--- The number of a name tells it.
+-- A name follows from its number.
 use Rattle.std.proofs.Common.{◌≡◌, ℕ, ◌+◌, ◌*◌, ◌/◌, ◌%◌, ◌==◌, cond, codes, ◌++◌, refl, ap, ◌∙◌, arith}
 use Rattle.std.specs.Fmt.{decimal}
 use Rattle.maildir_target.specs.declared.name.Folder.{Folder}

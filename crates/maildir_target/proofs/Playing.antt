@@ -46,7 +46,7 @@ played_more {v = v} {w = w} {r = r} {t = t} {d = d} p k at r' same a told t' d' 
 shows_as : {D : Type 0} {stands : D → List Effect → Type 0} (s s' : State) (t : Tally) (d : D) → s ≡ s' → Shows stands s t d → Shows stands s' t d
 shows_as {stands = stands} s s' t d e k = subst (λ (x : State). Shows stands x t d) e k
 
--- what a step does where it is answered so
+-- What a step does if it is answered so.
 told_step : (v : Variant) (s s' : State) (a b : Answer) → a ≡ b → s' ≡ stepped v s (reply_of_answer b) → s' ≡ stepped v s (reply_of_answer a)
 told_step v s s' a b is e = e ∙ ap (λ (x : Answer). stepped v s (reply_of_answer x)) (sym is)
 

@@ -305,7 +305,7 @@ led_safe w messages s (a ∷ answers) k = led_safe w messages (stepped Sound s a
 
 -- ---- the start
 
--- the whole of each message, by its number, where these are numbered from this number on
+-- The whole of each message, by its number, if these are numbered from this number on.
 abbrev whole_from : ℕ → List (List (List ℕ)) → ℕ → List ℕ
 whole_from n [] m = []
 whole_from n (chunks ∷ more) m = cond (m == n) (joined chunks) (whole_from (n + 1) more m)
@@ -346,7 +346,7 @@ or_none : (a b : Bool) → a ≡ false → b ≡ false → (a || b) ≡ false
 or_none true b p q = p
 or_none false b p q = q
 
--- where each name under `new/` leads to a whole message, none is torn
+-- If each name under `new/` leads to a whole message, none is torn.
 pub none_torn : (w : ℕ → List ℕ) (s : Standing) (n : ℕ) (messages : List (List (List ℕ))) → ((m : ℕ) (a : Attempt) (f : ℕ) → s.leads (new_name m a) ≡ Some f → s.contents f ≡ w m)
     → Tells w n messages → has_torn s n messages ≡ false
 none_torn w s n [] k tells = refl

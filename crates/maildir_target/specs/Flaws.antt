@@ -1,9 +1,9 @@
--- Workloads and scenarios that a flawed delivery fails. They are the least that a campaign finds and reduces.
+-- Workloads, and the scenarios that a flawed delivery fails. They are the smallest that a campaign finds and reduces to.
 use Rattle.std.specs.Prelude.{ℕ, List, [], ◌∷◌, codes}
 use Rattle.scenario_values.specs.Scenario.{Entries}
 use Rattle.target_trait.specs.Failing.{fails_once}
 
--- one message of this one chunk
+-- One message of this one chunk.
 abbrev pub one_message : List ℕ → List (List (List ℕ))
 one_message chunk = (chunk ∷ []) ∷ []
 

@@ -1,4 +1,4 @@
--- What the trait asks of every target: questions within the catalogue, and none after a halt.
+-- The laws of every target, for this one: each question is of a point of the catalogue, and none follows a halt.
 use Rattle.std.proofs.Common.{◌≡◌, ℕ, List, ◌∷◌, ◌++◌, refl, ap, sym, subst, lit<}
 use Rattle.action_eval.specs.Answers.{Reply, Go, Return, Halt}
 use Rattle.target_trait.specs.declared.judgement.Judgement.{Judgement}
@@ -20,7 +20,7 @@ step_within j SyncingDir = lit< tt
 step_within j Cleaning = lit< tt
 step_within j Over = tt
 
--- each question is of one of the seven points
+-- Each question is of one of the seven points.
 pub asks-within : (v : Variant) (messages : List (List (List ℕ))) (answers : List Reply) → IsWithin 7 (asks_of v messages answers)
 asks-within v messages = within_by (machine v messages) 7 (λ s. step_within (judged messages s.tally.acknowledged s.effects) s.tally.step)
 
@@ -37,6 +37,6 @@ over_done messages s e =
     let P : Step → Type 0 = λ x. IsDone (move_by (judged messages s.tally.acknowledged s.effects) (point_at x)) in
     subst P (sym e) tt
 
--- no question follows a halt
+-- No question follows a halt.
 pub asks-halts : (v : Variant) (messages : List (List (List ℕ))) (before after : List Reply) → IsDone (asks_of v messages (before ++ Halt ∷ after))
 asks-halts v messages = halts_by (machine v messages) IsOver (record { done = over_done messages; stays = over_stays v; halts = λ s. refl })

@@ -1,5 +1,5 @@
 -- The steps of a run: what is asked, what each answer does, and what comes next.
--- The delivery is that of the maildir manual page: stat, create, write, sync, link, and then the name under `tmp/` is removed.
+-- The delivery is that of the maildir manual page: stat, create, write, sync and link; then the name under `tmp/` is removed.
 use Rattle.std.specs.Prelude.{ℕ, ◌+◌, Bool, true, false, List, [], ◌∷◌, ◌++◌, Option, Some, None, is_some}
 use Rattle.sim_device.specs.FileEffects.{Effect, Create, Append, Sync, Link, Unlink, SyncDir, Live, leads}
 use Rattle.action_eval.specs.Answers.{Reply, Go, Return, Halt}
@@ -13,33 +13,33 @@ use Rattle.maildir_target.specs.declared.name.Attempt.TheVariants.{First, Second
 use Rattle.maildir_target.specs.Words.{written_name, new_name, stat_point, create_point, write_point, sync_point, link_point, unlink_point, sync_dir_point}
 use Rattle.maildir_target.specs.Judgement.{judged}
 
--- the step whose question comes next
+-- The step that is asked for next.
 pub data Step : Type 0 where
-  -- is the name that is written free?
+  -- Looks whether the name to write under is free.
   Looking : Step
   Creating : Step
-  -- the chunk, and those after it
+  -- Writes this chunk. The chunks after it follow.
   Writing : List ℕ → List (List ℕ) → Step
   Syncing : Step
   Linking : Step
   Unlinking : Step
   SyncingDir : Step
-  -- the name that was written is taken away after a failure
+  -- Removes the name that was written, after a failure.
   Cleaning : Step
   Over : Step
 
--- how far the delivery has come
+-- How far the delivery has come.
 pub record Tally : Type 0 where
   pub step : Step
-  -- the message under way, numbered from 1, with its attempt and its chunks, and the messages after it
+  -- The message under way, numbered from 1, with its attempt and its chunks, and the messages after it.
   pub message : ℕ
   pub attempt : Attempt
   pub chunks : List (List ℕ)
   pub rest : List (List (List ℕ))
-  -- the messages acknowledged so far, by their numbers
+  -- The numbers of the messages that were acknowledged by now.
   pub acknowledged : List ℕ
 
--- that, and what the device accepted, the newest effect first
+-- The tally, and what the device accepted, the newest effect first.
 pub record State : Type 0 where
   pub tally : Tally
   pub effects : List Effect
@@ -52,7 +52,7 @@ at_step t step = record { step = step; message = t.message; attempt = t.attempt;
 
 -- ---- where the variants differ
 
--- append_tmp doesn't ask whether the name is free
+-- `append_tmp` doesn't ask whether the name is free.
 abbrev pub first_step : Variant → Step
 first_step Sound = Looking
 first_step LinkFirst = Looking
@@ -60,7 +60,7 @@ first_step IgnoreWrite = Looking
 first_step AppendTmp = Creating
 first_step DeliverInNew = Looking
 
--- append_tmp uses the names of the first attempt in both
+-- `append_tmp` uses the names of the first attempt in both attempts.
 abbrev pub named_by : Variant → Attempt → Attempt
 named_by Sound attempt = attempt
 named_by LinkFirst attempt = attempt
@@ -68,7 +68,7 @@ named_by IgnoreWrite attempt = attempt
 named_by AppendTmp attempt = First
 named_by DeliverInNew attempt = attempt
 
--- the names of the attempt under way: the one that is written, and the one under `new/`
+-- The names of the attempt under way: the one that is written, and the one under `new/`.
 abbrev pub written_of : Variant → Tally → ℕ
 written_of v t = written_name v t.message (named_by v t.attempt)
 
@@ -78,7 +78,7 @@ new_of v t = new_name t.message (named_by v t.attempt)
 abbrev pub is_there : ℕ → List Effect → Bool
 is_there name es = is_some (leads es Live name)
 
--- append_tmp keeps a file that is there
+-- `append_tmp` keeps a file that already exists.
 abbrev pub create_unless : Bool → ℕ → List Effect → List Effect
 create_unless false name es = Create name ∷ es
 create_unless true name es = es
@@ -94,7 +94,7 @@ abbrev pub write_step : List (List ℕ) → Step
 write_step [] = Syncing
 write_step (c ∷ cs) = Writing c cs
 
--- link_first links before it writes
+-- `link_first` links before it writes.
 abbrev pub after_create : Variant → List (List ℕ) → Step
 after_create Sound chunks = write_step chunks
 after_create LinkFirst chunks = Linking
@@ -109,7 +109,7 @@ after_link IgnoreWrite chunks = Unlinking
 after_link AppendTmp chunks = Unlinking
 after_link DeliverInNew chunks = SyncingDir
 
--- deliver_in_new has nothing to link, and no other name to remove
+-- `deliver_in_new` has nothing to link, and no other name to remove.
 abbrev pub after_sync : Variant → Step
 after_sync Sound = Linking
 after_sync LinkFirst = Unlinking
@@ -117,7 +117,7 @@ after_sync IgnoreWrite = Linking
 after_sync AppendTmp = Linking
 after_sync DeliverInNew = SyncingDir
 
--- ignore_write goes on after half a chunk as after the whole
+-- After half a chunk `ignore_write` goes on as if it had written the whole chunk.
 abbrev pub after_half : Variant → List (List ℕ) → Step
 after_half Sound cs = Cleaning
 after_half LinkFirst cs = Cleaning
@@ -127,7 +127,7 @@ after_half DeliverInNew cs = Cleaning
 
 -- ---- between messages and attempts
 
--- the next message is begun with its first attempt: its question is the next
+-- Begins the next message with its first attempt. If there is no further message, the run is over.
 abbrev pub begun_of : Variant → Tally → List (List (List ℕ)) → Tally
 begun_of v t [] = at_step t Over
 begun_of v t (chunks ∷ more) = record {
@@ -152,7 +152,7 @@ acknowledged t = record {
   acknowledged = t.acknowledged ++ t.message ∷ [];
 }
 
--- the attempt fails: after the first there is a second, and after the second the message is given up
+-- The attempt fails. After the first attempt there is a second one, and after the second the message is given up.
 abbrev pub failed_of : Variant → Tally → Attempt → Tally
 failed_of v t First = record { step = first_step v; message = t.message; attempt = Second; chunks = t.chunks; rest = t.rest; acknowledged = t.acknowledged }
 failed_of v t Second = begun v t
@@ -160,7 +160,8 @@ failed_of v t Second = begun v t
 abbrev pub failed : Variant → Tally → Tally
 failed v t = failed_of v t t.attempt
 
--- what can't be taken away stays. Of deliver_in_new it is under `new/`: nothing more is asked, so that no later sync of the directory makes it last
+-- What follows if the name can't be removed: it stays. With `deliver_in_new` it is under `new/`, so nothing more
+-- is asked, lest a later sync of the directory make it last.
 abbrev pub not_cleaned : Variant → Tally → Tally
 not_cleaned Sound t = failed Sound t
 not_cleaned LinkFirst t = failed LinkFirst t
@@ -170,17 +171,17 @@ not_cleaned DeliverInNew t = at_step t Over
 
 -- ---- the table of steps
 
--- a name that is there isn't used
+-- If the name exists already, it isn't used, and the attempt fails.
 abbrev pub looked : Bool → Variant → Tally → Tally
 looked true v t = failed v t
 looked false v t = at_step t Creating
 
--- a name under `new/` that is there stays as it is, and the link fails
+-- If the name under `new/` exists already, it stays as it is, and the link fails.
 abbrev pub linked : Bool → Variant → Tally → List Effect → State
 linked true v t es = state (at_step t Cleaning) es
 linked false v t es = state (at_step t (after_link v t.chunks)) (Link (written_of v t) (new_of v t) ∷ es)
 
--- what a step does where it is answered to go on
+-- What a step does if it is answered with `Go`.
 abbrev pub on_go : Variant → Tally → List Effect → Step → State
 on_go v t es Looking = state (looked (is_there (written_of v t) es) v t) es
 on_go v t es Creating = state (at_step t (after_create v t.chunks)) (created_by v (written_of v t) es)
@@ -192,7 +193,7 @@ on_go v t es SyncingDir = state (begun v (acknowledged t)) (SyncDir ∷ es)
 on_go v t es Cleaning = state (failed v t) (Unlink (written_of v t) ∷ es)
 on_go v t es Over = state (at_step t Over) es
 
--- what it does where it is answered that it fails
+-- What a step does if it is answered with `Return`, so that it fails.
 abbrev pub on_return : Variant → Tally → List Effect → Step → State
 on_return v t es Looking = state (failed v t) es
 on_return v t es Creating = state (failed v t) es
@@ -204,7 +205,7 @@ on_return v t es SyncingDir = state (begun v t) es
 on_return v t es Cleaning = state (not_cleaned v t) es
 on_return v t es Over = state (at_step t Over) es
 
--- after a halt nothing is done or asked
+-- The state after an answer. After `Halt` nothing more is done or asked.
 abbrev pub stepped : Variant → State → Reply → State
 stepped v s Go = on_go v s.tally s.effects s.tally.step
 stepped v s (Return text) = on_return v s.tally s.effects s.tally.step
@@ -215,11 +216,11 @@ stepped v s Halt = state (at_step s.tally Over) s.effects
 abbrev pub before_all : List (List (List ℕ)) → Tally
 before_all messages = record { step = Over; message = 0; attempt = First; chunks = []; rest = messages; acknowledged = [] }
 
--- before a run the device is cleared
+-- The first state of a run. The device was cleared before it.
 abbrev pub start_of : Variant → List (List (List ℕ)) → State
 start_of v messages = state (begun v (before_all messages)) []
 
--- the point that a step asks
+-- The point that a step asks.
 abbrev pub point_at : Step → Option ℕ
 point_at Looking = Some stat_point
 point_at Creating = Some create_point
@@ -234,10 +235,10 @@ point_at Over = None
 abbrev pub move_of : List (List (List ℕ)) → State → Move
 move_of messages s = move_by (judged messages s.tally.acknowledged s.effects) (point_at s.tally.step)
 
--- the delivery of messages, step by step
+-- The delivery of messages, step by step.
 abbrev pub machine : Variant → List (List (List ℕ)) → Machine State
 machine v messages = record { first = start_of v messages; step = stepped v; move = move_of messages }
 
--- what is asked after these answers
+-- What is asked after these answers.
 abbrev pub asks_of : Variant → List (List (List ℕ)) → List Reply → Move
 asks_of v messages = asks_by (machine v messages)

@@ -1,4 +1,4 @@
--- Names and numbers of the delivery: points, labels, codes of failures, and the names on the device.
+-- Names and numbers of the delivery: its points, labels, failure codes, and the names on the device.
 use Rattle.std.specs.Prelude.{ℕ, ◌+◌, ◌*◌, ◌/◌, ◌%◌, ◌==◌, if◌then◌else◌, List, [], ◌∷◌, ◌++◌, codes}
 use Rattle.std.specs.Fmt.{decimal}
 use Rattle.maildir_target.specs.declared.variant.Variant.{Variant}
@@ -9,7 +9,7 @@ use Rattle.maildir_target.specs.declared.name.Attempt.{Attempt}
 use Rattle.maildir_target.specs.declared.name.Attempt.TheVariants.{First, Second}
 use Rattle.maildir_target.specs.declared.name.Name.{Name}
 
--- the points, in the order of their numbers
+-- The points, in the order of their numbers.
 abbrev pub point_names : List (List ℕ)
 point_names =
     codes "maildir::stat" ∷ codes "maildir::create" ∷ codes "maildir::write" ∷ codes "maildir::sync" ∷ codes "maildir::link"
@@ -43,7 +43,7 @@ label IgnoreWrite = codes "maildir ignore_write"
 label AppendTmp = codes "maildir append_tmp"
 label DeliverInNew = codes "maildir deliver_in_new"
 
--- the codes of failures: a delivered message that isn't whole, and an acknowledged message that is gone
+-- The failure codes. `torn`: a delivered message isn't whole. `lost`: an acknowledged message is gone.
 abbrev pub torn : ℕ
 torn = 0
 
@@ -53,7 +53,7 @@ lost = 1
 abbrev pub code_text : ℕ → List ℕ
 code_text code = if code == torn then codes "torn" else codes "lost"
 
--- the names on the device, by their numbers: four for each message, which is itself numbered from 1
+-- The numbers of the names on the device. Each message has four names, and messages are numbered from 1.
 abbrev pub folder_part : Folder → ℕ
 folder_part folder.Tmp = 0
 folder_part folder.New = 1
@@ -65,14 +65,14 @@ attempt_part Second = 2
 abbrev pub number_of : Name → ℕ
 number_of name = 4 * name.message + attempt_part name.attempt + folder_part name.folder
 
--- `tmp/i.a` and `new/i.a`, of message i and attempt a
+-- `tmp/i.a` and `new/i.a` for message i and attempt a.
 abbrev pub tmp_name : ℕ → Attempt → ℕ
 tmp_name message attempt = number_of (record { folder = folder.Tmp; message = message; attempt = attempt })
 
 abbrev pub new_name : ℕ → Attempt → ℕ
 new_name message attempt = number_of (record { folder = folder.New; message = message; attempt = attempt })
 
--- the text of a name, `tmp/i.a` or `new/i.a` of message i and attempt a, both numbered from 1
+-- The text of a name, `tmp/i.a` or `new/i.a` for message i and attempt a, both numbered from 1.
 abbrev pub folder_text : Folder → List ℕ
 folder_text folder.Tmp = codes "tmp"
 folder_text folder.New = codes "new"
@@ -84,12 +84,12 @@ attempt_number Second = 2
 abbrev pub text_of : Name → List ℕ
 text_of name = folder_text name.folder ++ codes "/" ++ decimal name.message ++ codes "." ++ decimal (attempt_number name.attempt)
 
--- that of the name of this number
+-- The text of the name with this number.
 abbrev pub name_text : ℕ → List ℕ
 name_text number =
     (if number % 2 == 0 then codes "tmp" else codes "new") ++ codes "/" ++ decimal (number / 4) ++ codes "." ++ decimal (number / 2 % 2 + 1)
 
--- the folder of the name that a message is written under: deliver_in_new has no other than the one that it is delivered in
+-- The folder of the name that a message is written under. `deliver_in_new` writes it directly in the folder of delivered messages.
 abbrev pub written_folder : Variant → Folder
 written_folder Sound = folder.Tmp
 written_folder LinkFirst = folder.Tmp

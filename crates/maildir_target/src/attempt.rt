@@ -1,4 +1,4 @@
-//! An attempt at a message, as the maildir manual page tells it: stat, create, write, sync, link, and then the name under `tmp/` is removed.
+//! An attempt at a message, as the maildir manual page describes it: stat, create, write, sync, link, and then the name under `tmp/` is removed.
 ghost use Rattle.std.specs.Prelude.{◌≡◌, List, OnOk};
 ghost use Rattle.sim_device.specs.FileEffects.{Effect};
 ghost use Rattle.sim_device.specs.Disk.{entry_at};
@@ -17,8 +17,8 @@ use crate::write::write_all;
 use std::alloc::AllocError;
 use target_trait::{Answer, Session};
 
-/// Takes the name away that was written, after a failure. The attempt has failed, whether the name is gone or not; but of deliver_in_new the run is over
-/// where it isn't.
+/// Removes the name that was written, after a failure. The attempt has failed, whether or not the name could be removed. Only with deliver_in_new the
+/// run is over if it couldn't.
 pub fn clean_up<D: Device>(
     delivery: &Delivery<'_>,
     mailbox: &mut Mailbox<D>,
@@ -45,7 +45,7 @@ pub fn clean_up<D: Device>(
     }
 }
 
-/// Looks whether the name is free that is to be written.
+/// Looks whether the name to be written is free.
 fn stat<D: Device>(
     delivery: &Delivery<'_>,
     mailbox: &mut Mailbox<D>,
@@ -68,7 +68,7 @@ fn stat<D: Device>(
     }
 }
 
-/// The same where the variant looks: append_tmp doesn't.
+/// The same if the variant looks; append_tmp doesn't.
 fn look<D: Device>(
     delivery: &Delivery<'_>,
     mailbox: &mut Mailbox<D>,
@@ -87,7 +87,7 @@ fn look<D: Device>(
     }
 }
 
-/// A new file, or with append_tmp the one that is there.
+/// Makes a new file, or with append_tmp goes on with the one that is there.
 fn create_by<D: Device>(delivery: &Delivery<'_>, device: &mut D) -> Result<(), AllocError>
     requires named { IsNamed delivery.now }
     requires ready { CanCreate delivery.now.variant (entry_at (D.names device.old) (written_of_delivery delivery.now)).live }
@@ -147,7 +147,7 @@ fn sync_file<D: Device>(
     }
 }
 
-/// Links the file under `new/`, where that name is free.
+/// Links the file under `new/`, if that name is free.
 #[inline(always)]
 fn link_new<D: Device>(
     delivery: &Delivery<'_>,
@@ -172,7 +172,7 @@ fn link_new<D: Device>(
     }
 }
 
-/// Removes the name under `tmp/`. Where that fails the name stays, and the delivery goes on.
+/// Removes the name under `tmp/`. If that fails, the name stays, and the delivery goes on.
 #[inline(always)]
 fn remove<D: Device>(
     delivery: &Delivery<'_>,
@@ -194,7 +194,7 @@ fn remove<D: Device>(
     }
 }
 
-/// Syncs the directory, and acknowledges the message. Where that fails it isn't acknowledged.
+/// Syncs the directory, and acknowledges the message. If the sync fails, the message isn't acknowledged.
 #[inline(always)]
 fn acknowledge<D: Device>(
     delivery: &Delivery<'_>,
@@ -218,7 +218,7 @@ fn acknowledge<D: Device>(
     }
 }
 
-/// Writes the file, syncs it, and brings it from `tmp/` to `new/`; link_first links it first, and deliver_in_new has it there.
+/// Writes the file, syncs it, and brings it from `tmp/` to `new/`. link_first has linked it before, and deliver_in_new writes it there.
 fn fill<D: Device>(
     delivery: &Delivery<'_>,
     mailbox: &mut Mailbox<D>,
@@ -249,7 +249,7 @@ fn fill<D: Device>(
     }
 }
 
-/// An attempt from its first step to its last. An error tells how it ended before that.
+/// An attempt from its first step to its last. An error says how it ended before that.
 pub fn attempt<D: Device>(
     delivery: &Delivery<'_>,
     mailbox: &mut Mailbox<D>,

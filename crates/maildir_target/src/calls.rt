@@ -1,4 +1,4 @@
-//! The calls of an attempt on its device. None of them is refused but for want of memory, and `sync` not at all.
+//! The calls of an attempt on its device. A call can only be refused memory, and `sync` not even that.
 ghost use Rattle.std.specs.Prelude.{◌≡◌, ◌≤◌, ◌-◌, ℕ, List, OnOk, length, take, drop, is_some, is_none, false};
 ghost use Rattle.sim_device.specs.FileEffects.{Effect, Append, Create, Sync, Link, Unlink};
 ghost use Rattle.sim_device.specs.Disk.{entry_at};
@@ -31,7 +31,7 @@ pub fn append<D: Device>(
     device.append(delivery.written(), bytes)
 }
 
-/// The chunks from one place to before another at the end of the file, one after another.
+/// Appends the chunks from one place to before another, one after another.
 pub fn append_between<D: Device>(
     delivery: &Delivery<'_>,
     device: &mut D,
@@ -49,7 +49,7 @@ pub fn append_between<D: Device>(
     device.append_chunks(delivery.written(), delivery.chunks, from, end)
 }
 
-/// What the file holds lasts.
+/// Makes the contents of the file last.
 pub fn sync<D: Device>(delivery: &Delivery<'_>, device: &mut D)
     requires named { IsNamed delivery.now }
     requires there { is_none (entry_at (D.names device.old) (written_of_delivery delivery.now)).live ≡ false }
@@ -58,7 +58,7 @@ pub fn sync<D: Device>(delivery: &Delivery<'_>, device: &mut D)
     device.sync(delivery.written());
 }
 
-/// The file is also under `new/`, where that name isn't there.
+/// Links the file under `new/`, if that name isn't there.
 #[inline(always)]
 pub fn link<D: Device>(delivery: &Delivery<'_>, device: &mut D) -> Result<(), AllocError>
     requires named { IsNamed delivery.now }
@@ -69,7 +69,7 @@ pub fn link<D: Device>(delivery: &Delivery<'_>, device: &mut D) -> Result<(), Al
     device.link(delivery.written(), delivery.delivered())
 }
 
-/// The name that was written is gone.
+/// Removes the name that was written.
 #[inline(always)]
 pub fn unlink<D: Device>(delivery: &Delivery<'_>, device: &mut D) -> Result<(), AllocError>
     requires named { IsNamed delivery.now }

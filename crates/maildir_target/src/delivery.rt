@@ -1,3 +1,4 @@
+//! An attempt at a message, and the names that it uses.
 ghost use Rattle.std.specs.Prelude.{◌≡◌};
 ghost use Rattle.maildir_target.specs.Steps.{named_by};
 ghost use Rattle.maildir_target.specs.Words.{written_folder, written_name};
@@ -24,7 +25,7 @@ pub struct Delivery<'w> {
     pub written: u32,
 }
 
-/// The attempt whose names an attempt uses.
+/// The attempt whose names this attempt uses.
 fn named_by(variant: Variant, attempt: Attempt) -> Attempt
     ensures { result ≡ named_by variant attempt }
 {
@@ -36,7 +37,7 @@ fn named_by(variant: Variant, attempt: Attempt) -> Attempt
     }
 }
 
-/// The folder of the name that a message is written under.
+/// The folder in which a message is written.
 fn written_folder(variant: Variant) -> Folder
     ensures { result ≡ written_folder variant }
 {

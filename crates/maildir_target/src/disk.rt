@@ -1,4 +1,4 @@
-//! The devices of a run. None of the calls on them is refused but for want of memory.
+//! The devices of a run. A call on them can only be refused memory.
 ghost use Rattle.std.specs.Prelude.{◌≡◌, ◌≤◌, ◌-◌, ℕ, List, [], length, take, drop, OnOk, IsOk, MatchOption, None, Some, is_some, is_none, false};
 ghost use Rattle.sim_device.specs.FileEffects.{Effect, Append, Create, Sync, SyncDir, Link, Unlink, Live, leads};
 ghost use Rattle.sim_device.specs.Disk.{StandsFor, Tells, entry_at, reads};
@@ -15,10 +15,10 @@ pub trait Device: Sized {
     // It stands for this list of effects, the newest first.
     ghost stands: { Self → List Effect → Type 0 };
 
-    // Where its names lead.
+    // What its names lead to.
     ghost names: { Self → List Entry };
 
-    // How many of so many chunks are written by one call.
+    // How many of the next `chunks` chunks one call writes.
     ghost most: { ℕ → ℕ };
 
     // This stands on it.
@@ -38,12 +38,12 @@ pub trait Device: Sized {
         requires { is_none (entry_at (names self.old) name).live ≡ false }
         ensures { OnOk result (Adds stands self.old self.new (Append name bytes.now)) };
 
-    /// How many of so many chunks are written by one call.
+    /// How many of the next `chunks` chunks one call writes.
     fn at_once(chunks: usize) -> usize
         ensures most { result ≡ most chunks }
         ensures few { result ≤ chunks };
 
-    /// The chunks from one place to before another at the end of a file, one after another.
+    /// Appends the chunks from one place to before another to a file, one after another.
     fn append_chunks(
         &mut self,
         name: u32,
@@ -57,23 +57,23 @@ pub trait Device: Sized {
         requires few { end - from ≤ most (length chunks.now - from) }
         ensures { OnOk result ((es : List Effect) → stands self.old es → stands self.new (with_chunks name (take (end - from) (drop from chunks.now)) es)) };
 
-    /// What a file holds lasts.
+    /// Makes the contents of a file last.
     fn sync(&mut self, name: u32)
         requires { is_none (entry_at (names self.old) name).live ≡ false }
         ensures { Adds stands self.old self.new (Sync name) };
 
-    /// The file of one name comes under another too.
+    /// Links the file of one name under another name too.
     fn link(&mut self, from: u32, to: u32) -> Result<(), AllocError>
         requires from { is_none (entry_at (names self.old) from).live ≡ false }
         requires to { is_some (entry_at (names self.old) to).live ≡ false }
         ensures { OnOk result (Adds stands self.old self.new (Link from to)) };
 
-    /// A name is gone.
+    /// Removes a name.
     fn unlink(&mut self, name: u32) -> Result<(), AllocError>
         requires { is_none (entry_at (names self.old) name).live ≡ false }
         ensures { OnOk result (Adds stands self.old self.new (Unlink name)) };
 
-    /// The names last.
+    /// Makes the names last.
     fn sync_dir(&mut self)
         ensures { Adds stands self.old self.new SyncDir };
 
@@ -153,7 +153,7 @@ impl Device for FileDevice {
     ghost led = { λ device effects name stands. stands.live name };
 }
 
-/// The answer of a call whose other faults are ruled out.
+/// The result of a call whose other faults are ruled out.
 fn for_memory(answer: Result<(), DeviceFault>) -> Result<(), AllocError>
     ensures { OnOk result (IsOk answer) }
 {

@@ -1,3 +1,4 @@
+//! How an attempt may end early.
 ghost use Rattle.std.specs.Prelude.{◌≡◌};
 ghost use Rattle.maildir_target.specs.declared.ended.Ended.TheVariants.{Memory};
 

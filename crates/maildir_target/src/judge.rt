@@ -35,7 +35,7 @@ fn is_torn<D: Device>(device: &D, message: u16, chunks: &Chunks) -> bool
         || differs(device, new_name(message, Attempt::Second), chunks)
 }
 
-/// Whether that is so of one of these messages.
+/// Whether one of these messages has such a name.
 fn has_torn<D: Device>(device: &D, messages: &[Chunks]) -> bool
     requires { length messages.now ≤ 1000 }
     ensures { (s : Standing) → D.shows device.now s → result ≡ has_torn s 1 messages.now }
@@ -77,7 +77,7 @@ fn has_lost<D: Device>(device: &D, messages: &[u16]) -> bool
     false
 }
 
-/// The judgement of what stands on a device, of these messages, of which these numbers were acknowledged.
+/// Judges what stands on a device: these are the messages, and the numbers of those that were acknowledged.
 fn judgement<D: Device>(device: &D, messages: &[Chunks], acknowledged: &[u16]) -> Judgement
     requires { length messages.now ≤ 1000 }
     ensures { (s : Standing) → D.shows device.now s → result ≡ judged_now messages.now acknowledged.now s }
@@ -91,7 +91,7 @@ fn judgement<D: Device>(device: &D, messages: &[Chunks], acknowledged: &[u16]) -
     }
 }
 
-/// Cuts the power, and judges what the device then holds of these messages, of which these numbers were acknowledged.
+/// Cuts the power, and judges what the device then holds: these are the messages, and the numbers of those that were acknowledged.
 pub fn judge(device: &mut FileDevice, messages: &[Chunks], acknowledged: &[u16]) -> Judgement
     requires { length messages.now ≤ 1000 }
     ensures judged { (es : List Effect) → StandsFor device.old es → result ≡ judged messages.now acknowledged.now es }
@@ -101,8 +101,8 @@ pub fn judge(device: &mut FileDevice, messages: &[Chunks], acknowledged: &[u16])
     judgement(device, messages, acknowledged)
 }
 
-/// Cuts the power, which keeps those pending writes for which the answers say so, and judges what the device then holds. An error means that memory
-/// was refused.
+/// Cuts the power, keeps the pending writes for which the answers say so, and judges what the device then holds. An error means that memory was
+/// refused.
 pub fn judge_keeping(
     device: &mut CrashDevice,
     messages: &[Chunks],

@@ -1,4 +1,4 @@
-//! What holds of every run.
+//! Laws of the variants' runs: under which scenario each flawed one fails, and that the sound one never does.
 ghost use Rattle.std.specs.Prelude.{◌≡◌, ℕ};
 ghost use Rattle.action_eval.specs.Answers.{given_of};
 ghost use Rattle.target_trait.specs.Outcomes.{outcome};
@@ -43,9 +43,9 @@ pub fn append_tmp_is_torn()
     ensures { (seed stream : ℕ) → (outcome (asks_of AppendTmp m) (given_of sync_and_unlink_fail point_names seed stream 1000)).verdict ≡ Fail torn }
 {}
 
-/// A cut that keeps a name under `new/`, and not that under `tmp/`, shows what none does that loses all: link_first has made it before anything is written.
-/// Where the run panics at the write of `hi`, that name leads to an empty file. The sound variant has made no such name by then, and of it nothing
-/// is pending but the name under `tmp/`.
+/// link_first fails in one more way if a cut keeps the name under `new/` and not that under `tmp/`: it makes that name before anything is written. If
+/// the run panics at the write of `hi`, the name leads to an empty file. A cut that loses everything doesn't show this. The sound variant has made no
+/// such name by then; it has nothing pending but the name under `tmp/`.
 pub fn a_kept_link_shows_link_first()
     ensures linked { (seed stream : ℕ) → (outcome (asks_with (asks_of LinkFirst hi) (cut_of LinkFirst hi) 7)
         (given_of second_kept (with_keep point_names) seed stream 1000)).verdict ≡ Fail torn }
@@ -55,9 +55,9 @@ pub fn a_kept_link_shows_link_first()
         (given_of second_kept (with_keep point_names) seed stream 1000)).verdict ≡ Pass }
 {}
 
-/// deliver_in_new fails where a cut keeps the name under `new/` and not what is written there: where the run panics at the write of `hi`, that name leads
-/// to an empty file, and so it does where its sync fails, and it can't be taken away. Then nothing more is asked, so that a cut that loses all doesn't show
-/// it, under either fault, nor does one that keeps all. The sound variant has the name under `tmp/` by then.
+/// deliver_in_new fails if a cut keeps the name under `new/` and not what is written there. If the run panics at the write of `hi`, that name leads
+/// to an empty file; so it does if the sync fails and the name can't be removed. Then nothing more is asked. Neither a cut that loses everything nor
+/// one that keeps everything shows this, under either fault. The sound variant has only the name under `tmp/` by then.
 pub fn a_kept_name_shows_deliver_in_new()
     ensures named { (seed stream : ℕ) → (outcome (asks_with (asks_of DeliverInNew hi) (cut_of DeliverInNew hi) 7)
         (given_of first_kept (with_keep point_names) seed stream 1000)).verdict ≡ Fail torn }
@@ -73,8 +73,8 @@ pub fn a_kept_name_shows_deliver_in_new()
         (given_of first_kept (with_keep point_names) seed stream 1000)).verdict ≡ Pass }
 {}
 
-/// The sound variant never fails, whatever a power cut keeps: for every scenario, of its points and of `power::keep`, the verdict of its run with the cut is
-/// pass or unresolved.
+/// The sound variant never fails, whatever a power cut keeps: for every scenario, which may name its points and `power::keep`, the verdict of its run
+/// with the cut is pass or unresolved.
 pub fn sound_survives_each_cut(
     workload: &Messages,
     scenario: &Scenario,

@@ -1,3 +1,4 @@
+//! The target: its setup, its catalogue, and its runs.
 ghost use Rattle.std.specs.Prelude.{◌≡◌, map, string_bytes, IfOk};
 ghost use Rattle.std.proofs.Common.{rules};
 ghost use Rattle.action_eval.specs.Answers.{start, given_of};
@@ -22,9 +23,9 @@ use target_trait::{Case, CrashTarget, Judgement, Session, Target};
 
 /// Maildir delivery, as a target. Its setup, which is all that contracts see of it, is the variant.
 ///
-/// A run delivers the messages of its workload one after another, as the maildir manual page has it: each is written to a file under
-/// `tmp/`, chunk by chunk, which is then linked under `new/`. A message has two attempts at most. At the end the power is cut; what
-/// then stands under `new/` must be whole messages, and no acknowledged one may be missing.
+/// A run delivers the messages of its workload one after another, as the maildir manual page describes it: each is written to a file under `tmp/`,
+/// chunk by chunk, and the file is then linked under `new/`. A message has two attempts at most. At the end the power is cut. Then only whole
+/// messages may stand under `new/`, and no acknowledged one may be missing.
 ///
 /// The mailboxes are kept from run to run for their memory alone: each run clears its own first.
 #[derive(Drop)]
@@ -62,10 +63,10 @@ impl Maildir {
         }
     }
 
-    /// Plays a case up to its power cut, and tells what each write did that is pending then, in the order in which they were made: `create tmp/1.1`,
-    /// `append tmp/1.1 2`, `link tmp/1.1 new/1.1`, `unlink tmp/1.1`. Where the cut is asked, its hit K at `power::keep` stands for the K-th of them. A
-    /// name has the numbers of the message and of the attempt, both from 1. The number behind an append is the place of its first byte in the file, and
-    /// the file's own first byte has place 0.
+    /// Plays a case up to its power cut, and returns what each write did that is pending then, in the order in which they were made: `create
+    /// tmp/1.1`, `append tmp/1.1 2`, `link tmp/1.1 new/1.1`, `unlink tmp/1.1`. If the cut is asked, its hit K at `power::keep` stands for the K-th of
+    /// them. A name has the numbers of the message and of the attempt, both from 1. The number behind an append is the place of its first byte in the
+    /// file, counted from 0.
     ///
     /// An error means that memory was refused. The target keeps its setup, after an error too.
     pub fn pending_calls(
@@ -92,7 +93,7 @@ impl Maildir {
             &mut self.crash_mailbox,
             &mut session,
         )?;
-        // for its clause alone, that at most one hit is past the limit
+        // Called for its contract: at most one hit is past the limit.
         let _ = session.trace();
         call_texts(alloc, self.crash_mailbox.device.pending())
     }

@@ -1,9 +1,10 @@
+//! The workload: messages in chunks.
 ghost use Rattle.std.specs.Prelude.{◌≡◌, ◌≤◌, length};
 
 use chunked_text::Chunks;
 use std::marker::Model;
 
-/// The workload of a run: the messages in order, at most 1,000, each in chunks of which every one is written by a step of its own.
+/// The workload of a run: the messages in order, at most 1,000, each in chunks. Each chunk is written by a step of its own.
 #[derive(Debug, Drop)]
 pub struct Messages {
     messages: Vec<Chunks>,
@@ -21,7 +22,7 @@ impl Model for Messages {
 }
 
 impl Messages {
-    /// These messages, at most 1,000, moved in. It takes no memory.
+    /// A workload of these messages, at most 1,000, which are moved in. It takes no memory.
     pub fn new(messages: Vec<Chunks>) -> Self
         requires { length messages.items ≤ 1000 }
         ensures { result ≡ messages.items }

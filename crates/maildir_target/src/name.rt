@@ -1,13 +1,14 @@
+//! The names of a mailbox, as numbers.
 ghost use Rattle.std.specs.Prelude.{◌≡◌, ◌≤◌};
 ghost use Rattle.maildir_target.specs.Words.{number_of, folder_part, attempt_part, new_name, name_text, text_of};
 ghost use Rattle.maildir_target.specs.declared.name.Name.{Name};
 
-/// A folder of the mail box.
+/// A folder of the mailbox.
 #[derive(Clone, Copy)]
 pub enum Folder {
-    /// Where a message is written.
+    /// The folder in which a message is written.
     Tmp,
-    /// Where it is delivered.
+    /// The folder to which it is delivered.
     New,
 }
 
@@ -71,7 +72,7 @@ pub fn new_name(message: u16, attempt: Attempt) -> u32
     name.number()
 }
 
-/// The text that is told of a name's number is the name's: `tmp/i.a` or `new/i.a` of message i and attempt a, both numbered from 1.
+/// The text that is made from a name's number is the name's: `tmp/i.a` or `new/i.a`, for message i and attempt a, both numbered from 1.
 pub fn names_are_told()
     ensures { (name : Name) → name_text (number_of name) ≡ text_of name }
 {}

@@ -83,7 +83,7 @@ fn deliver_all<D: Device>(
     Ok(())
 }
 
-/// Delivers the messages of a run on a device, which is cleared first, up to where it is judged.
+/// Delivers the messages of a run on a device, which is cleared first, up to the run's judgement.
 pub fn play_out<D: Device>(
     variant: Variant,
     messages: &Messages,
@@ -136,7 +136,7 @@ pub const TO_CUT: &[&str] = &[
     "power::keep",
 ];
 
-/// Plays a run and its power cut, which keeps what it is told to. The mailbox lends its memory.
+/// Plays a run and its power cut, which keeps the writes for which its point returns. The mailbox lends its memory.
 ///
 /// An error means that memory was refused. The session then has the hits up to there.
 pub fn play_to_cut(

@@ -1,3 +1,5 @@
+//! The points of a delivery.
+
 /// A point. Its number in the catalogue is its place here.
 #[derive(Clone, Copy)]
 pub enum Point {

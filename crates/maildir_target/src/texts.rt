@@ -1,4 +1,4 @@
-//! What pending writes did, in words.
+//! The texts that say what pending writes did.
 ghost use Rattle.std.specs.Prelude.{◌≡◌, map, string_bytes, Some, IfOk};
 ghost use Rattle.maildir_target.specs.Words.{name_text};
 ghost use Rattle.maildir_target.specs.Crash.{call_text, call_texts};

@@ -61,7 +61,7 @@ fn write_one<D: Device>(
     }
 }
 
-/// Writes the chunks from a place on that surely go through, or else one chunk. Gives the place after them.
+/// Writes the chunks from a place on whose writes surely succeed; if there are none, one chunk. Returns the place after them.
 fn write_some<D: Device>(
     delivery: &Delivery<'_>,
     at: usize,

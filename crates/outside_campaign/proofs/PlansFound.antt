@@ -1,5 +1,5 @@
 -- What is found of plans that are looked at one after another.
-use Rattle.std.proofs.Common.{◌≡◌, ℕ, ◌+◌, ◌≤◌, Bool, false, cond, List, [], ◌∷◌, ◌++◌, Option, None, Some, length, refl, ap, sym, ◌∙◌, arith, subst, add-zero}
+use Rattle.std.proofs.Common.{◌≡◌, ℕ, ◌+◌, ◌≤◌, cond, List, [], ◌∷◌, ◌++◌, Option, None, Some, length, refl, ap, sym, ◌∙◌, arith, subst, add-zero}
 use Rattle.std.specs.Prelude.{is_some, slice_get, string_bytes}
 use Rattle.std.specs.Option.{option_or}
 use Rattle.std.proofs.lemmas.List.{append_assoc, append-nil}
@@ -10,11 +10,8 @@ use Rattle.scenario_values.specs.Tidied.{tidied}
 use Rattle.target_trait.specs.declared.judgement.Verdict.{Verdict}
 use Rattle.report.specs.ReportText.{ended, text_of}
 use Rattle.report.proofs.Written.{goes_on}
-use Rattle.answer_text.specs.Known.{KnownVerdicts, known_by}
-use Rattle.campaign_given.specs.Description.{Description}
-use Rattle.campaign_given.specs.Given.{Given}
-use Rattle.outside_campaign.specs.Campaigns.{plans as listed}
-use Rattle.outside_campaign.specs.Partial.{answered_count, failure_of, first_so_far, known_line_of, known_lines, known_to_fail, partial_by, partial_text, some_fails, some_fails_by}
+use Rattle.answer_text.specs.Known.{KnownVerdicts}
+use Rattle.outside_campaign.specs.Partial.{answered_count, failure_of, first_so_far, known_line_of, known_lines, known_to_fail}
 use Rattle.outside_campaign.specs.inside.Found.{IsAdded, IsFound}
 use Rattle.outside_campaign.specs.declared.partial.Found.{Found}
 
@@ -91,15 +88,3 @@ written label seed counted last known text is =
     is ∙ pieces (text_of (label ∷ seed ∷ [])) (ended counted) (text_of known) (ended last)
     ∙ front (ended label) (ended seed) (ended counted) (text_of known ++ (ended last ++ []))
     ∙ ap (λ (t : List ℕ). ended label ++ (ended seed ++ (ended counted ++ t))) (sym (flat_map-append ended known (last ∷ [])))
-
--- ---- by the settings and the answers
-
-pub partial_is : (outside : Description) (given : Given) (answers : List ℕ) (known : KnownVerdicts) (plans : List Entries) (text : List ℕ) → known ≡ known_by outside.codes outside.points answers → plans ≡ listed outside given
-    → text ≡ partial_text outside given.plans.seed false known plans → text ≡ partial_by outside given answers
-partial_is outside given answers known plans text k p is =
-    is ∙ ap (λ (ps : List Entries). partial_text outside given.plans.seed false known ps) p
-    ∙ ap (λ (v : KnownVerdicts). partial_text outside given.plans.seed false v (listed outside given)) k
-
-pub fails_is : (outside : Description) (given : Given) (answers : List ℕ) (known : KnownVerdicts) (plans : List Entries) (fails : Bool) → known ≡ known_by outside.codes outside.points answers → plans ≡ listed outside given → fails ≡ some_fails known plans
-    → fails ≡ some_fails_by outside given answers
-fails_is outside given answers known plans fails k p is = is ∙ ap (some_fails known) p ∙ ap (λ (v : KnownVerdicts). some_fails v (listed outside given)) k

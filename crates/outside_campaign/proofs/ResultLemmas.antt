@@ -1,9 +1,8 @@
 -- What answers come to.
-use Rattle.std.proofs.Common.{◌≡◌, ℕ, zero, suc, ◌<◌, List, [], ◌∷◌, ◌++◌, Bool, true, Option, Some, None, Result, Ok, Err, length, take, get_or, map, All, refl, ap, sym, ◌∙◌, arith, subst, option_map}
-use Rattle.std.specs.Prelude.{◌≤◌, slice_get, IfErr, IsErrAnd}
+use Rattle.std.proofs.Common.{◌≡◌, ℕ, zero, suc, ◌<◌, List, [], ◌∷◌, ◌++◌, Option, Some, None, length, get_or, map, All, refl, ap, sym, ◌∙◌, arith, subst, option_map}
+use Rattle.std.specs.Prelude.{slice_get}
 use Rattle.std.specs.List.{AllByRecursion}
 use Rattle.std.proofs.lemmas.List.{length-map}
-use Rattle.std.specs.Io.KnownBytes.{Appends}
 use Rattle.scenario_values.specs.Scenario.{Entries, IsScenario}
 use Rattle.scenario_values.specs.Tidied.{tidied}
 use Rattle.target_trait.specs.declared.judgement.Verdict.{Verdict}
@@ -13,29 +12,22 @@ use Rattle.result_book.specs.FirstFailures.{first_failures}
 use Rattle.result_book.specs.Slots.{in_book}
 use Rattle.result_book.proofs.EachCodeLemmas.{firsts_in, firsts_full}
 use Rattle.result_book.proofs.SlotLemmas.{length_verdicts}
-use Rattle.plan_gen.specs.PlanList.{most_plans}
 use Rattle.report.specs.Reports.{FindingFacts, ReportFacts}
-use Rattle.asked_lines.specs.Lines.{lines_for}
-use Rattle.asked_lines.specs.Parts.{part_text}
-use Rattle.asked_lines.specs.declared.parts.AskedPart.{AskedPart}
-use Rattle.answer_text.specs.Known.{KnownVerdicts, known_by, verdicts_in, Agrees, AgreesWithText}
+use Rattle.answer_text.specs.Known.{KnownVerdicts, verdicts_in, Agrees, AgreesWithText}
 use Rattle.answer_text.specs.Runs.{KnownRuns}
-use Rattle.answer_text.proofs.Agreement.{agrees_by, some_agrees}
+use Rattle.answer_text.proofs.Agreement.{some_agrees}
 use Rattle.campaign_given.specs.Description.{Description}
 use Rattle.campaign_given.specs.Given.{Given}
 use Rattle.campaign_core.specs.Findings.{finding}
 use Rattle.outside_campaign.specs.Outside.{Component, Components, say, say_each, EachAgrees}
 use Rattle.outside_campaign.specs.Asked.{open_plans, open_requests, plan_verdicts, known_failures}
-use Rattle.outside_campaign.specs.Campaigns.{plans as plans_of, code_name, report as report_by, report_in, runs_told, shown, asks_text, first_failure, unmet_by, untried, untried_by, KnownTextFault}
+use Rattle.outside_campaign.specs.Campaigns.{plans as plans_of, code_name, report as report_by, report_in, runs_told, shown, first_failure, unmet_by, untried}
 use Rattle.report_forms.specs.Forms.{text_in}
-use Rattle.outside_campaign.specs.Readable.{IsReadable, told_by}
+use Rattle.outside_campaign.specs.Readable.{IsReadable}
 use Rattle.outside_campaign.specs.Unmet.{unmet_count}
 use Rattle.outside_campaign.specs.inside.ToldPlans.{AreOf, AreResults}
 use Rattle.outside_campaign.specs.inside.Results.{IsFirst, AreWithVerdicts, facts_of}
 use Rattle.report_forms.specs.declared.forms.Form.{Form}
-use Rattle.campaign_core.specs.declared.ending.CampaignFault.TheVariants as campaign
-use Rattle.outside_campaign.specs.declared.refusal.OutsideFault.{OutsideFault}
-use Rattle.outside_campaign.specs.declared.refusal.OutsideFault.TheVariants as refusal
 use Rattle.outside_campaign.proofs.Gathered.{each_by_known, each_by_known_agrees}
 use Rattle.outside_campaign.proofs.Lines.{verdicts_known_are}
 use Rattle.outside_campaign.specs.declared.results.Results.{Results}
@@ -93,18 +85,15 @@ told_all known plans failures findings (NotAnswered t) fe h w = (w.0, none_open 
 
 -- ---- the report
 
-pub agrees_with_known : (outside : Description) (text : List ℕ) (known : KnownVerdicts) (component : Component) → known ≡ known_by outside.codes outside.points text → AgreesWithText outside.codes outside.points text component → Agrees component known
-agrees_with_known outside text known component is agrees = subst (Agrees component) (sym is) (agrees_by outside.codes outside.points text component agrees)
-
 -- the component under each stream number
 abbrev each : Component → Components
 each component stream = component
 
 -- by the verdicts and findings of a component the report is its own
-pub report_is : (outside : Description) (settings : Given) (answers : List ℕ) (component : Component) (plans : List Entries) (verdicts : List Verdict) (findings : List FindingFacts) → plans ≡ plans_of outside settings → AreOf (each component) plans verdicts findings
-    → facts_of outside settings.plans.seed verdicts (unmet_by outside settings answers) findings ≡ report_by outside settings answers component
-report_is outside settings answers component plans verdicts findings is of =
-    let facts : List Verdict → List FindingFacts → ReportFacts = λ vs. facts_of outside settings.plans.seed vs (unmet_by outside settings answers) in
+pub report_is : (outside : Description) (settings : Given) (known : KnownRuns) (component : Component) (plans : List Entries) (verdicts : List Verdict) (findings : List FindingFacts) → plans ≡ plans_of outside settings → AreOf (each component) plans verdicts findings
+    → facts_of outside settings.plans.seed verdicts (unmet_by outside settings known) findings ≡ report_by outside settings known component
+report_is outside settings known component plans verdicts findings is of =
+    let facts : List Verdict → List FindingFacts → ReportFacts = λ vs. facts_of outside settings.plans.seed vs (unmet_by outside settings known) in
     let whole : List Entries → ReportFacts = λ ps. facts (verdicts_from (say component) 0 ps) (map (finding (say component) ps) (first_failures (numbered (verdicts_from (say component) 0 ps)))) in
     ap (λ (vs : List Verdict). facts vs findings) of.verdicts_are
     ∙ ap (λ (fs : List FindingFacts). facts (verdicts_from (say component) 0 plans) fs) of.findings_are
@@ -121,42 +110,21 @@ first_is outside settings component plans verdicts findings is of =
     ∙ first_of (finding (say component) plans) (first_failures (numbered (verdicts_from (say component) 0 plans))) (λ x. refl)
     ∙ ap (λ (ps : List Entries). option_map (λ x. x.0) (slice_get (first_failures (numbered (verdicts_from (say component) 0 ps))) 0)) is
 
-pub untried_is : (outside : Description) (settings : Given) (answers : List ℕ) (known : KnownVerdicts) (plans : List Entries) → known ≡ known_by outside.codes outside.points answers → plans ≡ plans_of outside settings → untried known plans ≡ untried_by outside settings answers
-untried_is outside settings answers known plans e is = ap (λ (k : KnownVerdicts). untried k plans) e ∙ ap (untried (known_by outside.codes outside.points answers)) is
-
--- ---- faults
-
--- the bytes that are asked
-pub asks_are : (part : AskedPart) (outside : Description) (settings : Given) (answers : List ℕ) (known : KnownVerdicts) (plans : List Entries) (bytes : List ℕ) → known ≡ known_by outside.codes outside.points answers → plans ≡ plans_of outside settings
-    → bytes ≡ part_text part (lines_for (untried known plans)) → bytes ≡ asks_text part outside settings answers
-asks_are part outside settings answers known plans bytes k p b = b ∙ ap (λ (ts : List Entries). part_text part (lines_for ts)) (untried_is outside settings answers known plans k p)
-
--- a write that failed, of a text by what is known
-pub known_cut : {X : Type 0} (text : List ℕ) (outside : Description) (settings : Given) (answers : List ℕ) (old new : Option (List ℕ)) (failed : Bool) (bytes : List ℕ) (n : ℕ) (result : Result X OutsideFault)
-    → IsErrAnd result (λ f. f ≡ refusal.Campaign (campaign.Write n)) → bytes ≡ text → Appends old new (take n bytes) → n < length bytes → failed ≡ true → length (plans_of outside settings) ≤ most_plans
-    → IfErr result (KnownTextFault text outside settings answers old new failed)
-known_cut text outside settings answers old new failed bytes n (Ok x) is whole wrote less bad few = tt
-known_cut text outside settings answers old new failed bytes n (Err f) is whole wrote less bad few =
-    let P : OutsideFault → Type 0 = λ x. KnownTextFault text outside settings answers old new failed x in
-    let Q : List ℕ → Type 0 = λ t. Appends old new (take n t) × (n < length t) in
-    subst P (sym is) (subst Q whole (wrote, less), bad, few)
-
 -- what is told is the report of each component that agrees
-pub reported_is : (form : Form) (outside : Description) (settings : Given) (answers : List ℕ) (known : KnownVerdicts) (plans : List Entries) (verdicts : List Verdict) (findings : List FindingFacts) (report : ReportFacts) (told : KnownRuns) (bytes : List ℕ)
-    → known ≡ known_by outside.codes outside.points answers → plans ≡ plans_of outside settings → ((components : Components) → EachAgrees components known → AreOf components plans verdicts findings)
-    → report ≡ facts_of outside settings.plans.seed verdicts (unmet_by outside settings answers) findings → told ≡ told_by outside answers
-    → bytes ≡ text_in form outside.points (code_name outside.codes) (runs_told outside told) report (shown outside settings)
-    → (component : Component) → AgreesWithText outside.codes outside.points answers component → bytes ≡ report_in form outside settings answers component
-reported_is form outside settings answers known plans verdicts findings report told bytes k p own r same b component agrees =
-    b ∙ ap (λ (runs : KnownRuns). text_in form outside.points (code_name outside.codes) (runs_told outside runs) report (shown outside settings)) same
-    ∙ ap (λ (facts : ReportFacts). text_in form outside.points (code_name outside.codes) (runs_told outside (told_by outside answers)) facts (shown outside settings))
-    (r ∙ report_is outside settings answers component plans verdicts findings p (own (each component) (λ stream. agrees_with_known outside answers known component k agrees)))
+pub reported_is : (form : Form) (outside : Description) (settings : Given) (known : KnownRuns) (plans : List Entries) (verdicts : List Verdict) (findings : List FindingFacts) (report : ReportFacts) (bytes : List ℕ)
+    → plans ≡ plans_of outside settings → ((components : Components) → EachAgrees components (verdicts_in known) → AreOf components plans verdicts findings)
+    → report ≡ facts_of outside settings.plans.seed verdicts (unmet_by outside settings known) findings
+    → bytes ≡ text_in form outside.points (code_name outside.codes) (runs_told outside known) report (shown outside settings)
+    → (component : Component) → Agrees component (verdicts_in known) → bytes ≡ report_in form outside settings known component
+reported_is form outside settings known plans verdicts findings report bytes p own r b component agrees =
+    b ∙ ap (λ (facts : ReportFacts). text_in form outside.points (code_name outside.codes) (runs_told outside known) facts (shown outside settings))
+    (r ∙ report_is outside settings known component plans verdicts findings p (own (each component) (λ stream. agrees)))
 
-pub first_told : (outside : Description) (settings : Given) (answers : List ℕ) (known : KnownVerdicts) (plans : List Entries) (verdicts : List Verdict) (findings : List FindingFacts) (first : Option ℕ)
-    → known ≡ known_by outside.codes outside.points answers → plans ≡ plans_of outside settings → ((components : Components) → EachAgrees components known → AreOf components plans verdicts findings)
-    → first ≡ option_map (λ f. f.number) (slice_get findings 0) → (component : Component) → AgreesWithText outside.codes outside.points answers component → first ≡ first_failure outside settings component
-first_told outside settings answers known plans verdicts findings first k p own is component agrees =
-    is ∙ first_is outside settings component plans verdicts findings p (own (each component) (λ stream. agrees_with_known outside answers known component k agrees))
+pub first_told : (outside : Description) (settings : Given) (known : KnownRuns) (plans : List Entries) (verdicts : List Verdict) (findings : List FindingFacts) (first : Option ℕ)
+    → plans ≡ plans_of outside settings → ((components : Components) → EachAgrees components (verdicts_in known) → AreOf components plans verdicts findings)
+    → first ≡ option_map (λ f. f.number) (slice_get findings 0) → (component : Component) → Agrees component (verdicts_in known) → first ≡ first_failure outside settings component
+first_told outside settings known plans verdicts findings first p own is component agrees =
+    is ∙ first_is outside settings component plans verdicts findings p (own (each component) (λ stream. agrees))
 
 -- there is a verdict for each plan
 pub verdicts_each : (known : KnownVerdicts) (plans : List Entries) (verdicts : List Verdict) (findings : List FindingFacts) → ((components : Components) → EachAgrees components known → AreOf components plans verdicts findings) → length verdicts ≡ length plans
@@ -167,13 +135,8 @@ verdicts_each known plans verdicts findings own =
 pub some_component : (outside : Description) (answers : List ℕ) → IsReadable outside answers → (component : Component) × AgreesWithText outside.codes outside.points answers component
 some_component outside answers h = some_agrees outside.codes outside.points answers h.said h.says
 
--- the verdicts that are known
-pub verdicts_are : (outside : Description) (answers : List ℕ) (known : KnownRuns) → known ≡ told_by outside answers → verdicts_in known ≡ known_by outside.codes outside.points answers
-verdicts_are outside answers known e = ap verdicts_in e
-
 -- the plans that are unmet
-pub unmet_is : (outside : Description) (settings : Given) (answers : List ℕ) (points : List (List ℕ)) (known : KnownRuns) (plans : List Entries) (n : ℕ) → points ≡ outside.points → known ≡ told_by outside answers → plans ≡ plans_of outside settings
-    → n ≡ unmet_count points known plans → n ≡ unmet_by outside settings answers
-unmet_is outside settings answers points known plans n e k p is =
-    is ∙ ap (λ (names : List (List ℕ)). unmet_count names known plans) e ∙ ap (λ (runs : KnownRuns). unmet_count outside.points runs plans) k
-    ∙ ap (unmet_count outside.points (told_by outside answers)) p
+pub unmet_is : (outside : Description) (settings : Given) (points : List (List ℕ)) (known : KnownRuns) (plans : List Entries) (n : ℕ) → points ≡ outside.points → plans ≡ plans_of outside settings
+    → n ≡ unmet_count points known plans → n ≡ unmet_by outside settings known
+unmet_is outside settings points known plans n e p is =
+    is ∙ ap (λ (names : List (List ℕ)). unmet_count names known plans) e ∙ ap (unmet_count outside.points known) p

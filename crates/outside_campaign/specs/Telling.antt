@@ -1,4 +1,4 @@
--- Runs of a component that somebody else runs, told hit by hit by what answers tell of the run of each tidied scenario.
+-- The recorded runs of a component that somebody else runs, explained hit by hit.
 use Rattle.std.specs.Prelude.{ℕ, List, Option, None, Some}
 use Rattle.scenario_values.specs.Scenario.{Entries}
 use Rattle.scenario_values.specs.Tidied.{tidied}
@@ -11,7 +11,7 @@ use Rattle.run_explained.specs.Told.{RunFacts}
 use Rattle.run_explained.specs.ByAnswer.{answer_facts}
 use Rattle.report_forms.specs.Runs.{Telling, most_hits_shown}
 
--- by the names of points and codes: a run is told where its hits are
+-- A run is explained if its hits are recorded, with these names of points and codes.
 abbrev pub hits_told : List (List ℕ) → (ℕ → List ℕ) → Entries → Verdict → Option (List Stretch) → Option RunFacts
 hits_told points codes scenario v None = None
 hits_told points codes scenario v (Some hits) = Some (answer_facts most_hits_shown points codes scenario v (points_of hits))
@@ -20,6 +20,6 @@ abbrev pub run_told : List (List ℕ) → (ℕ → List ℕ) → Entries → Opt
 run_told points codes scenario None = None
 run_told points codes scenario (Some run) = hits_told points codes scenario run.verdict run.hits
 
--- the run of each scenario, whatever its stream number, which answers don't tell
+-- The recorded run of each scenario. It is the same for every stream number, as answers don't record these.
 abbrev pub telling : List (List ℕ) → (ℕ → List ℕ) → KnownRuns → Telling
 telling points codes known stream scenario = run_told points codes scenario (known (tidied scenario))

@@ -1,4 +1,4 @@
--- What is told of a list of plans by what is known, which is so of each family of components that agrees with it.
+-- The verdicts and findings of a list of plans by what is known: those of every family of components that agrees with it.
 use Rattle.std.specs.Prelude.{◌≡◌, ◌<◌, ℕ, List, [], ◌∷◌, Some, length, map}
 use Rattle.scenario_values.specs.Scenario.{Entries}
 use Rattle.result_book.specs.Verdicts.{verdicts_from}
@@ -11,16 +11,16 @@ use Rattle.outside_campaign.specs.declared.verdicts.Verdicts.TheVariants as verd
 use Rattle.outside_campaign.specs.declared.findings.Findings.{Findings}
 use Rattle.outside_campaign.specs.declared.findings.Findings.TheVariants as findings
 
--- no plan is open, and these are the verdicts that each family of components that agrees with what is known gives them, each plan under its
--- number as the stream number; or the first open plan, tidied
+-- No plan is open, and these are the plans' verdicts for every family of components that agrees with what is known, with each plan's number as the
+-- stream number. Or else this is the first open plan, tidied.
 abbrev pub AreVerdicts : KnownVerdicts → List Entries → Verdicts → Type 0
 AreVerdicts known plans (verdicts.All all) =
     (map (λ v. Some v) all.items ≡ plan_verdicts known plans) × (open_plans known plans ≡ [])
     × ((components : Components) → EachAgrees components known → all.items ≡ verdicts_from (say_each components) 0 plans)
 AreVerdicts known plans (verdicts.NotAnswered t) = (rest : List Entries) × (open_plans known plans ≡ t ∷ rest)
 
--- what is told of these failures for each family of components that agrees with what is known, which leaves nothing open; or the open
--- candidates of their reductions
+-- Nothing is open, and these are the findings of these failures for every family of components that agrees with what is known. Or else these are the
+-- open candidates of their reductions.
 abbrev pub AreFindings : KnownVerdicts → List Entries → List (ℕ × ℕ) → Findings → Type 0
 AreFindings known plans failures (findings.Told all) =
     (open_requests known plans failures ≡ [])

@@ -1,7 +1,7 @@
-//! Answers, read and held against the settings.
+//! Answers, read and compared with the settings.
 ghost use Rattle.std.specs.Prelude.{◌≡◌, ◌≢◌, true, false, IfErr, IfOk, OnOk};
 ghost use Rattle.answer_text.specs.Runs.{told_in};
-ghost use Rattle.outside_campaign.specs.Readable.{IsReadable, IsUnreadable, KeepsCensus, census_of, told_by};
+ghost use Rattle.outside_campaign.specs.Readable.{IsReadable, IsUnreadable, KeepsCensus, census_of, strangers_by, told_by};
 ghost use Rattle.outside_campaign.specs.inside.Census.{IsCensusFault};
 
 use crate::refusal::OutsideFault;
@@ -45,12 +45,14 @@ fn check_census(alloc: Global, outside: &Outside, runs: &Runs) -> Result<(), Out
     }
 }
 
-/// What is known by a text of answers to a campaign without a depth, as [`answer_text::read`] tells it. Hits may be told: those of the run without
+/// What a text of answers records for a campaign without a depth, as [`answer_text::read`] reads it. Hits may be recorded. Those of the run without
 /// faults have to be as many at each point as the settings say.
 ///
-/// `Answers` is the answers' first fault, and then `Census` is the line that tells other hits; else the fault is want of memory.
+/// `Answers` is the first fault of the answers. Without one, `Census` has the line that records other hits of the run without faults. Any other fault
+/// means that memory was refused.
 pub fn read_answers(alloc: Global, outside: &Outside, answers: &[u8]) -> Result<Runs, OutsideFault>
     ensures known { IfOk result (λ runs. told_in runs ≡ told_by outside.now answers.now) }
+    ensures strangers { IfOk result (λ runs. runs.strangers ≡ strangers_by outside.now answers.now) }
     ensures readable { OnOk result (IsReadable outside.now answers.now) }
     ensures fault { IfErr result (IsUnreadable outside.now answers.now) }
 {

@@ -1,4 +1,4 @@
-//! What is still to be tried.
+//! The scenarios that are still to be tried.
 ghost use Rattle.std.specs.Prelude.{◌≡◌, ◌<◌, ◌∷◌, ◌++◌, [], All, length, IfOk, OnOk, string_bytes};
 ghost use Rattle.asked_lines.specs.Lines.{lines_behind, lines_for};
 ghost use Rattle.asked_lines.specs.Parts.{part_text};
@@ -14,6 +14,7 @@ use result_book::first_failures_of;
 use scenario_values::{Scenario, tidy};
 use std::alloc::{AllocError, Global};
 
+/// Adds the texts of these tidied scenarios, unless they are there.
 fn add_requests(
     alloc: Global,
     lines: &mut AskedLines,
@@ -27,7 +28,7 @@ fn add_requests(
     Ok(())
 }
 
-/// Adds a plan that isn't answered, tidied.
+/// Adds a plan, tidied, if it isn't answered.
 fn add_plan<K: VerdictTable>(
     alloc: Global,
     lines: &mut AskedLines,
@@ -46,6 +47,7 @@ fn add_plan<K: VerdictTable>(
     }
 }
 
+/// Adds each plan that isn't answered, in the plans' order.
 fn add_plans<K: VerdictTable>(
     alloc: Global,
     lines: &mut AskedLines,
@@ -60,7 +62,7 @@ fn add_plans<K: VerdictTable>(
     Ok(())
 }
 
-/// The texts of these requests, and of each plan that isn't answered.
+/// The texts of these requests, and then of each plan that isn't answered.
 fn asked<K: VerdictTable>(
     alloc: Global,
     known: &K,
@@ -75,10 +77,11 @@ fn asked<K: VerdictTable>(
     Ok(lines)
 }
 
-/// The texts of the scenarios that are still to be tried, tidied, `none` for the one without entries, and each once: open candidates of
-/// the reductions of these failures, each the number of a plan and its code, and then each plan that isn't answered, in the plans' order.
+/// The texts of the scenarios that are still to be tried, tidied, and each once; the scenario without entries is `none`. First come the open
+/// candidates of the reductions of these failures, each of which is the number of a plan and its code. Then comes each plan that isn't answered, in
+/// the plans' order.
 ///
-/// Any of them may be tried in any order. An error means that memory was refused.
+/// Any of them may be tried, in any order. An error means that memory was refused.
 pub fn asks<K: VerdictTable>(
     alloc: Global,
     known: &K,
@@ -94,8 +97,8 @@ pub fn asks<K: VerdictTable>(
     }
 }
 
-/// The text of a part of the lines that ask for what is still to be tried of these plans, where the reductions are those of the first
-/// failures known. An error means that memory was refused.
+/// The lines that ask for what is still to be tried of these plans, or a part of them. The reductions are those of the first failures known. An error
+/// means that memory was refused.
 pub fn asks_text<K: VerdictTable>(
     alloc: Global,
     known: &K,

@@ -1,4 +1,4 @@
-//! What is told of failures, by what is known.
+//! What first failures are reduced to, by what is known.
 ghost use Rattle.std.specs.Prelude.{◌≡◌, ◌<◌, All, length, IfOk, OnOk};
 ghost use Rattle.outside_campaign.specs.Told.{AreFindings};
 ghost use Rattle.outside_campaign.specs.inside.Told.{IsLook, IsGathered};
@@ -10,7 +10,7 @@ use report::Finding;
 use scenario_values::{Scenario, keep, tidy};
 use std::alloc::{AllocError, Global};
 
-/// What is told of a failure by what is known.
+/// What a failure is reduced to, or what has to be tried first.
 #[derive(Drop)]
 enum Look {
     Told(Finding),
@@ -18,16 +18,16 @@ enum Look {
     Open(Vec<Scenario>),
 }
 
-/// What is told of some failures by what is known.
+/// What some failures are reduced to, or what has to be tried first.
 #[derive(Drop)]
 pub enum Findings {
     /// What each is reduced to.
     Told(Vec<Finding>),
-    /// The open candidates of their reductions, as tidied scenarios, at least one. Two of them may be equal.
+    /// The open candidates of their reductions, as tidied scenarios; at least one. Two of them may be equal.
     Open(Vec<Scenario>),
 }
 
-/// What is told of a plan that fails with this code.
+/// What the plan of this number and scenario, which fails with this code, is reduced to by what is known.
 fn look_at<K: VerdictTable>(
     alloc: Global,
     known: &K,
@@ -55,7 +55,7 @@ fn look_at<K: VerdictTable>(
     }
 }
 
-/// Adds what a look came to.
+/// Adds a finding, or the candidates that are open instead.
 fn gather(
     findings: &mut Vec<Finding>,
     requests: &mut Vec<Scenario>,
@@ -75,9 +75,9 @@ fn gather(
     }
 }
 
-/// What is told of these failures, each the number of a plan and its code, by what is known: what each is reduced to, for each family of
-/// components that agrees with what is known, one for each stream number, which is here a plan's number; or the open candidates of their
-/// reductions.
+/// What each of these failures is reduced to, by what is known, or the open candidates of their reductions. A failure is the number of a plan and its
+/// code. The plan's number is its stream number: the findings are those of each family of components, one for each stream number, that agrees with
+/// what is known.
 ///
 /// An error means that memory was refused.
 pub fn findings_known<K: VerdictTable>(

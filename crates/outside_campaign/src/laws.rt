@@ -11,7 +11,7 @@ ghost use Rattle.asked_lines.specs.Lines.{lines_for};
 ghost use Rattle.outside_campaign.specs.Asked.{open_plans, known_failures, IsUntried};
 ghost use Rattle.outside_campaign.specs.Campaigns.{untried};
 
-/// No line is written just where nothing is still to be tried, which is where no report is refused for want of answers.
+/// There is no line exactly if nothing is still to be tried. Then no report is refused because an answer is missing.
 pub fn nothing_is_asked_where_nothing_is_to_be_tried()
     ensures { (scenarios : List Entries) → (lines_for scenarios ≡ []) ↔ (scenarios ≡ []) }
 {}
@@ -21,15 +21,15 @@ pub fn what_is_asked_is_unanswered()
     ensures { (known : KnownVerdicts) (plans : List Entries) → AllByRecursion (IsUntried known) (untried known plans) }
 {}
 
-/// The reduction of each component that agrees with what is known comes to the round whose open candidates are asked: so what it tries
-/// next is among them.
+/// The reduction of each component that agrees with what is known comes to the round whose open candidates are asked for. So what it tries next is
+/// among them.
 pub fn reductions_come_to_what_is_asked()
     ensures { (known : KnownVerdicts) (code : ℕ) (scenario : Entries) (component : Component) → IsScenario scenario → Agrees component known
         → ComesTo component code scenario (place_of known code scenario) }
 {}
 
-/// Where no plan is open, the failures that are known are the first failures: those of each family of components that agrees with what is
-/// known, one for each stream number, where each plan is run under its own number.
+/// If no plan is open, the first failures known are the first failures: those of each family of components, one for each stream number, that agrees
+/// with what is known. Each plan is run under its own number.
 pub fn known_failures_are_first()
     ensures { (known : KnownVerdicts) (plans : List Entries) (components : Components) → AllByRecursion (λ s. IsScenario s) plans
         → EachAgrees components known → open_plans known plans ≡ []

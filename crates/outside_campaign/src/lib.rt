@@ -1,10 +1,10 @@
-//! Campaigns on components that somebody else runs: what is still to be tried, and what is told, by the answers alone.
+//! Campaigns on components that somebody else runs, by what is recorded of their runs: what is still to be tried, the report,
+//! and the interim report.
 #![tactic(auto)]
 
 mod answers;
 mod asking;
 mod campaign;
-mod driving;
 mod findings;
 mod laws;
 mod partial;
@@ -20,17 +20,17 @@ mod unmet;
 mod verdicts;
 
 pub use answers::read_answers;
+pub use asking::asks_text;
 pub use campaign::OutsideCampaign;
-pub use driving::write_asks;
 pub use findings::{Findings, findings_known};
 pub use laws::{
     known_failures_are_first, nothing_is_asked_where_nothing_is_to_be_tried,
     reductions_come_to_what_is_asked, what_is_asked_is_unanswered,
 };
-pub use partial::{partial_text, write_partial};
+pub use partial::partial_text;
 pub use planned::{borrowed, list_plans, planned as outside_plans};
 pub use refusal::OutsideFault;
-pub use reporting::write_report_in;
+pub use reporting::report_text;
 pub use table::VerdictTable;
 pub use teller::AnswerTeller;
 pub use telling::{Words, first_number};

@@ -1,30 +1,23 @@
-//! What a campaign on a component that somebody else runs has come to before all is answered.
-ghost use Rattle.std.specs.Prelude.{◌≡◌, ◌^◌, ◌<◌, ◌≤◌, ◌∷◌, ◌++◌, [], Some, false, codes, length, string_bytes, IfErr, IfOk, OnOk};
+//! The interim report of a campaign on a component that somebody else runs.
+ghost use Rattle.std.specs.Prelude.{◌≡◌, ◌^◌, ◌<◌, ◌∷◌, ◌++◌, [], Some, codes, string_bytes, IfOk, OnOk};
 ghost use Rattle.std.specs.Fmt.{decimal};
-ghost use Rattle.std.specs.Io.KnownBytes.{Appends};
 ghost use Rattle.scenario_values.specs.Tidied.{tidied};
-ghost use Rattle.plan_gen.specs.PlanList.{most_plans};
 ghost use Rattle.report.specs.ReportText.{ended, text_of};
-ghost use Rattle.outside_campaign.specs.Campaigns.{code_name, plans as listed};
-ghost use Rattle.outside_campaign.specs.Partial.{answered_line, first_line, known_line, partial_by, partial_text, some_fails, some_fails_by, PartialFault};
-ghost use Rattle.outside_campaign.specs.Readable.{IsReadable};
+ghost use Rattle.outside_campaign.specs.Campaigns.{code_name};
+ghost use Rattle.outside_campaign.specs.Partial.{answered_line, first_line, known_line, partial_text, some_fails};
 ghost use Rattle.outside_campaign.specs.inside.Found.{IsAdded, IsFound};
-ghost use Rattle.outside_campaign.specs.inside.Results.{IsUntoldYet};
 
-use crate::answers::read_answers;
 use crate::campaign::OutsideCampaign;
-use crate::planned::{borrowed, planned};
-use crate::refusal::OutsideFault;
 use crate::table::VerdictTable;
 use crate::telling::Words;
 use campaign_plans::{CampaignPlan, CampaignPlans};
-use report::{Names, write_report, write_scenario, write_verdict};
+use report::{Names, write_scenario, write_verdict};
 use scenario_values::Scenario;
 use std::alloc::{AllocError, Global};
 use std::fmt::Write;
-use target_trait::{Sink, Verdict};
+use target_trait::Verdict;
 
-/// What is found of plans that are looked at one after another.
+/// What is found of the plans that were looked at so far.
 #[derive(Drop)]
 struct Found {
     /// How many are answered.
@@ -35,6 +28,7 @@ struct Found {
     first: Option<(u32, Scenario)>,
 }
 
+/// Appends the line of a plan that is known not to pass.
 fn write_known(
     alloc: Global,
     lines: &mut String,
@@ -51,7 +45,7 @@ fn write_known(
     lines.push_str("\n")
 }
 
-/// Adds what is known of a plan.
+/// Adds a plan's scenario with its verdict, which is known.
 fn add(
     alloc: Global,
     words: &Words<'_>,
@@ -79,7 +73,7 @@ fn add(
     }
 }
 
-/// Adds a plan, where it is answered.
+/// Adds a plan, if it is answered.
 fn look_at<K: VerdictTable>(
     alloc: Global,
     words: &Words<'_>,
@@ -117,6 +111,7 @@ fn found_in<K: VerdictTable>(
     Ok(found)
 }
 
+/// Appends the lines of the label and the seed.
 fn write_head(out: &mut String, campaign: &OutsideCampaign<'_>) -> Result<(), AllocError>
     ensures { OnOk result (string_bytes out.new ≡ string_bytes out.old
         ++ text_of ((codes "target " ++ campaign.now.outside.now.label) ∷ (codes "seed " ++ decimal campaign.now.settings.now.plans.seed) ∷ [])) }
@@ -128,6 +123,7 @@ fn write_head(out: &mut String, campaign: &OutsideCampaign<'_>) -> Result<(), Al
     write!(out, "target {label}\nseed {seed}\n")
 }
 
+/// Appends the line that says how many plans are answered.
 fn write_answered(
     out: &mut String,
     answered: usize,
@@ -149,6 +145,7 @@ fn write_code(out: &mut String, words: &Words<'_>, code: u32) -> Result<(), Allo
     out.push_str(words.code(code))
 }
 
+/// Appends the line of the first plan that is known to fail.
 fn write_failure(
     alloc: Global,
     out: &mut String,
@@ -166,6 +163,7 @@ fn write_failure(
     out.push_str("\n")
 }
 
+/// The same, or the line that says that there is none.
 fn write_first(
     alloc: Global,
     out: &mut String,
@@ -183,9 +181,9 @@ fn write_first(
     }
 }
 
-/// What a campaign has come to, told before all is answered, by what is known of its plans: the label, the seed, how many plans are answered,
-/// a line for each that is known not to pass, and the first that is known to fail; and whether one is known to fail. Where more plans become
-/// known as answers come in, `is_growing`, the line of how many says so.
+/// The interim report by what is known of the plans, and whether one is known to fail. It has the label, the seed, how many plans are answered, a
+/// line for each plan that is known not to pass, and the first that is known to fail. If `is_growing`, more plans become known as answers come in,
+/// and the line `answered` ends with the word `known`.
 ///
 /// An error means that memory was refused.
 pub fn partial_text<K: VerdictTable>(
@@ -208,56 +206,4 @@ pub fn partial_text<K: VerdictTable>(
     text.push_str(found.lines.as_str())?;
     write_first(alloc, &mut text, &words, &found.first)?;
     Ok((text, found.first.is_some()))
-}
-
-/// The text of what a campaign has come to by the answers, and whether a plan is known to fail.
-fn reported_so_far(
-    alloc: Global,
-    campaign: &OutsideCampaign<'_>,
-    answers: &[u8],
-) -> Result<(String, bool), OutsideFault>
-    ensures text { IfOk result (λ r. string_bytes r.0 ≡ partial_by campaign.now.outside.now campaign.now.settings.now answers.now) }
-    ensures fails { IfOk result (λ r. r.1 ≡ some_fails_by campaign.now.outside.now campaign.now.settings.now answers.now) }
-    ensures few { OnOk result (length (listed campaign.now.outside.now campaign.now.settings.now) ≤ most_plans) }
-    ensures readable { OnOk result (IsReadable campaign.now.outside.now answers.now) }
-    ensures fault { IfErr result (IsUntoldYet campaign.now.outside.now campaign.now.settings.now answers.now) }
-{
-    let outside = campaign.outside;
-    let known = read_answers(alloc, outside, answers)?;
-    let points = borrowed(alloc, outside.points.as_slice())?;
-    let list = planned(alloc, points.as_slice(), campaign)?;
-    let plans = CampaignPlans::by_census(&list);
-    let told = partial_text(alloc, campaign, &known, &plans, false)?;
-    Ok(told)
-}
-
-/// Writes what a campaign on a component that somebody else runs has come to by the answers so far, whether all is answered or not: its label
-/// and seed, `answered` with how many of how many plans are, `known` with the verdict and the scenario of each plan that is known not to pass,
-/// in the plans' order, and `first so far` with the code and the scenario of the first that is known to fail, or `none`. The result says
-/// whether one is known to fail.
-///
-/// Nothing is written before the whole text stands. The faults are those of [`write_asks`](crate::write_asks): `Answers` is the answers' first
-/// fault; `Census` is a census that isn't the settings'; `NotAnswered` never comes; and of a fault as of a campaign, `TooManyPlans` comes only
-/// where the list has more than 65536 plans. After each of these, and where memory was refused, the sink is as it was and hasn't failed;
-/// `Write` tells how many bytes of the text, fewer than all, went out before the sink failed.
-pub fn write_partial<W: Sink>(
-    alloc: Global,
-    campaign: &OutsideCampaign<'_>,
-    answers: &[u8],
-    sink: &mut W,
-) -> Result<bool, OutsideFault>
-    requires { W.has_failed sink.old ≡ false }
-    ensures text { OnOk result (Appends (W.told sink.old) (W.told sink.new)
-        (partial_by campaign.now.outside.now campaign.now.settings.now answers.now)) }
-    ensures fails { IfOk result (λ fails. fails ≡ some_fails_by campaign.now.outside.now campaign.now.settings.now answers.now) }
-    ensures few { OnOk result (length (listed campaign.now.outside.now campaign.now.settings.now) ≤ most_plans) }
-    ensures sound { OnOk result (W.has_failed sink.new ≡ false) }
-    // Where something is wrong with the answers nothing is told.
-    ensures readable { OnOk result (IsReadable campaign.now.outside.now answers.now) }
-    ensures fault { IfErr result (PartialFault campaign.now.outside.now campaign.now.settings.now answers.now
-        (W.told sink.old) (W.told sink.new) (W.has_failed sink.new)) }
-{
-    let (text, fails) = reported_so_far(alloc, campaign, answers)?;
-    write_report(text.as_bytes(), sink)?;
-    Ok(fails)
 }

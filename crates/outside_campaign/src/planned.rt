@@ -14,7 +14,7 @@ use scenario_values::Text;
 use std::alloc::{AllocError, Global};
 use target_trait::Sink;
 
-/// The texts, borrowed.
+/// The texts, as borrowed strings.
 pub fn borrowed(alloc: Global, from: &[Text]) -> Result<Vec<&str>, AllocError>
     ensures { IfOk result (λ names. texts names.items ≡ from.now) }
 {
@@ -25,7 +25,7 @@ pub fn borrowed(alloc: Global, from: &[Text]) -> Result<Vec<&str>, AllocError>
     Ok(names)
 }
 
-/// The list of plans, over the names of the settings' points.
+/// The list of plans over the names of the points in the settings.
 pub fn planned<'a>(
     alloc: Global,
     points: &'a [&'a str],
@@ -47,9 +47,8 @@ pub fn planned<'a>(
 
 /// Writes the list of plans of a campaign on a component that somebody else runs, a line for each: its number and its scenario.
 ///
-/// Nothing is written before the whole text stands. The answer is `TooManyPlans` only where the list has more than 65536 plans, and then,
-/// and where memory was refused, the sink is as it was and hasn't failed; `Write` tells how many bytes of the text, fewer than all, went
-/// out before the sink failed.
+/// Nothing is written before the whole text is made. `TooManyPlans` comes only if the list has more than 65536 plans. Then, and if memory was
+/// refused, the sink is as it was and hasn't failed. `Write` says how many bytes of the text, fewer than all, went out before the sink failed.
 pub fn list_plans<W: Sink>(
     alloc: Global,
     campaign: &OutsideCampaign<'_>,

@@ -15,21 +15,20 @@ use std::alloc::{AllocError, Global};
 pub enum Reached {
     /// To its end.
     Reduced(Reduction),
-    /// To a round that what is known doesn't decide: all candidates that it waits for, as tidied scenarios, at least one. Two of them may be
-    /// equal.
+    /// To a round that isn't decided yet: all candidates that it waits for, as tidied scenarios; at least one. Two of them may be equal.
     Open(Vec<Scenario>),
 }
 
-/// What is known of a set of faults.
+/// What is known of the test of a set of faults.
 #[derive(Drop)]
 enum Test {
     /// Whether the scenario with these faults alone fails with the code.
     Told(bool),
-    /// Its tidied form isn't answered.
+    /// The scenario, tidied, isn't answered.
     Untold(Scenario),
 }
 
-/// What is known of the scenario with the faults of the set alone. A list that isn't faults of the scenario in ascending order doesn't fail.
+/// What is known of the scenario with these faults alone. A list that isn't faults of the scenario in ascending order doesn't fail.
 fn look_up<K: VerdictTable>(
     alloc: Global,
     known: &K,
@@ -52,7 +51,7 @@ fn look_up<K: VerdictTable>(
     }
 }
 
-/// Takes what is known of a request that is out: puts its answer, or adds its scenario to those that are to be tried.
+/// Gives the core the answer to a request, or adds its scenario to those that are to be tried, if the answer isn't known.
 fn settle(
     alloc: Global,
     core: &mut Core,
@@ -74,7 +73,7 @@ fn settle(
     }
 }
 
-/// What a core that hands out no request has come to.
+/// What a core has come to that hands out no further request.
 fn ended(alloc: Global, core: &Core, untried: Vec<Scenario>) -> Result<Reached, AllocError>
     ensures { IfOk result (IsEnded core.now untried.items) }
 {
@@ -84,11 +83,11 @@ fn ended(alloc: Global, core: &Core, untried: Vec<Scenario>) -> Result<Reached, 
     }
 }
 
-/// Reduces a scenario that fails with this code as far as what is known decides: to its end, which is that of each component that agrees
-/// with it, or to scenarios that are still to be tried.
+/// Reduces a scenario that fails with this code, as far as what is known decides: to its end, which is that of each component that agrees with what
+/// is known, or to scenarios that are still to be tried.
 ///
-/// Each answer is looked up, and none is asked of a component; a verdict that isn't a failure with the code is no failure here. An error
-/// means that memory was refused.
+/// Each answer is looked up, and no component is run. A verdict other than a failure with this code counts as no failure. An error means that memory
+/// was refused.
 pub fn reduce_known<K: VerdictTable>(
     alloc: Global,
     known: &K,
@@ -107,6 +106,6 @@ pub fn reduce_known<K: VerdictTable>(
         let test = look_up(alloc, known, scenario, faults, code, request.set())?;
         settle(alloc, &mut core, &mut untried, request, test)?;
     }
-    // so many requests don't fit in any memory
+    // no memory holds so many requests
     Err(AllocError)
 }

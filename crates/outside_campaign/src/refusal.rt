@@ -1,4 +1,4 @@
-//! Why a text over answers wasn't written whole.
+//! Why a text by answers wasn't written whole.
 ghost use Rattle.std.specs.Prelude.{◌≡◌};
 ghost use Rattle.campaign_core.specs.CommandTexts.{plan_fault};
 ghost use Rattle.campaign_core.specs.declared.ending.CampaignFault.TheVariants.{Memory, Write};
@@ -12,17 +12,17 @@ use report::WriteFault;
 use scenario_values::Scenario;
 use std::alloc::AllocError;
 
-/// Why a text over answers wasn't written whole.
+/// Why a text by answers wasn't written whole.
 #[derive(Debug, Drop)]
 pub enum OutsideFault {
-    /// The first fault of the answers; never want of memory. Nothing was written.
+    /// The first fault of the answers, which is never that memory was refused. Nothing was written.
     Answers(AnswersFault),
-    /// The line of this number, from 1, is the first to answer the run without faults, and tells hits of which some point has more or fewer than
-    /// the settings say. Nothing was written.
+    /// The line of this number, from 1, is the first to answer the run without faults, and some point has more or fewer hits there than the settings
+    /// say. Nothing was written.
     Census(u32),
-    /// This tidied scenario is still to be tried, the first of those that are. Nothing was written.
+    /// This tidied scenario is the first that is still to be tried. Nothing was written.
     NotAnswered(Scenario),
-    /// A fault as of a campaign of the program's own.
+    /// A fault of a campaign that the program runs itself.
     Campaign(CampaignFault),
 }
 

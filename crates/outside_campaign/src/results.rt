@@ -1,4 +1,4 @@
-//! What answers come to.
+//! The verdicts and findings of a campaign, by answers.
 ghost use Rattle.std.specs.Prelude.{◌≡◌, ◌<◌, length, IfOk};
 ghost use Rattle.std.specs.List.{AllByRecursion};
 ghost use Rattle.scenario_values.specs.Scenario.{IsScenario};
@@ -17,16 +17,16 @@ use scenario_values::Scenario;
 use std::alloc::{AllocError, Global};
 use target_trait::Verdict;
 
-/// What is told of a list of plans by what is known.
+/// What the plans of a list come to, or what has to be tried first.
 #[derive(Drop)]
 pub enum Results {
     /// The verdict of each plan, in the plans' order, and the first failure of each code.
     Told(Vec<Verdict>, Vec<Finding>),
-    /// The first scenario that is to be tried, tidied.
+    /// The first scenario that is still to be tried, tidied.
     NotAnswered(Scenario),
 }
 
-/// The first of the open candidates.
+/// The first of the open candidates, as still to be tried.
 fn first_request(requests: Vec<Scenario>) -> Result<Results, AllocError>
     requires { 0 < length requests.items }
     ensures { IfOk result (IsFirst requests.items) }
@@ -37,7 +37,7 @@ fn first_request(requests: Vec<Scenario>) -> Result<Results, AllocError>
     }
 }
 
-/// What is told where no candidate is open.
+/// The results if no candidate is open: the verdicts of the plans with these findings, or the first plan that isn't answered.
 fn with_verdicts(
     alloc: Global,
     plans: &CampaignPlans<'_>,
@@ -54,8 +54,8 @@ fn with_verdicts(
     }
 }
 
-/// What is told of these plans by what is known: the results of each component that agrees with it, or the first scenario that is to be
-/// tried. An error means that memory was refused.
+/// What these plans come to by what is known: the results of each component that agrees with it, or the first scenario that is still to be tried. An
+/// error means that memory was refused.
 pub fn results_known<K: VerdictTable>(
     alloc: Global,
     known: &K,

@@ -1,4 +1,4 @@
-//! Runs of a component that somebody else runs, told hit by hit by answers.
+//! Runs of a component that somebody else runs, hit by hit, as answers record them.
 ghost use Rattle.std.specs.Prelude.{◌≡◌, option_map, IfOk};
 ghost use Rattle.outside_campaign.specs.Campaigns.{code_name};
 ghost use Rattle.outside_campaign.specs.Telling.{run_told};
@@ -12,7 +12,7 @@ use run_explained::{RunByAnswer, ToldRun as ToldLines, tell_answer};
 use scenario_values::Scenario;
 use std::alloc::{AllocError, Global};
 
-/// The run of a scenario, hit by hit, where its hits are told.
+/// The run of a scenario, hit by hit, if its hits are recorded.
 fn run_told(
     alloc: Global,
     outside: &Outside,
@@ -40,7 +40,7 @@ fn run_told(
     Ok(Some(told))
 }
 
-/// Tells the runs of a component by what answers tell of them.
+/// Shows the runs of a component as answers record them.
 #[derive(Drop)]
 pub struct AnswerTeller<'a> {
     pub outside: &'a Outside,

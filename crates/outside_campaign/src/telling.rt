@@ -1,4 +1,4 @@
-//! What a report tells, by the words of the settings.
+//! The texts of reports, with the names that the settings have.
 ghost use Rattle.std.specs.Prelude.{◌≡◌, ◌<◌, [], None, length, IfOk, option_map, slice_get};
 ghost use Rattle.campaign_given.specs.Description.{IsDescription};
 ghost use Rattle.answer_text.specs.Runs.{told_in};
@@ -18,10 +18,10 @@ use report_json::Shown;
 use std::alloc::{AllocError, Global};
 use target_trait::Verdict;
 
-/// The names of the points and codes of a component that somebody else runs. A code that there isn't has the empty name.
+/// The names of the points and codes of a component that somebody else runs. A code that the settings don't list has the empty name.
 #[derive(Drop)]
 pub struct Words<'a> {
-    /// The description of the component, by its settings.
+    /// The component, as the settings describe it.
     pub outside: &'a Outside,
 }
 
@@ -46,7 +46,7 @@ impl<'a> Names for Words<'a> {
     }
 }
 
-/// What is told by these verdicts and findings, and by how many plans are unmet.
+/// The report with these verdicts and findings, and with so many unmet plans.
 pub fn report_of<'a>(
     outside: &'a Outside,
     seed: u64,
@@ -69,7 +69,7 @@ pub fn report_of<'a>(
     }
 }
 
-/// What is shown of plans of which none grew.
+/// What is shown of plans if none of them grew.
 fn shown_of<'a>(
     plans: &'a CampaignPlans<'a>,
     storms: usize,
@@ -81,7 +81,7 @@ fn shown_of<'a>(
     Shown::new(plans, None, storms, listed, settings)
 }
 
-/// The text of a report on the plans of these settings, with the runs that are known. An error means that memory was refused.
+/// The text of a report on the plans of these settings, with the recorded runs. An error means that memory was refused.
 pub fn reported_text(
     alloc: Global,
     form: &Form<'_>,
@@ -111,7 +111,7 @@ pub fn reported_text(
     text_in(alloc, form, &words, &teller, report, &shown)
 }
 
-/// The number of the first of these findings.
+/// The number of the plan of the first finding, if there is one.
 pub fn first_number(findings: &[Finding]) -> Option<u32>
     ensures { result ≡ option_map (λ f. f.number) (slice_get findings.now 0) }
 {

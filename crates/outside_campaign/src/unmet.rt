@@ -12,7 +12,7 @@ use scenario_values::{Scenario, tidy};
 use std::alloc::{AllocError, Global};
 use target_trait::Verdict;
 
-/// Whether a fault of the scenario, once it is tidied, never acts in a run with these hits, where they are known.
+/// Whether a fault of the scenario, once it is tidied, never acts in a run with these hits, if they are recorded.
 fn leaves_idle(
     alloc: Global,
     points: &[&str],
@@ -29,7 +29,7 @@ fn leaves_idle(
     has_idle(alloc, points, &tidy(alloc, scenario)?, asked.as_slice())
 }
 
-/// Whether a scenario passes, as is told of its run, and a fault of it never acts there.
+/// Whether a scenario's run is recorded as passing, and a fault of the scenario never acts in it.
 fn is_unmet(
     alloc: Global,
     points: &[&str],
@@ -47,7 +47,7 @@ fn is_unmet(
     }
 }
 
-/// One, where a plan passes without meeting all of its faults.
+/// 1 if a plan passes without meeting all of its faults, else 0.
 fn unmet_of(
     alloc: Global,
     runs: &Runs,
@@ -65,8 +65,7 @@ fn unmet_of(
     }
 }
 
-/// How many of the plans pass without meeting all of their faults, by the hits that are told of their runs. An error means that memory was
-/// refused.
+/// How many of the plans pass without meeting all of their faults, by the recorded hits of their runs. An error means that memory was refused.
 pub fn count_unmet(
     alloc: Global,
     runs: &Runs,

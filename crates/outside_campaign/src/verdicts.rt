@@ -13,7 +13,7 @@ use scenario_values::{Scenario, tidy};
 use std::alloc::{AllocError, Global};
 use target_trait::Verdict;
 
-/// What is known of the verdicts of plans.
+/// The verdicts of plans, or what has to be tried first.
 #[derive(Drop)]
 pub enum Verdicts {
     /// The verdict of each plan, in the plans' order.
@@ -22,7 +22,7 @@ pub enum Verdicts {
     NotAnswered(Scenario),
 }
 
-/// The verdict of each plan, where it is known. An error means that memory was refused.
+/// The verdict of each plan, if it is known. An error means that memory was refused.
 pub fn plan_verdicts<K: VerdictTable>(
     alloc: Global,
     known: &K,
@@ -42,8 +42,8 @@ pub fn plan_verdicts<K: VerdictTable>(
     Ok(verdicts)
 }
 
-/// The verdicts of plans where each is known: those that each family of components that agrees with what is known gives them, one for each
-/// stream number, which is here a plan's number; or the first plan that isn't answered. An error means that memory was refused.
+/// The verdicts of the plans, or the first plan that isn't answered. A plan's number is its stream number: the verdicts are those of each family of
+/// components, one for each stream number, that agrees with what is known. An error means that memory was refused.
 pub fn verdicts_known(
     alloc: Global,
     plans: &CampaignPlans<'_>,

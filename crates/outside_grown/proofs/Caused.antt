@@ -1,4 +1,4 @@
--- Causes by the verdicts that answers tell are those of each component that agrees with them.
+-- The causes by the verdicts that answers record are those of each component that agrees with them.
 use Rattle.std.proofs.Common.{All, ◌≡◌, ℕ, zero, suc, ◌+◌, ◌<◌, ◌≤◌, Bool, true, false, cond, not, ◌&&◌, ◌||◌, ◌==◌, List, [], ◌∷◌, ◌++◌, length, map, get_or, refl, ap, sym, ◌∙◌, subst, arith}
 use Rattle.std.specs.Prelude.{Option, Some, None, flat_map, is_none}
 use Rattle.std.specs.List.{AllByRecursion, list_all}

@@ -1,4 +1,4 @@
--- The run without faults, as answers tell it of each component that agrees with them.
+-- The run without faults, as answers record it, for each component that agrees with them.
 use Rattle.std.proofs.Common.{Bor, ◌≡◌, ℕ, ◌+◌, ◌<◌, ◌≤◌, ◌⊎◌, inl, inr, Bool, true, false, cond, List, [], ◌∷◌, length, refl, ap, sym, ◌∙◌, subst, arith}
 use Rattle.std.specs.Prelude.{Option, Some, None, IfSome, option_map, option_and_then, nat_le, ◌&&◌}
 use Rattle.std.specs.List.{list_all}
@@ -113,7 +113,7 @@ told_by_hits a asked names v seen hits plans same clean slice is =
     ∙ ap (λ (hs : List ℕ). further_over a.points asked (Some hs)) slice
     ∙ ap (further_by a.points asked) (sym clean)
 
--- where they are refused
+-- The same if the plans are refused as too many.
 pub many_by_hits : (a : Answered) (asked : Asked) (before : ℕ) (names : List (Bor (List ℕ))) (v : Verdict) (seen hits : List ℕ) → texts names ≡ a.points → clean_run a ≡ Some (told v (Some seen)) → hits ≡ seen
     → (most_plans < before + length (further_list (texts names) (counts_of (length names) hits) asked)) ⊎ (most_plans ≤ length hits) → AreTooMany a asked before
 many_by_hits a asked before names v seen hits same clean slice many =

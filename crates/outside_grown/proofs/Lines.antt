@@ -182,7 +182,7 @@ plans_asked t a d plans is low same =
     ∙ ap (λ (names : List (List ℕ)). map (plan_line names) (to_run t d (runs_in a))) (sym is.names))
     ∙ put_apart [] (lines_to_run t d (runs_in a)) (plan_lines_apart a.points a.listed t is d low (runs_in a))
 
--- by the lines that were added for the plans that grow, and then for the further ones
+-- What is asked, by the lines that were added for the plans that grow and then for the further ones.
 pub asked_of : (t : Subject) (a : Answered) (d : ℕ) (asked : Asked) (plans : List (List Rig)) (further : List Entries) (none mid after : List (List ℕ)) → IsComponent a.points a.listed t → d ≤ 64 → plans ≡ known_part t d (runs_in a)
     → further ≡ further_known t asked (clean_run a) → none ≡ [] → mid ≡ lines_behind none (unrun a plans) → after ≡ lines_behind mid (undecided a d further) → IsAskedOf t a d asked after
 asked_of t a d asked plans further none mid after is low same known empty grew went = record {

@@ -79,12 +79,12 @@ counted runs plan v hits asked counts slice n p seen same are is lt =
     ap (λ (l : List ℕ). get_or l p 0) (is ∙ are) ∙ range_at (λ (q : ℕ). times q asked) 0 n p lt ∙ ap (λ (q : ℕ). times q asked) (let e : 0 + p ≡ p = omega arith in e)
     ∙ ap (times p) same ∙ sym (ap (λ (o : Option Told). times_told p (hits_told o)) seen)
 
--- ---- of a component
+-- ---- for a component
 
 none_less : (n : ℕ) → nat_lt n 0 ≡ false
 none_less n = grind (arith, nat_tests)
 
--- where hits aren't told, none counts
+-- Runs whose hits aren't recorded don't count.
 most_of : (f g : List Rig → ℕ) (seen : List Rig → Bool) (plans : List (List Rig)) → AllByRecursion (λ plan. ((seen plan ≡ true) × (f plan ≡ g plan)) ⊎ ((seen plan ≡ false) × (f plan ≡ 0))) plans
     → most (map f plans) ≡ most (map g (filter seen plans))
 most_of f g seen [] all = refl
@@ -137,7 +137,7 @@ reached_are t d runs counts lawful agrees most_of =
     each_is counts (reached_known t d runs) 0 (λ p lt. most_of.are p lt ∙ reached_is t d runs lawful agrees p ∙ ap (reached_known t d runs) (let e : p ≡ 0 + p = omega arith in e))
     ∙ ap (λ (k : ℕ). map (reached_known t d runs) (range_with_len 0 k)) most_of.many
 
--- where the list is whole and the hits of each run are told
+-- The same if the list is whole and the hits of each run are recorded.
 pub reached_whole : (t : Subject) (d : ℕ) (runs : KnownRuns) → known_part t d runs ≡ grown t d → AllByRecursion (λ plan. are_told (hits_of runs plan) ≡ true) (grown t d) → reached_seen t d runs ≡ reached_each t d
 reached_whole t d runs same seen = maps_are (reached_known t d runs) (reached t d) each 0 (length t.names)
   where

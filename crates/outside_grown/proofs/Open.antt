@@ -1,10 +1,10 @@
 -- Lists of rigged hits that are looked at one after another.
-use Rattle.std.proofs.Common.{◌≡◌, ℕ, ◌+◌, ◌<◌, ◌≤◌, Bool, true, false, cond, ◌||◌, List, [], ◌∷◌, ◌++◌, length, map, take, get_or, refl, ap, sym, ◌∙◌, subst, append_assoc}
-use Rattle.std.specs.Prelude.{Option, Some, flat_map, is_none}
+use Rattle.std.proofs.Common.{◌≡◌, ℕ, ◌+◌, ◌<◌, ◌≤◌, arith, Bool, true, false, cond, ◌||◌, List, [], ◌∷◌, ◌++◌, length, map, take, get_or, refl, ap, sym, ◌∙◌, subst, append_assoc}
+use Rattle.std.specs.Prelude.{Option, None, Some, flat_map, is_none}
 use Rattle.std.specs.List.{list_any}
 use Rattle.std.proofs.Math.Seq.{take-append_seam}
 use Rattle.std.proofs.lemmas.Grind.{flat_map-append}
-use Rattle.std.proofs.lemmas.List.{append-nil, map-append, take_all, take_more}
+use Rattle.std.proofs.lemmas.List.{append-nil, get_or-map, get_or_append_left, length-map, map-append, take_all, take_more}
 use Rattle.std.proofs.lemmas.List.Elements.{filter-append}
 use Rattle.std.proofs.lemmas.List.Folds.{list_any_at, list_any_more}
 use Rattle.scenario_values.specs.Scenario.{Entries}
@@ -24,7 +24,7 @@ waiting_parts a depth xs ys =
     let test : List Rig → Bool = λ rigs. is_none (verdicts_in a depth rigs) in
     ap (map (rigged_in a)) (filter-append test xs ys) ∙ map-append (rigged_in a) (unknown (verdicts_in a depth) xs) (unknown (verdicts_in a depth) ys)
 
--- one more, where it isn't known, and where it is
+-- One more scenario, if its verdict isn't known, and if it is.
 pub waits : (a : Answered) (depth : ℕ) (rigs : List Rig) (o : Option Verdict) (s : Entries) (old new : List Entries) → o ≡ verdicts_in a depth rigs → is_none o ≡ true → s ≡ rigged_in a rigs → new ≡ old ++ s ∷ []
     → new ≡ old ++ waiting_of a depth (rigs ∷ [])
 waits a depth rigs o s old new said none is added =
@@ -132,3 +132,10 @@ open_more a depth i plans old new here lt so_far is added =
 pub all_open : (a : Answered) (depth i : ℕ) (plans : List (List Rig)) (waiting : List Entries) → length plans ≤ i → waiting ≡ map (rigged_in a) (flat_map (open_of (verdicts_in a depth)) (take i plans))
     → waiting ≡ map (rigged_in a) (flat_map (open_of (verdicts_in a depth)) plans)
 all_open a depth i plans waiting end so_far = so_far ∙ ap (λ (ps : List (List Rig)). map (rigged_in a) (flat_map (open_of (verdicts_in a depth)) ps)) (take_all i plans end)
+
+-- ---- the verdicts of plans, if others stand behind them
+
+pub verdict_of_plan : (f : List Rig → Option Verdict) (plans : List (List Rig)) (verdicts rest : List (Option Verdict)) (n : ℕ) → verdicts ≡ map f plans ++ rest → n < length plans
+    → get_or verdicts n None ≡ f (get_or plans n [])
+verdict_of_plan f plans verdicts rest n are less =
+    ap (λ (vs : List (Option Verdict)). get_or vs n None) are ∙ get_or_append_left (map f plans) rest None n (let many = length-map plans f in omega (arith, less, many)) ∙ get_or-map f plans n [] None less

@@ -17,20 +17,20 @@ use Rattle.known_runs.specs.Promises.{IsWholeList}
 use Rattle.answered_runs.specs.Answered.{Answered, runs_in}
 use Rattle.answered_runs.specs.Components.{IsComponent}
 use Rattle.outside_grown.specs.Further.{clean_run, further_known, further_of, further_seen}
-use Rattle.outside_grown.specs.Lists.{AreListsOf, list_known}
-use Rattle.outside_grown.specs.declared.listing.GrownLists.{GrownLists}
+use Rattle.outside_grown.specs.Lists.{IsListOf, list_known}
+use Rattle.grown_plans.specs.declared.grown_list.GrownList.{GrownList}
 
-pub lists_of : (t : Subject) (d : ℕ) (asked : Asked) (a : Answered) (lists : GrownLists) → IsComponent a.points a.listed t → AreKnown t d (runs_in a) lists.listed.known
-    → lists.further ≡ further_known t asked (clean_run a) → AreListsOf t d asked a lists
-lists_of t d asked a lists is known same = record {
+pub list_of : (t : Subject) (d : ℕ) (asked : Asked) (a : Answered) (list : GrownList) (further : List Entries) → IsComponent a.points a.listed t → AreKnown t d (runs_in a) list
+    → further ≡ further_known t asked (clean_run a) → IsListOf t d asked a list further
+list_of t d asked a list further is known same = record {
   grown = known;
-  list =
-      ap (λ (ps : List (List Rig)). grown_scenarios a.points ps ++ lists.further) known.plans
+  whole =
+      ap (λ (ps : List (List Rig)). grown_scenarios a.points ps ++ further) known.plans
       ∙ ap (λ (l : List Entries). grown_scenarios a.points (known_part t d (runs_in a)) ++ l) same
       ∙ ap (λ (names : List (List ℕ)). grown_scenarios names (known_part t d (runs_in a)) ++ further_known t asked (clean_run a)) (sym is.names);
 }
 
--- ---- where the hits of each run are told
+-- ---- if the hits of each run are recorded
 
 pub empty_first : (t : Subject) (d : ℕ) → Contains (grown t d) []
 unfolding level

@@ -1,4 +1,4 @@
--- What is still to be tried of a campaign with a depth, by what answers tell.
+-- What is still to be tried in a campaign with a depth, by answers.
 use Rattle.std.specs.Prelude.{◌≡◌, ◌≢◌, ℕ, List, ◌++◌, is_none, map}
 use Rattle.std.specs.List.{filter}
 use Rattle.scenario_values.specs.Scenario.{Entries}
@@ -17,32 +17,31 @@ use Rattle.answered_runs.specs.Answered.{Answered, known_plans, runs_in}
 use Rattle.answered_runs.specs.Verdicts.{verdict_by}
 use Rattle.outside_grown.specs.Further.{clean_run, further_known, further_told}
 
--- the scenarios of these plans of whose runs nothing is told
+-- The scenarios of those of these plans whose runs aren't recorded.
 abbrev pub unrun : Answered → List (List Rig) → List Entries
 unrun a plans = map (λ plan. tidied (grown_scenario a.points plan)) (filter (λ plan. is_none (runs_in a plan)) plans)
 
--- of these scenarios those whose verdict is neither told nor follows from runs that are told
+-- The ones of these scenarios whose verdict neither is recorded nor follows from recorded runs.
 abbrev pub undecided : Answered → ℕ → List Entries → List Entries
 undecided a depth scenarios = map tidied (filter (λ s. is_none (verdict_by a.points (told_in a.book) depth (tidied s))) scenarios)
 
--- what is to be tried: of the plans that grow and are known by now those of whose runs nothing is told, and then the undecided storms and
--- listed scenarios
+-- What is to be tried: first the known plans whose runs aren't recorded, and then the undecided storms and listed scenarios.
 abbrev pub to_try : Answered → ℕ → Asked → List Entries
 to_try a depth asked = unrun a (known_plans a depth) ++ undecided a depth (further_told a asked)
 
--- the line that asks for a plan
+-- The line that asks for a plan.
 abbrev pub plan_line : List (List ℕ) → List Rig → List ℕ
 plan_line points plan = scenario_text (tidied (grown_scenario points plan))
 
--- a line for each plan of a component's list to a depth that is known by now and is still to be run, in the order of the list
+-- A line for each known plan of a component's list to a depth that is still to be run, in the order of the list.
 abbrev pub lines_to_run : Subject → ℕ → KnownRuns → List (List ℕ)
 lines_to_run t depth runs = map (plan_line t.names) (to_run t depth runs)
 
--- no line stands twice
+-- No line comes twice.
 abbrev pub AreApart : List (List ℕ) → Type 0
 AreApart lines = EachTwo (λ line other. line ≢ other) lines
 
--- what is asked of a component: these lines, each once, and behind them those of its undecided storms and listed scenarios
+-- What is asked of a component: these lines, each once, and then those of its undecided storms and listed scenarios.
 pub record IsAskedOf (t : Subject) (a : Answered) (depth : ℕ) (asked : Asked) (lines : List (List ℕ)) : Type 0 where
   pub plans : AreApart (lines_to_run t depth (runs_in a))
   pub whole : lines ≡ lines_behind (lines_to_run t depth (runs_in a)) (undecided a depth (further_known t asked (clean_run a)))

@@ -1,21 +1,21 @@
--- The list of a campaign with a depth, by what answers tell.
+-- The list of a campaign with a depth, by answers.
 use Rattle.std.specs.Prelude.{◌≡◌, ℕ, ◌++◌, List, [], map}
 use Rattle.scenario_values.specs.Scenario.{Entries}
 use Rattle.plan_gen.specs.PlanList.{Asked}
 use Rattle.campaign_plans.specs.GrownScenarios.{grown_scenarios}
 use Rattle.grown_plans.specs.GrownPlans.{Subject, scenario_of}
+use Rattle.grown_plans.specs.declared.grown_list.GrownList.{GrownList}
 use Rattle.known_runs.specs.Known.{KnownRuns}
 use Rattle.known_runs.specs.KnownPart.{known_part}
 use Rattle.known_runs.specs.KnownPlans.{AreKnown}
 use Rattle.answered_runs.specs.Answered.{Answered, runs_in}
 use Rattle.outside_grown.specs.Further.{further_known}
-use Rattle.outside_grown.specs.declared.listing.GrownLists.{GrownLists}
 
--- the list of a component as far as it is known, with storms and listed scenarios behind the plans that grow
+-- The known part of a component's list: plans that grow, and then storms and listed scenarios.
 abbrev pub list_known : Subject → ℕ → Asked → KnownRuns → List Entries
 list_known t depth asked known = map (scenario_of t) (known_part t depth known) ++ further_known t asked (known [])
 
--- all is the component's: the plans that grow, the sizes of their levels, and the whole list
-pub record AreListsOf (t : Subject) (depth : ℕ) (asked : Asked) (a : Answered) (lists : GrownLists) : Type 0 where
-  pub grown : AreKnown t depth (runs_in a) lists.listed.known
-  pub list : grown_scenarios a.points lists.listed.known.plans ++ lists.further ≡ list_known t depth asked (runs_in a)
+-- Everything is the component's: the plans that grow, the sizes of their levels, and the whole list.
+pub record IsListOf (t : Subject) (depth : ℕ) (asked : Asked) (a : Answered) (list : GrownList) (further : List Entries) : Type 0 where
+  pub grown : AreKnown t depth (runs_in a) list
+  pub whole : grown_scenarios a.points list.plans ++ further ≡ list_known t depth asked (runs_in a)

@@ -1,6 +1,5 @@
-//! What is still to be tried.
-ghost use Rattle.std.specs.Prelude.{◌≡◌, ◌≤◌, ◌∷◌, [], length, IfOk, IsErrOf, OnOk};
-ghost use Rattle.std.specs.List.{AllByRecursion};
+//! What is still to be tried of a campaign with a depth.
+ghost use Rattle.std.specs.Prelude.{◌≡◌, ◌<◌, ◌∷◌, [], length, slice_index_or, IfOk, IsErrOf, OnOk};
 ghost use Rattle.std.specs.Str.{bytes_eq};
 ghost use Rattle.scenario_values.specs.Tidied.{tidied};
 ghost use Rattle.indexmap.specs.IndexSet.{insert_key};
@@ -9,22 +8,19 @@ ghost use Rattle.asked_lines.specs.Lines.{lines_behind, lines_for};
 ghost use Rattle.answer_text.specs.Runs.{told_in};
 ghost use Rattle.grown_plans.specs.GrownPlans.{Subject};
 ghost use Rattle.answered_runs.specs.Answered.{known_plans};
-ghost use Rattle.answered_runs.specs.KnownLists.{IsKnownList};
 ghost use Rattle.answered_runs.specs.Components.{AgreesWithRuns, IsComponent};
 ghost use Rattle.outside_grown.specs.Asked.{AreApart, IsAskedOf, to_try, undecided, unrun};
 ghost use Rattle.outside_grown.specs.Further.{AreTooMany};
 
-use crate::further::further_plans;
+use crate::listing::further_behind;
 use action_eval::Rig;
-use answered_runs::{AnsweredRuns, plan_scenario};
+use answered_runs::{KnownPlans, plan_scenario};
 use asked_lines::AskedLines;
-use grown_plans::{GrownList, GrownPlans};
-use known_runs::{Look, RunTable, Workspace};
 use plan_gen::{Plan, PlanFault, PlanList, PlanSettings};
 use scenario_values::{Scenario, tidy};
 use std::alloc::{AllocError, Global};
 
-/// Adds the text of a scenario once it is tidied, unless it is there.
+/// Adds the text of a scenario, once it is tidied, unless it is there.
 fn add(alloc: Global, lines: &mut AskedLines, scenario: &Scenario) -> Result<(), AllocError>
     ensures { OnOk result (lines.new ≡ insert_key bytes_eq lines.old (scenario_text (tidied scenario.now))) }
 {
@@ -32,57 +28,54 @@ fn add(alloc: Global, lines: &mut AskedLines, scenario: &Scenario) -> Result<(),
     lines.add(alloc, &tidied)
 }
 
-/// Adds a plan that grew, where nothing is told of its run.
+/// Adds the plan of this number, if its run isn't recorded.
 fn add_grown(
     alloc: Global,
-    runs: &AnsweredRuns<'_>,
-    faults: &[Rig],
-    hits: &mut Vec<u32>,
+    known: &KnownPlans<'_>,
+    number: usize,
+    faults: &mut Vec<Rig>,
     lines: &mut AskedLines,
 ) -> Result<(), AllocError>
-    requires { length faults.now ≤ 64 }
-    ensures { OnOk result (lines.new ≡ lines_behind lines.old (unrun runs.now (faults.now ∷ []))) }
+    requires { number < length known.now.list.plans }
+    ensures { OnOk result (lines.new ≡ lines_behind lines.old (unrun known.now.answered (slice_index_or known.now.list.plans number [] ∷ []))) }
 {
-    match runs.look(faults, hits)? {
-        Look::Unknown => {
-            let scenario = plan_scenario(alloc, runs.points(), faults)?;
+    match known.verdict_told(number) {
+        Some(_) => Ok(()),
+        None => {
+            known.list().plans.faults_of(number, faults)?;
+            let points = known.runs().points();
+            let scenario = plan_scenario(alloc, points, faults.as_slice())?;
             add(alloc, lines, &scenario)
         }
-        Look::Unseen(_) | Look::Seen(_) => Ok(()),
     }
 }
 
-/// Adds the plans that grew of whose runs nothing is told.
+/// Adds the plans that grew and whose runs aren't recorded.
 fn add_all_grown(
     alloc: Global,
-    runs: &AnsweredRuns<'_>,
-    plans: &GrownPlans,
+    known: &KnownPlans<'_>,
     lines: &mut AskedLines,
 ) -> Result<(), AllocError>
-    requires { AllByRecursion (λ plan. length plan ≤ 64) plans.now }
-    ensures { OnOk result (lines.new ≡ lines_behind lines.old (unrun runs.now plans.now)) }
+    ensures { OnOk result (lines.new ≡ lines_behind lines.old (unrun known.now.answered known.now.list.plans)) }
 {
-    let mut workspace = Workspace::new(alloc);
-    for number in 0..plans.len() {
-        plans.faults_of(number, &mut workspace.faults)?;
-        let faults = workspace.faults.as_slice();
-        add_grown(alloc, runs, faults, &mut workspace.hits, lines)?;
+    let mut faults = Vec::new(alloc);
+    for number in 0..known.list().plans.len() {
+        add_grown(alloc, known, number, &mut faults, lines)?;
     }
     Ok(())
 }
 
-/// Adds a storm or a listed scenario whose verdict isn't known.
+/// Adds a storm or a listed scenario, if its verdict isn't known.
 fn add_further(
     alloc: Global,
-    runs: &AnsweredRuns<'_>,
-    depth: u32,
+    known: &KnownPlans<'_>,
     plan: &Plan<'_>,
     lines: &mut AskedLines,
 ) -> Result<(), AllocError>
-    ensures { OnOk result (lines.new ≡ lines_behind lines.old (undecided runs.now depth (plan.now ∷ []))) }
+    ensures { OnOk result (lines.new ≡ lines_behind lines.old (undecided known.now.answered known.now.depth (plan.now ∷ []))) }
 {
     let scenario = plan.scenario(alloc)?;
-    match runs.verdict_of(alloc, depth, &scenario)? {
+    match known.runs().verdict_of(alloc, known.depth(), &scenario)? {
         Some(_) => Ok(()),
         None => add(alloc, lines, &scenario),
     }
@@ -91,48 +84,45 @@ fn add_further(
 /// Adds the storms and listed scenarios whose verdicts aren't known.
 fn add_all_further(
     alloc: Global,
-    runs: &AnsweredRuns<'_>,
-    depth: u32,
+    known: &KnownPlans<'_>,
     plans: &PlanList<'_>,
     lines: &mut AskedLines,
 ) -> Result<(), AllocError>
-    ensures { OnOk result (lines.new ≡ lines_behind lines.old (undecided runs.now depth plans.now)) }
+    ensures { OnOk result (lines.new ≡ lines_behind lines.old (undecided known.now.answered known.now.depth plans.now)) }
 {
     for number in 0..plans.len() {
-        add_further(alloc, runs, depth, &plans.plan(number), lines)?;
+        add_further(alloc, known, &plans.plan(number), lines)?;
     }
     Ok(())
 }
 
-/// The texts of the scenarios that are still to be tried of a campaign with a depth, up to 64, tidied, `none` for the one without entries, and
-/// each once: of the plans that grow and are known by now, in the order of the list, those of whose runs nothing is told; and then, once the
-/// run without faults is told, the storms and listed scenarios whose verdicts neither are told nor follow from runs that are. A plan is known
-/// once the hits of each plan that it grew from are told, so levels wait for nothing. What follows from runs that are told is never asked.
+/// The texts of the scenarios that are still to be tried of a campaign with a depth, tidied, and each once; the scenario without entries is `none`.
+/// First come the known plans whose runs aren't recorded, in the order of the list. Then, once the run without faults is recorded, come the storms
+/// and listed scenarios whose verdicts are neither recorded nor follow from recorded runs. A plan is known once the hits of each plan that it grew
+/// from are recorded, so it needn't wait until all of their level are. What follows from recorded runs is never requested.
 ///
-/// A run that is told without its hits isn't asked for again, and nothing grows from it: so there may be nothing left to be tried of a list that
-/// isn't whole, which [`grown_lists`](crate::grown_lists) tells by its gap.
+/// A run that is recorded without its hits isn't requested again, and nothing grows from it. So nothing may be left to be tried though the list isn't
+/// whole: `KnownPlans::unseen` counts such runs.
 ///
-/// Any of them may be tried in any order. `TooManyPlans` comes only where the known plans are more than 65536 with the storms and listed
-/// scenarios, or the run without faults has as many hits.
+/// Any of the scenarios may be tried, in any order. `TooManyPlans` comes only if the known plans with the storms and listed scenarios are more than
+/// 65536, or the run without faults has at least 65536 hits.
 pub fn asks(
     alloc: Global,
-    runs: &AnsweredRuns<'_>,
-    depth: u32,
+    known: &KnownPlans<'_>,
     settings: &PlanSettings<'_>,
-    known: &GrownList,
 ) -> Result<AskedLines, PlanFault>
-    requires depth { depth ≤ 64 }
-    requires list { IsKnownList runs.now depth known.now }
-    ensures lines { IfOk result (λ lines. lines ≡ lines_for (to_try runs.now depth settings.now)) }
+    ensures lines { IfOk result (λ lines. lines ≡ lines_for (to_try known.now.answered known.now.depth settings.now)) }
     ensures once { IfOk result (λ lines. AreApart lines) }
     // For every component that agrees with the answers.
-    ensures asked { IfOk result (λ lines. (t : Subject) → IsComponent runs.now.points runs.now.listed t → AgreesWithRuns t (told_in runs.now.book)
-        → IsAskedOf t runs.now depth settings.now lines) }
-    ensures many { IsErrOf result PlanFault.TooManyPlans → AreTooMany runs.now settings.now (length (known_plans runs.now depth)) }
+    ensures asked { IfOk result (λ lines. (t : Subject) → IsComponent known.now.answered.points known.now.answered.listed t
+        → AgreesWithRuns t (told_in known.now.answered.book) → IsAskedOf t known.now.answered known.now.depth settings.now lines) }
+    ensures many { IsErrOf result PlanFault.TooManyPlans
+        → AreTooMany known.now.answered settings.now (length (known_plans known.now.answered known.now.depth)) }
 {
-    let further = further_plans(alloc, runs, settings, known.plans.len())?;
+    let _ = known.list();
+    let further = further_behind(alloc, known, settings)?;
     let mut lines = AskedLines::new(alloc);
-    add_all_grown(alloc, runs, &known.plans, &mut lines)?;
-    add_all_further(alloc, runs, depth, &further, &mut lines)?;
+    add_all_grown(alloc, known, &mut lines)?;
+    add_all_further(alloc, known, &further, &mut lines)?;
     Ok(lines)
 }

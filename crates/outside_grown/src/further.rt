@@ -1,4 +1,4 @@
-//! The storms and listed scenarios that stand behind plans that grow.
+//! The storms and listed scenarios behind plans that grow.
 ghost use Rattle.std.specs.Prelude.{◌≡◌, ◌<◌, ◌≤◌, ◌⊎◌, ◌+◌, ◌^◌, ℕ, [], length, option_map, IfOk, IfSome, IsErrOf, OnOk};
 ghost use Rattle.action_eval.specs.Answers.{texts};
 ghost use Rattle.action_eval.specs.Catalogue.{IsCatalogue};
@@ -9,29 +9,26 @@ ghost use Rattle.answer_text.specs.Runs.{told_in};
 ghost use Rattle.answered_runs.specs.Components.{AgreesWithRuns, IsComponent};
 ghost use Rattle.outside_grown.specs.Further.{AreTooMany, HasFewHits, census_told, clean_hits, clean_run, further_known, further_told};
 
-use answered_runs::AnsweredRuns;
-use known_runs::{Look, RunTable};
+use answered_runs::{AnsweredRuns, MOST_PLANS};
+use known_runs::{Look, look_up};
 use plan_gen::{Census, PlanFault, PlanList, PlanSettings, counts_of};
 use scenario_values::Scenario;
 use std::alloc::{AllocError, Global};
 
-/// A list has at most so many plans.
-pub const MOST_PLANS: usize = 65536;
-
-/// The points of the hits of the run without faults, where they are told.
+/// The points of the hits of the run without faults, if they are recorded.
 fn clean_hits(alloc: Global, runs: &AnsweredRuns<'_>) -> Result<Option<Vec<u32>>, AllocError>
     ensures hits { IfOk result (λ hits. option_map (λ h. h.items) hits ≡ clean_hits runs.now) }
     ensures few { IfOk result (λ hits. IfSome hits (λ h. length h.items < 2 ^ 32)) }
 {
     let mut hits = Vec::new(alloc);
-    match runs.look(&[], &mut hits)? {
+    match look_up(runs, &[], &mut hits)? {
         Look::Unknown | Look::Unseen(_) => Ok(None),
         Look::Seen(_) => Ok(Some(hits)),
     }
 }
 
-/// The census, where the hits of the run without faults are told: how often it hits each point, in the catalogue's order. It is that of every
-/// component that agrees with the answers, under each seed. An error means that memory was refused.
+/// The census, if the hits of the run without faults are recorded: how often it hits each point, in the order of the catalogue. It is the census of
+/// every component that agrees with the answers, under each seed. An error means that memory was refused.
 pub fn census(alloc: Global, runs: &AnsweredRuns<'_>) -> Result<Option<Vec<u32>>, AllocError>
     ensures told { IfOk result (λ counts. option_map (λ c. c.items) counts ≡ census_told runs.now) }
     // For every component that agrees with the answers.
@@ -47,7 +44,7 @@ pub fn census(alloc: Global, runs: &AnsweredRuns<'_>) -> Result<Option<Vec<u32>>
     }
 }
 
-/// The storms and listed scenarios over the census of these hits, behind so many plans.
+/// The storms and listed scenarios over the census of these hits, with `before` plans before them.
 fn plans_over<'a>(
     alloc: Global,
     points: &'a [&'a str],
@@ -72,7 +69,7 @@ fn plans_over<'a>(
     plan_gen::further_plans(alloc, &census, points, settings, before)
 }
 
-/// These scenarios alone, behind so many plans.
+/// These listed scenarios alone, with `before` plans before them.
 fn listed_alone<'a>(
     alloc: Global,
     points: &'a [&'a str],
@@ -94,11 +91,11 @@ fn listed_alone<'a>(
     plans_over(alloc, points, &[], &settings, before)
 }
 
-/// The storms and listed scenarios that stand behind so many plans, as far as they are known by the answers: none before the run without
-/// faults is told. Storms are drawn over its census, and none where its hits aren't told. They are those of every component that agrees with the
-/// answers.
+/// The storms and listed scenarios, with `before` plans before them, as far as they are known by the answers. There are none until the run without
+/// faults is recorded. Storms are drawn over its census; if its hits aren't recorded, there are no storms. They are those of every component that
+/// agrees with the answers.
 ///
-/// `TooManyPlans` comes only where these are more than 65536 together, or the run without faults has as many hits.
+/// `TooManyPlans` comes only if these and the plans before them are more than 65536, or the run without faults has at least 65536 hits.
 pub fn further_plans<'a>(
     alloc: Global,
     runs: &AnsweredRuns<'a>,
@@ -114,7 +111,7 @@ pub fn further_plans<'a>(
         → plans ≡ further_known t settings.now (clean_run runs.now)) }
 {
     let mut hits = Vec::new(alloc);
-    match runs.look(&[], &mut hits)? {
+    match look_up(runs, &[], &mut hits)? {
         Look::Seen(_) => plans_over(alloc, runs.points(), hits.as_slice(), settings, before),
         Look::Unseen(_) => listed_alone(alloc, runs.points(), settings.listed, before),
         Look::Unknown => listed_alone(alloc, runs.points(), &[], before),

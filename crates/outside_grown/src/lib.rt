@@ -1,5 +1,5 @@
-//! Campaigns with a depth on components that somebody else runs, by answers that tell their hits: the list of plans, what is still to be
-//! tried, the most hits of each point, and which plans are causes.
+//! Campaigns with a depth on components that somebody else runs, by recorded runs: the list of plans, what is still to be tried, the most hits of
+//! each point, and which plans are causes.
 #![tactic(auto)]
 
 mod asking;
@@ -10,6 +10,6 @@ mod reaching;
 
 pub use asking::asks;
 pub use causing::{Causes, known_causes};
-pub use further::{MOST_PLANS, census, further_plans};
-pub use listing::{GrownLists, grown_lists};
+pub use further::{census, further_plans};
+pub use listing::further_behind;
 pub use reaching::reached;

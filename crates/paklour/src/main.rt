@@ -1,5 +1,5 @@
-//! The command `paklour`: reads settings from a file or from standard input, and does one command with the target that they choose; or
-//! reads settings from a file, answers from standard input, and says what is still to be tried, or what they come to.
+//! The command `paklour`: reads settings from a file or from standard input, and does one command with the target that they choose; or reads settings
+//! from a file and answers from standard input, and writes what is still to be tried, or the report.
 #![tactic(auto)]
 
 ghost use Rattle.std.specs.Prelude.{◌≡◌, false};
@@ -61,7 +61,7 @@ fn run<H: Threads + Wait + Sync>(rt: &HostRuntime, threads: &H) -> Exit {
     }
 }
 
-/// Does what is ordered, by settings from a file or from standard input.
+/// Carries out an order, with settings from a file or from standard input.
 fn run_order<W: Sink, E: Sink, H: Threads + Wait + Sync, G: Gate>(
     rt: &HostRuntime,
     host: &Host<'_, G, H>,
@@ -83,7 +83,7 @@ fn run_order<W: Sink, E: Sink, H: Threads + Wait + Sync, G: Gate>(
     }
 }
 
-/// Answers a question, by settings from a file and answers from standard input.
+/// Answers a question, with settings from a file and answers from standard input.
 fn run_question<W: Sink, E: Sink>(
     rt: &HostRuntime,
     question: &Question,

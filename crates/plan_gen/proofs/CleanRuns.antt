@@ -94,7 +94,7 @@ full_rigged r = let n = r.site.hit - 0 - 1 in full_both (offs n) (term_of r.kind
 
 -- ---- hits before the rigged one
 
--- the next hit, where its chain is this one
+-- The next hit, if its chain is this one.
 abbrev with_chain : Given → List Hit → ℕ → List Term → Hit
 with_chain g h q c = hit_by c (name_of g q) (words_of h) q (tried (word g.seed g.stream) (is_used_up (acted h (name_of g q))) 0 c (words_of h))
 

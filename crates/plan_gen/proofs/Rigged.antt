@@ -57,7 +57,7 @@ names_differ own other i d e h many test same =
     sym (get_or-map f own i d [] h) ∙ ap (λ (l : List (List ℕ)). get_or l i []) same ∙ get_or-map f other i e [] (omega (arith, h, many)) in
     isnt_other _ test ((bytes_eq-Decides (get_or own i d).now (get_or other i e).now).1 here)
 
--- where two catalogues have the same name at i, and the same ones after it, they have the same ones from i on
+-- If two catalogues have the same name at i, and the same ones after it, they have the same ones from i on.
 pub same_from : (own other : List (Bor (List ℕ))) (i : ℕ) (d e : Bor (List ℕ)) → i < length own → length own ≡ length other → false ≡ not (bytes_eq (get_or own i d).now (get_or other i e).now) → texts (drop (i + 1) own) ≡ texts (drop (i + 1) other)
     → texts (drop i own) ≡ texts (drop i other)
 same_from own other i d e h many test rest =

@@ -1,4 +1,4 @@
--- What the chain of a point does, hit after hit, where hits are rigged.
+-- What the chain of a point does, hit after hit, if hits are rigged.
 use Rattle.std.proofs.Common.{◌≡◌, ℕ, zero, suc, ◌+◌, ◌-◌, ◌<◌, ◌≤◌, ◌==◌, ◌&&◌, inl, inr, nat_le, Bool, true, false, cond, Option, Some, None, List, [], ◌∷◌, ◌++◌, map, refl, ap, sym, ◌∙◌, arith}
 use Rattle.std.specs.Prelude.{find}
 use Rattle.std.specs.Option.{option_map_or}
@@ -21,7 +21,7 @@ use Rattle.plan_gen.specs.RiggedAnswers.{IsBefore, AreInOrder, is_onward, acts_a
 abbrev pub rigged_task : List Rig → ℕ → ℕ → Task
 rigged_task rigs p k = option_map_or (λ r. (term_of r.kind).task) (find (acts_at p k) rigs) task.Off
 
--- the same at the hits of p after n of them, where the next words have these numbers
+-- The same at the hits of p after n of them, if the next words have these numbers.
 abbrev pub tasks : List Rig → ℕ → ℕ → List ℕ → List (Task × ℕ)
 tasks rigs p n [] = []
 tasks rigs p n (x ∷ xs) = (rigged_task rigs p (n + 1), x) ∷ tasks rigs p (n + 1) xs
@@ -57,7 +57,7 @@ acts_later p k r h =
     let eq : (r.site.hit == k) ≡ false = grind (arith, nat_tests, less) in
     either (is_onward r.kind) (nat_le r.site.hit k) (r.site.hit == k) le eq)
 
--- one that isn't onward doesn't act after its hit
+-- A fault that isn't sticky doesn't act after its hit.
 acts_past : (p k : ℕ) (r : Rig) → is_onward r.kind ≡ false → r.site.hit < k → acts_at p k r ≡ false
 acts_past p k r once less =
     acts_if (r.site.point == p) p k r refl

@@ -1,4 +1,4 @@
--- How often a point is asked; and what the runs of the census by a loop show, which private contracts cite.
+-- How often a point is asked, and what holds of the runs by which a loop takes the census. Private contracts cite the latter.
 use Rattle.std.specs.Prelude.{◌≡◌, ℕ, ◌<◌, ◌==◌, nat_le, if◌then◌else◌, Bool, None, List, [], ◌∷◌, count_by, length}
 use Rattle.scenario_values.specs.Scenario.{Entries}
 use Rattle.action_eval.specs.Answers.{Reply, given_of}
@@ -8,18 +8,18 @@ use Rattle.action_eval.specs.declared.rig.Kind.{Kind}
 use Rattle.action_eval.specs.declared.rig.Kind.TheVariants.{OnceReturn, OnwardReturn}
 use Rattle.action_eval.specs.RiggedScenario.{rig, rigged_scenario}
 
--- how often a point is among those asked
+-- How often a point is among those asked.
 abbrev pub times : ℕ → List ℕ → ℕ
 times p asked = count_by (λ q. q == p) asked
 
--- how often a play of a scenario asks a point
+-- How often a play of a scenario asks a point.
 unfoldable pub times_of : (List Reply → Move) → List (List ℕ) → ℕ → ℕ → Entries → ℕ → ℕ
 times_of asks names seed limit s p = times p (outcome asks (given_of s names seed 0 limit)).asked
 
 abbrev pub loop_kind : Bool → Kind
 loop_kind onward = if onward then OnwardReturn None else OnceReturn None
 
--- a rigged hit is met just where the clean run has it
+-- A rigged hit is met exactly if the run without faults has that hit.
 abbrev pub IsMetAlike : (List Reply → Move) → List (List ℕ) → ℕ → ℕ → Kind → Type 0
 IsMetAlike asks names seed limit kind =
     (p k : ℕ) → p < length names → 0 < k →

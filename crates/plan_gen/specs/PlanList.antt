@@ -1,4 +1,4 @@
--- The list of plans: the empty plan; each site alone; each two sites; storms; listed scenarios. The parts, their order and the limits are
+-- The list of plans: the empty plan, each site alone, each pair of sites, storms, and listed scenarios. The parts, their order and the limits are
 -- this project's own.
 use Rattle.std.specs.Prelude.{ℕ, ◌+◌, ◌/◌, ◌%◌, ◌==◌, nat_lt, if◌then◌else◌, Bool, None, List, [], ◌∷◌, ◌++◌, map, filter, zip, take, flat_map, length}
 use Rattle.std.specs.List.{range_with_len}
@@ -11,54 +11,54 @@ use Rattle.action_eval.specs.declared.rig.Kind.TheVariants.{OnceReturn, OnwardRe
 use Rattle.plan_gen.specs.Census.{sites_of}
 use Rattle.action_eval.specs.RiggedScenario.{rig, rigged_scenario, most_rigs}
 
--- a list has at most so many plans
+-- A list has at most this many plans.
 abbrev pub most_plans : ℕ
 most_plans = 65536
 
--- the stream number of the first storm's words; plans run under those from 0 on
+-- The stream number of the first storm's random words. The stream numbers of plans begin at 0.
 abbrev pub first_stream : ℕ
 first_stream = 4294967296
 
--- each site alone, in each of these ways; returns have no text
+-- What is done at a site alone. Returns have no text.
 abbrev pub alone : List Kind
 alone = OnceReturn None ∷ OnwardReturn None ∷ OncePanic ∷ []
 
 abbrev pub site_plans : List (List ℕ) → Site → List Entries
 site_plans names s = map (λ kind. rigged_scenario names (rig s kind ∷ [])) alone
 
--- two sites, the first failing once, the second in each of these ways
+-- What is done at the second of two sites. The first one returns once.
 abbrev pub second : List Kind
 second = OnceReturn None ∷ OncePanic ∷ []
 
 abbrev pub pair_plans : List (List ℕ) → Site × Site → List Entries
 pair_plans names p = map (λ kind. rigged_scenario names (rig p.0 (OnceReturn None) ∷ rig p.1 kind ∷ [])) second
 
--- each two, in order of the first and then of the second
+-- Each two sites, in the order of the first and then of the second.
 abbrev pub pairs_of : List Site → List (Site × Site)
 pairs_of [] = []
 pairs_of (a ∷ rest) = map (λ b. (a, b)) rest ++ pairs_of rest
 
--- each site with its random word: one word a site, in order
+-- Each site with its random word. Words are drawn in order, one for each site.
 abbrev pub with_words : (ℕ → ℕ) → List Site → List (Site × ℕ)
 with_words word sites = zip sites (map word (range_with_len 0 (length sites)))
 
--- a word takes its site where it is below the rate, modulo 1000
+-- A word takes its site if it is below the rate, modulo 1000.
 abbrev pub is_taken : ℕ → Site × ℕ → Bool
 is_taken rate s = nat_lt (s.1 % 1000) rate
 
--- what a word does at a site that it takes
+-- What a word does at a site that it takes: one word in eight panics, and the others return.
 abbrev pub storm_kind : ℕ → Kind
 storm_kind w = if w / 1000 % 8 == 0 then OncePanic else OnceReturn None
 
--- the rigged hits of a storm, by its words: of the sites that are taken, the first so many
+-- The rigged hits of a storm, by its words: the sites that are taken, but only the first ones up to `most_rigs`.
 abbrev pub storm_by : (ℕ → ℕ) → ℕ → List Site → List Rig
 storm_by word rate sites = map (λ s. rig s.0 (storm_kind s.1)) (take most_rigs (filter (is_taken rate) (with_words word sites)))
 
--- storm number j, by the words of a stream of its own
+-- Storm number j, by the words of its stream.
 unfoldable pub storm : ℕ → ℕ → List Site → ℕ → List Rig
 storm seed rate sites j = storm_by (word seed (first_stream + j)) rate sites
 
--- what is asked of the list of plans
+-- What a list of plans is made from, besides the sites.
 pub record Asked : Type 0 where
   pub pairs : Bool
   pub storms : ℕ
@@ -72,16 +72,16 @@ pair_part names wanted sites = if wanted then flat_map (pair_plans names) (pairs
 abbrev pub storm_part : List (List ℕ) → ℕ → ℕ → ℕ → List Site → List Entries
 storm_part names seed rate storms sites = map (λ j. rigged_scenario names (storm seed rate sites j)) (range_with_len 0 storms)
 
--- the list of plans, by the sites
+-- The list of plans over these sites.
 abbrev pub plans_over : List (List ℕ) → Asked → List Site → List Entries
 plans_over names asked sites =
     ([] ∷ []) ++ flat_map (site_plans names) sites ++ pair_part names asked.pairs sites ++ storm_part names asked.seed asked.rate asked.storms sites
     ++ asked.listed
 
--- what stands at the end of the list, by itself: the storms and the listed scenarios
+-- The part at the end of the list: the storms and the listed scenarios.
 abbrev pub further_list : List (List ℕ) → List ℕ → Asked → List Entries
 further_list names counts asked = storm_part names asked.seed asked.rate asked.storms (sites_of counts) ++ asked.listed
 
--- the list of plans, by the counts of a census
+-- The list of plans, by the counts of a census.
 unfoldable pub plan_list : List (List ℕ) → List ℕ → Asked → List Entries
 plan_list names counts asked = plans_over names asked (sites_of counts)

@@ -1,8 +1,8 @@
--- Plans that are rigged over the points of a target.
+-- Plans that are made of rigged hits at the points of a target.
 use Rattle.std.specs.Prelude.{ℕ, List}
 use Rattle.scenario_values.specs.Scenario.{Entries}
 
--- the plans, and the names of the points
+-- The plans, and the names of the points.
 pub record Rigs : Type 0 where
   pub plans : List Entries
   pub names : List (List ℕ)

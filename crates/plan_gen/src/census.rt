@@ -22,7 +22,7 @@ pub fn count_of(asked: &[u32], point: u32) -> u32
     asked.iter().filter(|q| **q == point).count() as u32
 }
 
-/// How often each of so many points is asked, in their order. An error means that memory was refused.
+/// How often each point is asked, in the order of points. An error means that memory was refused.
 pub fn counts_of(alloc: Global, points: u32, asked: &[u32]) -> Result<Vec<u32>, AllocError>
     requires { length asked.now < 2 ^ 32 }
     ensures { IfOk result (λ counts. counts.items ≡ counts_of points asked.now) }
@@ -36,8 +36,8 @@ pub fn counts_of(alloc: Global, points: u32, asked: &[u32]) -> Result<Vec<u32>, 
 
 /// The census by one run of the empty scenario, with stream number 0.
 ///
-/// `max_hits` is how many hits are answered: a point's hits past that aren't counted. An error means that memory was refused. The target
-/// keeps its setup, after an error too.
+/// `max_hits` is how many hits of the run are answered; hits past that aren't counted. An error means that memory was refused. The target keeps its
+/// setup, after an error too.
 pub fn by_census<T: Target>(
     alloc: Global,
     target: &mut T,

@@ -3,10 +3,10 @@ ghost use Rattle.std.specs.Prelude.{◌≡◌, true, false, ◌<◌, ◌≤◌, 
 ghost use Rattle.plan_gen.specs.inside.Counts.{pairs_count};
 ghost use Rattle.plan_gen.specs.PlanList.{most_plans};
 
-/// A list has at most so many plans.
+/// The most plans that a list has.
 const MOST_PLANS: u64 = 65536;
 
-/// How many pairs so many sites make.
+/// How many pairs this many sites make.
 fn pair_count(sites: u64) -> u64
     requires { sites ≤ most_plans }
     ensures pairs { result ≡ pairs_count sites }
@@ -18,7 +18,7 @@ fn pair_count(sites: u64) -> u64
     sites * (sites - 1) / 2
 }
 
-/// How many plans there are, where they aren't too many. Nothing wraps: past the limit no more is counted.
+/// How many plans there are; `None` if they are too many. Nothing wraps: past the limit no more is counted.
 pub fn plan_count(sites: u64, pairs: bool, storms: u32, listed: usize) -> Option<u64>
     ensures few { IfSome result (λ count. count ≡ 1 + 3 * sites + (if pairs then 2 * pairs_count sites else 0) + storms + listed) }
     ensures small { IfSome result (λ count. count ≤ most_plans) }
@@ -37,7 +37,7 @@ pub fn plan_count(sites: u64, pairs: bool, storms: u32, listed: usize) -> Option
     Some(made + listed as u64)
 }
 
-/// Whether so many storms and listed scenarios are few enough behind so many other plans. Nothing wraps.
+/// Whether this many storms and listed scenarios, behind this many other plans, are few enough. Nothing wraps.
 pub fn are_few(before: usize, storms: u32, listed: usize) -> bool
     ensures few { result ≡ true → before + storms + listed ≤ most_plans }
     ensures many { result ≡ false → most_plans < before + storms + listed }

@@ -1,4 +1,4 @@
-//! What the plans of a list are drawn from, and what is kept of each.
+//! From what the plans of a list are made, and what is kept of each plan.
 ghost use Rattle.std.specs.Prelude.{◌≡◌, ◌≤◌, ◌∷◌, [], true, None, length, IfOk, OnOk};
 ghost use Rattle.action_eval.specs.Answers.{texts};
 ghost use Rattle.action_eval.specs.Catalogue.{IsCatalogue};
@@ -17,12 +17,12 @@ use std::alloc::{AllocError, Global};
 use std::marker::Model;
 use std::mem::size_of;
 
-/// What a list's plan does at a site. Its returns have no text, so that a plan is kept in 8 bytes.
+/// What a plan of a list does at a site. Its returns have no text, so that a plan takes 8 bytes.
 #[derive(Clone, Copy, Debug)]
 pub enum PlainKind {
-    /// It fails, and no other.
+    /// This hit alone fails.
     OnceReturn,
-    /// It fails, and so does each later hit of the point.
+    /// This hit fails, and so does each later hit of the point.
     OnwardReturn,
     /// The component stops there.
     OncePanic,
@@ -49,7 +49,7 @@ pub enum Source {
     Empty,
     /// One rigged hit.
     One(PackedSite, PlainKind),
-    /// Two of them, of which the first fails once, and this is done at the second.
+    /// Two rigged hits: the first fails once, and this is done at the second.
     Two(PackedSite, PackedSite, PlainKind),
     /// The storm of this number.
     Storm(u32),
@@ -68,8 +68,8 @@ fn two_rigs(first: PackedSite, second: PackedSite, plain: PlainKind) -> [Rig; 2]
     ]
 }
 
-/// What all plans of a list share: the points, their sites, and the seed and rate of storms. Whoever runs a storm draws its rigged hits, by
-/// its number.
+/// What all plans of a list share: the points, their sites, and the seed and rate of storms. A storm's rigged hits are drawn by its number when it is
+/// run.
 #[derive(Debug, Drop)]
 pub struct Drawing<'a> {
     catalogue: &'a [&'a str],
@@ -93,6 +93,7 @@ impl<'a> Model for Drawing<'a> {
 }
 
 impl<'a> Drawing<'a> {
+    /// The parts that all plans of a list share. The rate is how many of a thousand sites a storm takes.
     pub fn new(catalogue: &'a [&'a str], sites: Vec<PackedSite>, seed: u64, rate: u32) -> Self
         requires lawful { IsCatalogue (texts catalogue.now) }
         requires few { length sites.items ≤ most_plans }
@@ -113,8 +114,8 @@ impl<'a> Drawing<'a> {
         have_same_names(self.catalogue, catalogue)
     }
 
-    /// Rigs the hits of a plan over a catalogue of the same names. Those of a storm are drawn in place of what stood in the list. An error
-    /// means that memory was refused.
+    /// Rigs the hits of a plan over a catalogue of the same names. The hits of a storm are drawn into the list, in place of what stood there. An
+    /// error means that memory was refused.
     pub fn load<'c>(
         &self,
         source: Source,

@@ -1,4 +1,4 @@
-//! The plans that stand behind all others, by themselves.
+//! The storms and the listed scenarios, which stand behind all other plans.
 ghost use Rattle.std.specs.Prelude.{◌≡◌, ◌≤◌, ◌<◌, ◌+◌, length, map, IfOk, OnOk, IsErrOf};
 ghost use Rattle.std.specs.List.{range_with_len};
 ghost use Rattle.action_eval.specs.Answers.{texts};
@@ -16,7 +16,7 @@ use crate::plan::PlanSettings;
 use crate::sites::sites_of;
 use std::alloc::{AllocError, Global};
 
-/// What is kept of so many storms.
+/// What is kept of this many storms.
 fn storm_sources(alloc: Global, storms: u32) -> Result<Vec<Source>, AllocError>
     ensures { IfOk result (λ sources. sources.items ≡ map Storm (range_with_len 0 storms)) }
 {
@@ -25,7 +25,7 @@ fn storm_sources(alloc: Global, storms: u32) -> Result<Vec<Source>, AllocError>
     Ok(sources)
 }
 
-/// The list of so few plans.
+/// Makes the list of these further plans, which have to be few enough.
 fn made_plans<'a>(
     alloc: Global,
     counts: &[u32],
@@ -44,10 +44,10 @@ fn made_plans<'a>(
     Ok(PlanList::new(drawing, sources, settings.listed))
 }
 
-/// The storms over the sites of a census, and the listed scenarios: what `plans` lists behind the plans of one and of two sites. They stand
-/// behind plans that are found otherwise, of which there are so many; whether pairs are asked for makes no difference.
+/// The storms over the sites of a census, and the listed scenarios: what `plans` lists behind the plans of one and of two sites. Here they stand
+/// behind `before` plans that are found in another way. Whether the settings ask for pairs makes no difference.
 ///
-/// All together are counted before any is made, and more than 65536 are refused. The conditions are one count for each name of a lawful
+/// All plans together are counted before any is made, and more than 65536 are refused. The caller needs one count for each name of a lawful
 /// catalogue, and fewer than 65536 sites.
 pub fn further_plans<'a>(
     alloc: Global,

@@ -1,4 +1,4 @@
-//! Censuses of a target's points, and the list of plans of faults that they give.
+//! Censuses of a target's points, and the list of plans of faults that a census gives. It makes and rigs plans, and runs none of them.
 #![tactic(auto)]
 
 mod census;

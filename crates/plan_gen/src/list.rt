@@ -39,8 +39,8 @@ impl From<AllocError> for PlanFault {
 
 /// A list of plans, at most 65536. A plan's number is its place in it, from 0. Contracts see the list of their scenarios.
 ///
-/// It keeps 8 bytes a plan, the hits at which something is done or a storm's number, and borrows the listed scenarios: a plan's scenario is
-/// made where it is asked for.
+/// It keeps 8 bytes for each plan (the hits at which something is done, or a storm's number) and borrows the listed scenarios. A plan's scenario is
+/// made when it is asked for.
 #[derive(Debug, Drop)]
 pub struct PlanList<'a> {
     drawing: Drawing<'a>,
@@ -115,7 +115,7 @@ impl<'a> PlanList<'a> {
     }
 }
 
-/// What is kept of the plans that aren't listed scenarios, with room for so many.
+/// What is kept of the plans that aren't listed scenarios, made with room for all of them.
 fn sources_of(
     alloc: Global,
     sites: &[PackedSite],
@@ -134,7 +134,7 @@ fn sources_of(
     Ok(sources)
 }
 
-/// The list of so many plans.
+/// Makes the list, of which it is known how many plans it has.
 #[tactic(auto, unfolding(crate::specs::PlanList::plan_list))]
 fn made_plans<'a>(
     alloc: Global,
@@ -157,13 +157,15 @@ fn made_plans<'a>(
     Ok(PlanList::new(drawing, sources, settings.listed))
 }
 
-/// The list of plans, of a census over a catalogue: a plan's number is its place in it, from 0. In order: the empty plan; for each site
-/// of the census, which is a point and one of its hits, that hit failing once, failing from then on, and panicking; if pairs are wanted,
-/// for each two sites both failing once, and then the first failing once and the second panicking; the storms; the listed scenarios. A
-/// storm takes one random word a site, from a stream of its own, and with it at most 64 sites.
+/// The list of plans that a census over a catalogue gives. A plan's number is its place in the list, from 0. In order these are:
 ///
-/// The plans are counted before any is made, and more than 65536 are refused. The condition is one count for each name of a lawful
-/// catalogue.
+/// - the empty plan;
+/// - for each site of the census, which is a point and one of its hits: the hit fails once, it fails from then on, and it panics;
+/// - if pairs are wanted, for each two sites: both fail once, and the first fails once and the second panics;
+/// - the storms, each of which takes one random word for each site, from a stream of its own, and by these words at most 64 sites;
+/// - the listed scenarios.
+///
+/// The plans are counted before any is made, and more than 65536 are refused. The caller needs one count for each name of a lawful catalogue.
 pub fn plans<'a>(
     alloc: Global,
     census: &Census,

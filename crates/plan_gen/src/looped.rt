@@ -68,7 +68,7 @@ fn count_by_loop<T: Target>(
     Ok(max_hits)
 }
 
-/// What is done at a hit that a loop rigs.
+/// What is done at the hit that the loop rigs.
 fn kind_of(onward: bool) -> Kind
     ensures kind { result ≡ loop_kind onward }
     ensures text { HasLawfulText result }
@@ -80,13 +80,12 @@ fn kind_of(onward: bool) -> Kind
     }
 }
 
-/// The census by runs with one fault rigged, as SQLite's tests loop: for each point in turn the fault is rigged for hit 1, 2, .. until a
-/// run doesn't meet it. Up to its first fault a run is the run of the empty scenario, so the answer is that of `by_census`, with
-/// `onward` or without.
+/// The census by runs with one rigged fault, as SQLite's tests loop: for each point in turn the fault is rigged for hit 1, 2, .. until a run doesn't
+/// meet it. Up to its first fault a run is the run of the empty scenario, so the result is that of `by_census`, with `onward` or without.
 ///
-/// With `onward` the hit fails and all after it at that point; without, that hit alone. `max_hits` is how many hits of a run are
-/// answered. The runs are one for each site and one more for each point, but none past hit `max_hits` of a point. An error means that
-/// memory was refused. The target keeps its setup, after an error too.
+/// With `onward` the hit and all later hits of its point fail; without, that hit alone. `max_hits` is how many hits of a run are answered. There is
+/// one run for each site and one more for each point, but none past hit `max_hits` of a point. An error means that memory was refused. The target
+/// keeps its setup, after an error too.
 pub fn by_loop<T: Target>(
     alloc: Global,
     target: &mut T,

@@ -5,7 +5,7 @@ ghost use Rattle.action_eval.specs.RiggedScenario.{rig};
 use action_eval::{Kind, Rig, Site};
 use std::marker::Model;
 
-/// A site in three bytes, so that a plan of two has room for them beside its catalogue. Contracts see it as the site.
+/// A site in three bytes, so that a plan with two sites takes 8 bytes. Contracts see the site.
 #[derive(Clone, Copy, Debug)]
 pub struct PackedSite {
     point: u8,
@@ -34,7 +34,7 @@ impl Model for PackedSite {
 }
 
 impl PackedSite {
-    /// Packs a site. Those of a list that has at most 65536 plans, of a catalogue of at most 64 points, fit.
+    /// Packs a site. The sites of a list of at most 65536 plans, over a catalogue of at most 64 points, fit.
     pub fn new(site: Site) -> Self
         requires { (site.point < 2 ^ 8) × (site.hit < 2 ^ 16) }
         ensures { result ≡ site }
@@ -46,7 +46,7 @@ impl PackedSite {
         }
     }
 
-    /// The site, with what is done at it.
+    /// The rigged hit: the site, with what is done at it.
     pub fn rig(self, kind: Kind) -> Rig
         ensures { result ≡ rig self kind }
     {

@@ -66,7 +66,7 @@ pub fn add_pairs(sources: &mut Vec<Source>, sites: &[PackedSite]) -> Result<(), 
     Ok(())
 }
 
-/// Adds so many storms.
+/// Adds this many storms.
 pub fn add_storms(sources: &mut Vec<Source>, storms: u32) -> Result<(), AllocError>
     ensures { OnOk result (sources.new.items ≡ sources.old.items ++ map Storm (range_with_len 0 storms)) }
 {

@@ -1,4 +1,4 @@
-//! Plans, and what is asked of their list.
+//! Plans, and the settings of their list.
 ghost use Rattle.std.specs.Prelude.{◌≡◌, ◌<◌, length, IfOk};
 
 use crate::list::PlanList;
@@ -6,7 +6,7 @@ use scenario_values::Scenario;
 use std::alloc::{AllocError, Global};
 use std::marker::Model;
 
-/// A plan of a list: a scenario that a component is run under. Contracts see it as its scenario.
+/// A plan of a list: a scenario under which a component is run. Contracts see the scenario.
 #[derive(Debug, Drop)]
 pub struct Plan<'a> {
     pub(crate) list: &'a PlanList<'a>,
@@ -33,16 +33,16 @@ impl<'a> Plan<'a> {
     }
 }
 
-/// What is asked of the list of plans.
+/// The settings of a list of plans.
 #[derive(Debug, Drop)]
 pub struct PlanSettings<'a> {
-    /// Whether each two sites make two plans: both fail once; the first fails once, and at the second the component stops.
+    /// Whether each two sites make two plans: in one both fail once; in the other the first fails once, and at the second the component stops.
     pub pairs: bool,
     /// How many storms there are.
     pub storms: u32,
-    /// A storm takes a site where its random word modulo 1000 is below this; from 1000 on it takes each, up to 64.
+    /// A storm takes a site if the site's random word modulo 1000 is below this; from 1000 on it takes each site, up to 64.
     pub rate: u32,
-    /// Further scenarios, each of which makes a plan.
+    /// The listed scenarios, each of which makes a plan.
     pub listed: &'a [Scenario],
     /// The seed of the storms' random words.
     pub seed: u64,

@@ -22,7 +22,7 @@ fn chain_of(alloc: Global, point: u32, rigs: &[Rig]) -> Result<Vec<Term>, AllocE
     Ok(terms)
 }
 
-/// Puts the entry of a point in, where its chain has a term.
+/// Puts in the entry of a point if its chain has a term.
 fn put_chain(
     alloc: Global,
     to: &mut IndexMap<Text, Chain>,
@@ -56,7 +56,7 @@ fn rigged_entries(
     Ok(to)
 }
 
-/// Makes the scenario of rigged hits of the points of a catalogue: at most 64 of them, in ascending order as those of a list's plans are. An
+/// Makes the scenario of rigged hits of a catalogue's points. There may be at most 64 hits, in ascending order, as the hits of a list's plans are. An
 /// error means that memory was refused.
 pub fn scenario_of(alloc: Global, catalogue: &[&str], rigs: &[Rig]) -> Result<Scenario, AllocError>
     requires lawful { IsCatalogue (texts catalogue.now) }

@@ -10,8 +10,8 @@ use scenario_values::Scenario;
 use std::alloc::AllocError;
 use std::marker::Model;
 
-/// Rigs the plans of a list over the points of a catalogue. That it has the same names as the list's own is found once, for all plans.
-/// Contracts see the plans, and the names of the points.
+/// Rigs the plans of a list over the points of a catalogue. It compares the catalogue's names with the list's own once, for all plans. Contracts see
+/// the plans, and the names of the points.
 #[derive(Debug, Drop)]
 pub struct Rigger<'a, 'c> {
     drawing: &'a Drawing<'a>,
@@ -57,11 +57,11 @@ impl<'a, 'c> Rigger<'a, 'c> {
         }
     }
 
-    /// Rigs the hits of the plan of this number, and tells whether it has. It hasn't where the plan is a listed scenario, or the list is of
-    /// the points of another catalogue: `Plan::scenario` serves each plan.
+    /// Rigs the hits of the plan with this number, and returns true. It returns false, and rigs nothing, if the plan is a listed scenario or the list
+    /// is over another catalogue's points: use `Plan::scenario` then, which serves each plan.
     ///
-    /// A storm's hits are drawn in place of what stood in the list, which serves plan after plan as the fault table does. An error means that
-    /// memory was refused.
+    /// The hits of a storm are drawn into the list `rigs`, in place of what stood there. The list and the fault table serve plan after plan. An error
+    /// means that memory was refused.
     pub fn load(
         &self,
         number: usize,

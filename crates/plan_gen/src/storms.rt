@@ -12,13 +12,13 @@ use rand_core::SeedableRng;
 use rand_core::utils::NextWord;
 use std::alloc::AllocError;
 
-/// A storm takes at most so many sites.
+/// The most sites that a storm takes.
 const MOST_SITES: usize = 64;
 
-/// The stream number of the first storm's words. Plans run under those from 0 on.
+/// The stream number of the first storm's words. The numbers from 0 on are those under which plans run.
 const FIRST_STREAM: u64 = 4_294_967_296;
 
-/// A seed of eight bytes, low byte first, and then zeros.
+/// The seed as a generator takes it: its eight bytes, low byte first, and then zeros.
 fn seed_bytes(seed: u64) -> [u8; 32]
     ensures { result ≡ seed_bytes seed }
 {
@@ -50,8 +50,8 @@ fn storm_kind(word: u32) -> Kind
     }
 }
 
-/// Adds a site that is taken, while fewer than the most are.
-// Few sites are taken. The loop over the words stays small, as this is a call.
+/// Adds a site that is taken, unless the most sites are taken already.
+// Few sites are taken. It is a call so that the loop over the words stays small.
 #[inline(never)]
 fn add_taken(rigs: &mut Vec<Rig>, word: u32, site: PackedSite)
     requires { most_rigs ≤ vec_capacity rigs.old }
@@ -66,7 +66,7 @@ fn add_taken(rigs: &mut Vec<Rig>, word: u32, site: PackedSite)
     }
 }
 
-/// Adds a site that its word takes, while fewer than the most are taken.
+/// Adds a site if its word takes it, unless the most sites are taken already.
 #[inline(always)]
 fn draw(rigs: &mut Vec<Rig>, rate: u32, word: u32, site: &PackedSite)
     requires { most_rigs ≤ vec_capacity rigs.old }
@@ -82,9 +82,9 @@ fn draw(rigs: &mut Vec<Rig>, rate: u32, word: u32, site: &PackedSite)
     }
 }
 
-/// The rigged hits of a storm, in place of what stood there: each site takes a word, also after the most are taken.
+/// Puts the rigged hits of a storm in place of what stood there. Each site takes a word, also after the most sites are taken.
 ///
-/// An error means that memory was refused. Nothing stands there then.
+/// An error means that memory was refused. Then the list is empty.
 #[tactic(auto, unfolding(crate::specs::PlanList::storm))]
 pub fn storm(
     rigs: &mut Vec<Rig>,

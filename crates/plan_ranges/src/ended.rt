@@ -1,12 +1,12 @@
-//! What a gate is told of plans that have been run.
+//! What is reported to a gate about plans that were run.
 ghost use Rattle.std.specs.Prelude.{◌≡◌, ◌^◌, ◌-◌, length, min, count_by};
 ghost use Rattle.target_trait.specs.Verdicts.{is_fail};
 
 use target_trait::Verdict;
 use work_gate::Ended;
 
-/// What is told of plans with these verdicts, from which so many of the next level grew. What is more than a `u32` holds is told as its highest
-/// number.
+/// What is reported to a gate about plans with these verdicts, from which so many plans of the next level grew. A count that a `u32` can't hold
+/// becomes the highest one.
 pub fn ended_of(verdicts: &[Verdict], children: usize) -> Ended
     ensures plans { result.plans ≡ min (length verdicts.now) (2 ^ 32 - 1) }
     ensures failing { result.failing ≡ min (count_by is_fail verdicts.now) (2 ^ 32 - 1) }
@@ -23,6 +23,7 @@ pub fn ended_of(verdicts: &[Verdict], children: usize) -> Ended
     }
 }
 
+/// The count, or the highest that a `u32` can hold.
 fn at_most(count: usize) -> u32
     ensures { result ≡ min count (2 ^ 32 - 1) }
 {

@@ -1,11 +1,11 @@
-//! Ranges of plans: what one ticket of the pool stands for.
+//! Ranges of plans, each of which is one ticket of the pool.
 ghost use Rattle.std.specs.Prelude.{◌≡◌, ◌+◌, ◌≤◌};
 ghost use Rattle.plan_ranges.specs.Ranges.{range_count, range_size, range_start};
 
 use work_gate::{Ended, Gate, Phase, Stage};
 
-/// How many plans a range has. A range of many takes less memory than its plans one by one, and less of the time after all have run; where
-/// plans are few, one by one they keep all workers at work to the end.
+/// How many plans a range has. A range of many plans takes less memory than its plans one by one, and less time after all have run. If there are few
+/// plans, ranges of one keep all workers busy to the end.
 fn range_size(plans: u32) -> u32
     ensures { result ≡ range_size plans }
 {
@@ -18,14 +18,14 @@ fn range_size(plans: u32) -> u32
     }
 }
 
-/// How many ranges so many plans make. The last one may be shorter than the others.
+/// How many ranges so many plans make. The last range may be shorter than the others.
 pub fn range_count(plans: u32) -> u32
     ensures { result ≡ range_count plans }
 {
     plans.div_ceil(range_size(plans))
 }
 
-/// With which of so many plans a range begins, from 0 on, and before which it ends. A range past the last one has no plan.
+/// The first plan of a range, from 0, and the number before which it ends, if there are so many plans. A range past the last one has no plan.
 pub fn range_bounds(plans: u32, range: u32) -> (u32, u32)
     ensures first { result.0 ≡ range_start plans range }
     ensures end { result.1 ≡ range_start plans (range + 1) }
@@ -36,8 +36,8 @@ pub fn range_bounds(plans: u32, range: u32) -> (u32, u32)
     (first, first.saturating_add(size).min(plans))
 }
 
-/// A gate for workers that take ranges. With a range a worker arrives at the real gate with each of its plans, in their order, before it runs
-/// the first of them.
+/// A gate for workers that take ranges. With a range a worker arrives at the real gate with each of its plans, in their order, before it runs the
+/// first of them.
 #[derive(Drop)]
 pub struct RangeGate<'a, G: Gate> {
     pub gate: &'a G,

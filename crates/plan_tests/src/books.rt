@@ -26,7 +26,7 @@ fn result<'a>(
     Ok(Numbered::run(alloc, &mut OneStep, input, number)?)
 }
 
-/// What came of a result that was put in a book, where it was of this number; a result that isn't put comes back.
+/// What came of a result of this number that was put into a book. A result that isn't put comes back.
 fn outcome(number: u32, put: Result<(), PutFault<'_, OneStep>>) -> &'static str {
     match put {
         Ok(()) => "put",
@@ -36,7 +36,7 @@ fn outcome(number: u32, put: Result<(), PutFault<'_, OneStep>>) -> &'static str 
     }
 }
 
-/// Puts the result of the plan of this number, of which this is to come.
+/// Puts the result of the plan with this number, which has to end so.
 fn put(
     rt: &impl Abort,
     alloc: Global,
@@ -191,7 +191,7 @@ enum Check {
     ArePutInTheFirstPlaces,
 }
 
-/// Looks at the input of the plan without faults and of so many listed ones, of which those of the numbers given refuse the step.
+/// Looks at the input of the plan without faults and this many listed ones, of which those with the given numbers refuse the step.
 fn look(
     rt: &impl Abort,
     alloc: Global,

@@ -80,7 +80,7 @@ fn sound(alloc: Global) -> Counting<Replace> {
     }
 }
 
-/// These are the counts, after so many runs.
+/// These are the counts, after this many runs.
 fn is_census(rt: &impl Abort, census: &Census, target: &Counting<Replace>, runs: u32) {
     assert_eq!(rt; census.counts.as_slice(), COUNTS.as_slice());
     assert_eq!(rt; target.runs, runs);

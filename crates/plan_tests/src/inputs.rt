@@ -1,4 +1,4 @@
-//! Inputs of the tests, and what books and ranges tell of them.
+//! Inputs of the tests, and what books and ranges have of them.
 
 use crate::one_step::OneStep;
 use campaign_given::CampaignSettings;
@@ -40,7 +40,7 @@ pub fn range<'a, T: Target>(
     let (first, end) = stretch;
     assert!(rt; first <= end && end as usize <= input.plans.len());
     let mut workspace = Workspace::new(alloc);
-    Ok(PlanRange::run_over(alloc, target, &mut workspace, input, first, end)?)
+    Ok(PlanRange::run_over(alloc, target, &mut workspace, input, first..end)?)
 }
 
 /// The book of an input that nothing is put in.
@@ -59,7 +59,7 @@ pub fn has(rt: &impl Abort, alloc: Global, book: &Book, verdicts: &[Verdict]) ->
     Ok(())
 }
 
-/// The book tells these first failures.
+/// The book has these first failures.
 pub fn tells(
     rt: &impl Abort,
     alloc: Global,

@@ -1,5 +1,5 @@
-//! Tests of censuses, numbered results, the book and reports, through calls of the library. What the program shows of plans and reports,
-//! the sessions of tests/ and examples/ have.
+//! Tests of censuses, numbered results, the book and reports, through calls of the library. What the program shows of plans and reports is tested by
+//! the sessions of tests/ and by examples/.
 #![tactic(auto)]
 
 #[cfg(test)]

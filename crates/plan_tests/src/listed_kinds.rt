@@ -1,4 +1,4 @@
-//! What grows where kinds of faults are listed for a point.
+//! What grows if kinds of faults are listed for a point.
 ghost use Rattle.std.specs.Prelude.{◌≤◌, length, IfOk};
 ghost use Rattle.std.specs.List.{AllByRecursion};
 
@@ -20,7 +20,7 @@ const GROWN: [(u32, &str); 5] = [
     (1, "panic"),
 ];
 
-/// A text of a return; none, where it can't be one.
+/// The text of a return; none if it can't be one.
 fn argument(text: &str) -> Argument {
     if is_argument(text) {
         Argument::of(text).unwrap_or(Argument::none())

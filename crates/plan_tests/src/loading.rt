@@ -1,5 +1,5 @@
-//! Which plans are rigged, and which are run by their scenario. Both come to the same verdict, so no contract tells them apart: that a plan of
-//! hits is rigged is for speed, and only a test sees it.
+//! Which plans are rigged, and which are run by their scenario. Both come to the same verdict, so no contract makes a difference between them:
+//! rigging is for speed, and only a test sees it.
 
 use crate::one_step::OneStep;
 use crate::scenarios::{plans as with_scenarios, scenarios};

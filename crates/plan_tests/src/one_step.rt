@@ -1,4 +1,4 @@
-//! A target of one step, which breaks its promise where the step is refused.
+//! A target of one step, which breaks its promise if the step is refused.
 ghost use Rattle.std.specs.Prelude.{[], ◌∷◌, codes};
 ghost use Rattle.std.proofs.Common.{rules};
 ghost use Rattle.plan_tests.specs.OneStep.{step, step-within, step-halts};

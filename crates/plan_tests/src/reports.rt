@@ -1,4 +1,4 @@
-//! The text of a report, and what a failing writer was given of it.
+//! The text of a report, and how much of it a failing writer was given.
 
 use file_replace::{Replace, Variant};
 use report::{Finding, Report, WriteFault, text, write_report};
@@ -83,8 +83,8 @@ fn tells_each_finding_in_order(rt: HostRuntime) -> Result<(), Fail> {
     Ok(())
 }
 
-/// Each write of a report may be the one that goes wrong: of a byte at a time, or the second one, whatever the first took. The fault tells
-/// how many bytes went out.
+/// Each write of a report may be the one that goes wrong: of a byte at a time, or the second one, whatever the first took. The fault says how many
+/// bytes were written.
 #[test]
 fn a_fault_tells_how_many_bytes_went_out(rt: HostRuntime) -> Result<(), Fail> {
     let text = REPORT.as_bytes();

@@ -2,7 +2,7 @@
 
 use std::alloc::AllocError;
 
-/// Why a check came to no good end.
+/// Why a check failed.
 #[derive(Clone, Copy)]
 pub enum Fault {
     /// The check's own setup was refused memory.
@@ -17,12 +17,12 @@ impl From<AllocError> for Fault {
     }
 }
 
-/// A fault unless this holds.
+/// A fault, unless this holds.
 pub fn demand(holds: bool) -> Result<(), Fault> {
     if holds { Ok(()) } else { Err(Fault::Broken) }
 }
 
-/// The word for a check's end. Where its setup was refused there is none.
+/// The word for how a check ended. There is none if its setup was refused.
 pub fn told(came_to: &Result<(), Fault>) -> Result<&'static str, AllocError> {
     match came_to {
         Ok(()) => Ok("kept"),

@@ -8,14 +8,14 @@ use std::alloc::Global;
 
 const POINTS: [&str; 3] = ["shares", "counts", "notes"];
 
-// The first point takes a word at each hit and never acts, the second one returns at its third hit, and the third one takes words until it
-// has left three notes: six of them, as a program in another language drew them for seed 7 and stream 5.
+// The first point takes a word at each hit and never acts. The second returns at its third hit. The third takes words until it has left three notes:
+// that is six words, as a program in another language drew them for seed 7 and stream 5.
 const SCENARIO: &str = "shares=50%0*print->0%panic;counts=2*off->1*return;notes=60%3*print(a)";
 
 /// Hits of each point: with all three, more than the room that a session makes at first.
 const ROUNDS: u32 = 100;
 
-/// What a session tells.
+/// What a session says of its run.
 #[derive(Clone, Copy, PartialEq, Eq)]
 struct Told {
     asked: usize,
@@ -33,7 +33,7 @@ fn tell(session: &Session<'_>) -> Told {
     }
 }
 
-/// 1 if a hit of the point is answered Return, 0 if it is answered otherwise; none where it is refused.
+/// 1 if a hit of the point is answered Return, 0 if it is answered otherwise; none if it is refused.
 fn returns(session: &mut Session<'_>, point: u32) -> Option<u32>
     requires { point < length session.old.given.catalogue }
     ensures { session.new.given ≡ session.old.given }
@@ -48,7 +48,7 @@ fn returns(session: &mut Session<'_>, point: u32) -> Option<u32>
     }
 }
 
-/// Hits a point, and again where that is refused: nothing is changed then, and the second hit is answered.
+/// Hits a point, and once more if that is refused: then nothing has changed, and the second hit is answered.
 fn returns_again(session: &mut Session<'_>, point: u32) -> Result<u32, Fault>
     requires { point < length session.old.given.catalogue }
     ensures { session.new.given ≡ session.old.given }
@@ -61,7 +61,7 @@ fn returns_again(session: &mut Session<'_>, point: u32) -> Result<u32, Fault>
     returns(session, point).ok_or(Fault::Broken)
 }
 
-/// Hits all points in turn. How many of the hits are answered Return.
+/// Hits all points in turn, and returns how many of the hits are answered Return.
 fn all_returns(session: &mut Session<'_>) -> Result<u32, Fault>
     requires { 3 ≤ length session.old.given.catalogue }
 {

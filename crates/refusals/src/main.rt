@@ -1,7 +1,7 @@
-//! Shows what refused calls leave: where a call is refused memory, its value is unchanged, what was handed in comes back, and a second
-//! call succeeds. It writes the same whichever of its allocations is refused, or `no memory` where its own setup is refused.
+//! Shows what refused calls leave: if a call is refused memory, its value is unchanged, what was handed in comes back, and a second call succeeds.
+//! The program writes the same whichever of its allocations is refused, or `no memory` if its own setup is refused.
 //!
-//! Every allocation is refused in turn by `tools/refuse.py`.
+//! `tools/refuse.py` refuses every allocation in turn.
 #![tactic(auto)]
 
 mod check;

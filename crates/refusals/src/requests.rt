@@ -13,7 +13,7 @@ fn bits_of(set: &[u32]) -> u32 {
         .fold(0, |bits, fault| bits | 1u32.wrapping_shl(*fault))
 }
 
-/// The same of a packed set. Takes no memory.
+/// The same for a packed set. It takes no memory.
 fn packed_bits(set: &FaultSet) -> u32 {
     let mut bits = 0;
     for (first, last) in set.runs() {
@@ -24,7 +24,7 @@ fn packed_bits(set: &FaultSet) -> u32 {
     bits
 }
 
-/// What hands out requests and takes their answers.
+/// Something that hands out requests and takes their answers.
 trait Requests {
     fn take(&mut self, alloc: Global) -> Result<Option<TestRequest>, AllocError>;
 
@@ -32,7 +32,7 @@ trait Requests {
 
     fn finished(&self) -> Option<&Reduction>;
 
-    /// What else it tells, as a number.
+    /// What else it says of itself, as a number.
     fn mark(&self) -> u64;
 }
 
@@ -95,12 +95,12 @@ impl Requests for Board {
     }
 }
 
-/// What it tells.
+/// What it says of itself.
 fn tell<C: Requests>(requests: &C) -> (bool, u64) {
     (requests.finished().is_some(), requests.mark())
 }
 
-/// Takes a request, and again where that is refused.
+/// Takes a request, and once more if that is refused.
 fn take_again<C: Requests>(alloc: Global, requests: &mut C) -> Result<Option<TestRequest>, Fault> {
     let before = tell(requests);
     if let Ok(request) = requests.take(alloc) {
@@ -110,7 +110,7 @@ fn take_again<C: Requests>(alloc: Global, requests: &mut C) -> Result<Option<Tes
     requests.take(alloc).map_err(|_| Fault::Broken)
 }
 
-/// Puts the answer to a request, and again where that is refused and the request has come back.
+/// Puts the answer to a request, and once more if that is refused and the request has come back.
 fn put_again<C: Requests>(
     alloc: Global,
     requests: &mut C,
@@ -129,7 +129,7 @@ fn put_again<C: Requests>(
     }
 }
 
-/// Answers the requests two by two, the second one first, to the end of the reduction.
+/// Answers the requests two by two, the second of each two first, to the end of the reduction.
 fn answered<C: Requests>(alloc: Global, requests: &mut C) -> Result<(), Fault> {
     for _ in 0..100u32 {
         let Some(first) = take_again(alloc, requests)? else {

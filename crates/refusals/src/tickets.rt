@@ -11,7 +11,7 @@ use worker_pool::{Gathered, Job, PoolFault, Worker, run_all};
 
 const TICKETS: u32 = 19;
 
-/// Nothing: what is added is always 7.
+/// The setup is nothing: what is added is always 7.
 pub struct Setup;
 
 /// Adds 7 in a list of its own, refuses the first few times, and counts what it performed.
@@ -82,7 +82,7 @@ fn is_each_once(lists: &[Vec<(u32, Vec<u64>)>]) -> bool {
     count == TICKETS && seen == (1 << TICKETS) - 1
 }
 
-/// Runs the workers, and again where that is refused: they have come back then, and have counted what they performed.
+/// Runs the workers, and once more if that is refused: then they have come back, and have counted what they performed.
 fn run_again<'a, R: Threads + Wait + Sync>(
     rt: &R,
     alloc: Global,

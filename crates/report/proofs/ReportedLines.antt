@@ -33,7 +33,7 @@ element_on {A} f old new whole i xs x lt is added h =
     goes_on old new (f x) (flat_map f (drop (i + 1) xs)) whole
     (ap (λ (l : List A). old ++ flat_map f l) (sym (next_of xs i x lt ∙ ap (λ (y : A). y ∷ drop (i + 1) xs) (sym is))) ∙ h) added
 
--- what a call that may be refused leaves where it isn't
+-- What a call that may be refused leaves if it isn't refused.
 pub on_ok_if : {T E : Type 0} (r : Result T E) (x a b : List ℕ) → x ≡ (if is_ok r then a else b) → OnOk r (x ≡ a)
 on_ok_if (Ok y) x a b e = e
 on_ok_if (Err y) x a b e = tt

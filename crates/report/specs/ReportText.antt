@@ -8,41 +8,41 @@ use Rattle.target_trait.specs.declared.judgement.Verdict.{Verdict}
 use Rattle.target_trait.specs.declared.judgement.Verdict.TheVariants as verdict
 use Rattle.report.specs.Reports.{FindingFacts, CauseFacts, GrowthFacts, ReportFacts}
 
--- `pass`, `unresolved`, or `fail` and the name of the code
+-- `pass`, `unresolved`, or `fail` and the name of the code.
 abbrev pub verdict_text : (ℕ → List ℕ) → Verdict → List ℕ
 verdict_text code_name verdict.Pass = codes "pass"
 verdict_text code_name (verdict.Fail code) = codes "fail " ++ code_name code
 verdict_text code_name verdict.Unresolved = codes "unresolved"
 
--- the printed form of a scenario, or `none` for one without entries, whose printed form is empty
+-- The printed form of a scenario, or `none` for a scenario without entries.
 abbrev pub scenario_text : Entries → List ℕ
 scenario_text [] = codes "none"
 scenario_text (entry ∷ entries) = printed (entry ∷ entries)
 
--- the target's label, the seed, and the verdict without faults
+-- The target's label, the seed, and the verdict without faults.
 abbrev pub head_lines : (ℕ → List ℕ) → ReportFacts → List (List ℕ)
 head_lines code_name report =
     (codes "target " ++ report.label) ∷ (codes "seed " ++ decimal report.seed) ∷ (codes "clean " ++ verdict_text code_name report.clean) ∷ []
 
--- a word, a point and so many hits of it
+-- A word, a point, and how many hits of it there are.
 abbrev pub point_line : List ℕ → List ℕ × ℕ → List ℕ
 point_line word hits = word ++ codes " " ++ hits.0 ++ codes " " ++ decimal hits.1
 
--- a line for each point, in the order of the catalogue
+-- A line for each point, in the order of the catalogue.
 abbrev pub point_lines : List ℕ → List (List ℕ) → List ℕ → List (List ℕ)
 point_lines word names counts = map (point_line word) (zip names counts)
 
--- a level with how many plans it has
+-- A level, and how many plans it has.
 abbrev pub level_line : ℕ × ℕ → List ℕ
 level_line level = codes "level " ++ decimal level.0 ++ codes " " ++ decimal level.1
 
--- a count behind its word, where it isn't 0
+-- A word and a count, if the count isn't 0.
 abbrev pub nonzero_lines : List ℕ → ℕ → List (List ℕ)
 nonzero_lines word zero = []
 nonzero_lines word (suc n) = (word ++ codes " " ++ decimal (suc n)) ∷ []
 
--- of a campaign with a depth: the depth, the levels from 0 on, how many plans go onward, how many lie beyond and of how many the hits aren't
--- known, and what is reached
+-- The lines of a campaign with a depth: the depth, the levels from 0 on, how many plans have a sticky last fault, how many lie beyond, how many have
+-- unknown hits, and the most hits of each point.
 abbrev pub growth_lines : List (List ℕ) → Option GrowthFacts → List (List ℕ)
 growth_lines names None = []
 growth_lines names (Some growth) =
@@ -52,19 +52,19 @@ growth_lines names (Some growth) =
     ++ nonzero_lines (codes "unseen") growth.unseen
     ++ point_lines (codes "reached") names growth.reached
 
--- how many plans there are
+-- How many plans there are.
 abbrev pub count_line : List Verdict → List ℕ
 count_line verdicts = codes "plans " ++ decimal (length verdicts)
 
--- a plan's number and verdict
+-- A plan's number and verdict.
 abbrev pub verdict_line : (ℕ → List ℕ) → ℕ × Verdict → List ℕ
 verdict_line code_name plan = codes "verdict " ++ decimal plan.0 ++ codes " " ++ verdict_text code_name plan.1
 
--- a line for each plan, of plans numbered from n on
+-- A line for each plan. The plans are numbered from n on.
 abbrev pub verdict_lines : (ℕ → List ℕ) → ℕ → List Verdict → List (List ℕ)
 verdict_lines code_name n verdicts = map (verdict_line code_name) (enumerate_from n verdicts)
 
--- the plan's number and the name of its code, its scenario, what that was reduced to, and the tests
+-- The plan's number and the name of its code, its scenario, the reduced scenario, and how many tests the reduction took.
 abbrev pub finding_lines : (ℕ → List ℕ) → FindingFacts → List (List ℕ)
 finding_lines code_name finding =
     (codes "first " ++ decimal finding.number ++ codes " " ++ code_name finding.code)
@@ -73,22 +73,22 @@ finding_lines code_name finding =
     ∷ (codes "tests " ++ decimal finding.tests)
     ∷ []
 
--- `first none` and nothing more where nothing was found, and otherwise the lines of each finding, in order
+-- If nothing was found, `first none` alone; otherwise the lines of each finding, in order.
 abbrev pub findings_lines : (ℕ → List ℕ) → List FindingFacts → List (List ℕ)
 findings_lines code_name [] = codes "first none" ∷ []
 findings_lines code_name (finding ∷ findings) = flat_map (finding_lines code_name) (finding ∷ findings)
 
--- the plan's number, the name of its code, and its scenario
+-- The plan's number, the name of its code, and its scenario.
 abbrev pub cause_line : (ℕ → List ℕ) → CauseFacts → List ℕ
 cause_line code_name cause =
     codes "cause " ++ decimal cause.number ++ codes " " ++ code_name cause.code ++ codes " " ++ scenario_text cause.scenario
 
--- of a campaign with a depth: how many causes there are, and a line for each, in order
+-- The lines of a campaign with a depth: how many causes there are, and then a line for each, in order.
 abbrev pub causes_lines : (ℕ → List ℕ) → Option GrowthFacts → List (List ℕ)
 causes_lines code_name None = []
 causes_lines code_name (Some growth) = (codes "causes " ++ decimal (length growth.causes)) ∷ map (cause_line code_name) growth.causes
 
--- all lines, by the names of the points and codes
+-- All lines of a report, by the names of the points and codes.
 abbrev pub report_lines : List (List ℕ) → (ℕ → List ℕ) → ReportFacts → List (List ℕ)
 report_lines names code_name report =
     head_lines code_name report
@@ -100,10 +100,10 @@ report_lines names code_name report =
     ++ findings_lines code_name report.findings
     ++ causes_lines code_name report.growth
 
--- a line with its line feed
+-- A line with a line feed at its end.
 abbrev pub ended : List ℕ → List ℕ
 ended line = line ++ 10 ∷ []
 
--- lines, each with its line feed
+-- Lines, each with a line feed at its end.
 abbrev pub text_of : List (List ℕ) → List ℕ
 text_of lines = flat_map ended lines

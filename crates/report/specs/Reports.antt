@@ -1,9 +1,9 @@
--- What a report tells.
+-- The facts in a report.
 use Rattle.std.specs.Prelude.{ℕ, List, Option}
 use Rattle.scenario_values.specs.Scenario.{Entries}
 use Rattle.target_trait.specs.declared.judgement.Verdict.{Verdict}
 
--- the first failure of a code: the plan's number, the code, its scenario, that scenario with the faults that were kept, and how many tests that took
+-- The first failure of a code: the plan's number, the code, the plan's scenario, the reduced scenario, and how many tests the reduction took.
 pub record FindingFacts : Type 0 where
   pub number : ℕ
   pub code : ℕ
@@ -11,15 +11,15 @@ pub record FindingFacts : Type 0 where
   pub reduced : Entries
   pub tests : ℕ
 
--- a cause: a grown plan's number, the code that it fails with and not without any one of its faults, and its scenario
+-- A cause: the number of a plan that grew, the code that it fails with, though not if any one of its faults is left out, and its scenario.
 pub record CauseFacts : Type 0 where
   pub number : ℕ
   pub code : ℕ
   pub scenario : Entries
 
--- how a campaign grew: its depth, how many plans each level has from level 0 on, how many go onward, how many plans the level after the
--- last one has, how many plans were run whose hits nobody knows, the most hits that a run of these plans has of each point of the catalogue,
--- and the causes in the order of their numbers
+-- How a campaign grew: its depth; how many plans each level has, from level 0 on; how many plans have a sticky last fault; how many plans the level
+-- after the last one has; how many plans were run with hits that nobody knows; the most hits of each point of the catalogue that a run has; and the
+-- causes, in the order of their numbers.
 pub record GrowthFacts : Type 0 where
   pub depth : ℕ
   pub levels : List ℕ
@@ -29,9 +29,9 @@ pub record GrowthFacts : Type 0 where
   pub reached : List ℕ
   pub causes : List CauseFacts
 
--- the target's label, the seed, the verdict without faults, how often each point of the catalogue is asked then, the verdict of each
--- plan in the order of the plans, how many of those that pass were told with their hits and have a fault that never acted in them, the first
--- failure of each code that a plan fails with, and how the campaign grew, where it has a depth
+-- The target's label; the seed; the verdict of the run without faults, and how often it asks each point of the catalogue; the verdict of each plan,
+-- in the order of the plans; how many plans pass with recorded hits in which one of their faults never acted; the first failure of each code; and how
+-- the campaign grew, if it has a depth.
 pub record ReportFacts : Type 0 where
   pub label : List ℕ
   pub seed : ℕ

@@ -4,11 +4,11 @@ ghost use Rattle.report.specs.ReportText.{ended, text_of};
 ghost use Rattle.report.specs.BriefText.{is_fail_with, code_count, counts_line, reported_line, reported_line_of, reported_lines, brief_lines};
 
 use crate::counts::{passing, unresolved};
-use crate::facts::{Finding, Report};
+use crate::facts::{Finding, JudgedPlan, Report};
 use crate::lines::{write_end, write_front, write_scenario};
 use crate::names::Names;
 use crate::verdicts::write_verdict;
-use campaign_plans::{CampaignPlan, CampaignPlans};
+use campaign_plans::CampaignPlans;
 use std::alloc::{AllocError, Global};
 use std::fmt::Write;
 use target_trait::Verdict;
@@ -22,6 +22,7 @@ fn is_fail_with(code: u32, verdict: Verdict) -> bool
     }
 }
 
+/// How many verdicts fail with this code.
 fn failing(verdicts: &[Verdict], code: u32) -> usize
     ensures { result ≡ count_by (is_fail_with code) verdicts.now }
 {
@@ -31,6 +32,7 @@ fn failing(verdicts: &[Verdict], code: u32) -> usize
         .count()
 }
 
+/// Appends a finding's code and how many plans fail with it.
 fn write_code_count<N: Names>(
     out: &mut String,
     names: &N,
@@ -58,6 +60,7 @@ fn write_code_counts<N: Names>(
     Ok(())
 }
 
+/// Appends the line of counts, which stands in place of the passing verdicts: `counts pass 7 unresolved 1 lost 2`.
 fn write_counts<N: Names>(
     out: &mut String,
     names: &N,
@@ -73,38 +76,37 @@ fn write_counts<N: Names>(
     out.push_str("\n")
 }
 
+/// Appends the line of a verdict that isn't pass, with the plan's scenario behind it.
 fn write_reported<N: Names>(
     alloc: Global,
     out: &mut String,
     names: &N,
-    number: usize,
-    verdict: Verdict,
-    plan: &CampaignPlan<'_>,
+    judged: &JudgedPlan<'_>,
 ) -> Result<(), AllocError>
-    ensures { OnOk result (string_bytes out.new ≡ string_bytes out.old ++ ended (reported_line (N.code_text names.now) number verdict plan.now)) }
+    ensures { OnOk result (string_bytes out.new ≡ string_bytes out.old
+        ++ ended (reported_line (N.code_text names.now) judged.now.number judged.now.verdict judged.now.plan)) }
 {
+    let number = judged.number;
     write!(out, "verdict {number} ")?;
-    write_verdict(out, names, verdict)?;
+    write_verdict(out, names, judged.verdict)?;
     out.push_str(" ")?;
-    write_scenario(alloc, out, &plan.scenario(alloc)?)?;
+    write_scenario(alloc, out, &judged.plan.scenario(alloc)?)?;
     out.push_str("\n")
 }
 
+/// Appends that line, or nothing for a plan that passes.
 fn write_reported_of<N: Names>(
     alloc: Global,
     out: &mut String,
     names: &N,
-    number: usize,
-    verdict: Verdict,
-    plan: &CampaignPlan<'_>,
+    judged: &JudgedPlan<'_>,
 ) -> Result<(), AllocError>
-    ensures { OnOk result (string_bytes out.new ≡ string_bytes out.old ++ text_of (reported_line_of (N.code_text names.now) number verdict plan.now)) }
+    ensures { OnOk result (string_bytes out.new ≡ string_bytes out.old
+        ++ text_of (reported_line_of (N.code_text names.now) judged.now.number judged.now.verdict judged.now.plan)) }
 {
-    match verdict {
+    match judged.verdict {
         Verdict::Pass => Ok(()),
-        Verdict::Fail(_) | Verdict::Unresolved => {
-            write_reported(alloc, out, names, number, verdict, plan)
-        }
+        Verdict::Fail(_) | Verdict::Unresolved => write_reported(alloc, out, names, judged),
     }
 }
 
@@ -119,16 +121,21 @@ fn write_all_reported<N: Names>(
     ensures { OnOk result (string_bytes out.new ≡ string_bytes out.old ++ text_of (reported_lines (N.code_text names.now) 0 verdicts.now plans.now)) }
 {
     for (number, verdict) in verdicts.iter().enumerate() {
-        write_reported_of(alloc, out, names, number, *verdict, &plans.plan(number))?;
+        let judged = JudgedPlan {
+            number,
+            verdict: *verdict,
+            plan: plans.plan(number),
+        };
+        write_reported_of(alloc, out, names, &judged)?;
     }
     Ok(())
 }
 
-/// The text of a brief report over these plans, each line with its line feed, by these names of points and codes: one line of counts in
-/// place of the verdicts that pass, and its scenario beside each other verdict. The rest is as in the whole report.
+/// The text of a brief report over these plans, with these names of points and codes. Each line has its line feed. One line of counts stands in place
+/// of the verdicts that pass, and beside each other verdict stands its scenario. The rest is as in the whole report.
 ///
-/// The census has to have a count for each of the points, and so has what is reached, of a campaign that has a depth; and there has to be a
-/// verdict for each plan. An error means that memory was refused.
+/// The census needs a count for each point; so does `reached`, if the campaign has a depth; and each plan needs a verdict. An error means that memory
+/// was refused.
 pub fn brief_text<N: Names>(
     alloc: Global,
     names: &N,

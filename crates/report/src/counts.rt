@@ -1,4 +1,4 @@
-//! How many verdicts are of which kind.
+//! How many verdicts there are of each kind.
 ghost use Rattle.std.specs.Prelude.{◌≡◌, count_by};
 ghost use Rattle.target_trait.specs.Verdicts.{is_pass, is_fail, is_unresolved};
 
@@ -14,7 +14,7 @@ pub fn passing(verdicts: &[Verdict]) -> usize
         .count()
 }
 
-/// How many of these verdicts are failures, with whatever code.
+/// How many of these verdicts are failures, with any code.
 pub fn failures(verdicts: &[Verdict]) -> usize
     ensures { result ≡ count_by is_fail verdicts.now }
 {

@@ -1,10 +1,11 @@
-//! What a report tells.
+//! The facts in a report.
 
+use campaign_plans::CampaignPlan;
 use scenario_values::Scenario;
 use std::marker::Model;
 use target_trait::Verdict;
 
-/// The first failure of its code, with what it was reduced to.
+/// The first failure with a code, and what it was reduced to.
 #[derive(Drop)]
 pub struct Finding {
     /// The number of the plan, the least of those that fail with this code.
@@ -15,7 +16,7 @@ pub struct Finding {
     pub scenario: Scenario,
     /// The plan's scenario with the faults that were kept, tidied.
     pub reduced: Scenario,
-    /// How many sets of faults were tested, up to the largest `u64`.
+    /// How many sets of faults were tested; the count stops at the largest `u64`.
     pub tests: u64,
 }
 
@@ -33,7 +34,7 @@ impl Model for Finding {
     } };
 }
 
-/// A grown plan that fails with a code, and without any one of its faults doesn't.
+/// A cause: a grown plan that fails with a code, and doesn't without any one of its faults.
 #[derive(Drop)]
 pub struct Cause {
     /// The number of the plan.
@@ -52,22 +53,30 @@ impl Model for Cause {
     ghost view = { λ c. record { number = c.number; code = c.code; scenario = c.scenario } };
 }
 
-/// How a campaign with a depth grew: what its report tells beside the rest.
+/// A plan with its number and its verdict.
+#[derive(Drop)]
+pub struct JudgedPlan<'a> {
+    pub number: usize,
+    pub verdict: Verdict,
+    pub plan: CampaignPlan<'a>,
+}
+
+/// How a campaign with a depth grew: what its report says besides.
 #[derive(Drop)]
 pub struct Growth<'a> {
     /// The depth: how many faults a plan of the levels has at most, from 1 to 64.
     pub depth: u32,
     /// How many plans each level has, from level 0 to that of the depth.
     pub levels: &'a [u32],
-    /// How many plans of the last level there are once more with their last fault from then on.
+    /// How many plans with a sticky last fault there are, as in the report's line `onward`: each is a plan of the last level with that fault sticky.
     pub onward: u32,
     /// How many plans the level after the last one would have.
     pub beyond: u64,
-    /// How many plans were run whose hits aren't known, so that nothing grew from them; 0 of targets, whose hits are always known.
+    /// From how many plans nothing grew, because they were run and their hits aren't known. For targets that is 0, as their hits are always known.
     pub unseen: u32,
-    /// The most hits that a run of these plans has of each point, in the order of the target's catalogue.
+    /// For each point, in the order of the catalogue, the most hits of it in a run of one of these plans.
     pub reached: &'a [u32],
-    /// The causes, in the order of the plans' numbers; empty where there is none.
+    /// The causes, in the order of the plans' numbers.
     pub causes: Vec<Cause>,
 }
 
@@ -87,7 +96,7 @@ impl<'a> Model for Growth<'a> {
     } };
 }
 
-/// What a report tells. How many workers ran the plans isn't in it.
+/// The facts in a report. How many workers ran the plans isn't among them.
 #[derive(Drop)]
 pub struct Report<'a> {
     /// The label of the target's setup.
@@ -100,12 +109,12 @@ pub struct Report<'a> {
     pub census: &'a [u32],
     /// The verdict of each plan, in the order of the plans' numbers, from 0.
     pub verdicts: &'a [Verdict],
-    /// How many plans pass whose run was told with its hits, and a fault of whose scenario never acted in it: it wasn't met. 0 of targets that
-    /// the program runs itself, of which this isn't counted.
+    /// How many plans pass although a fault of their scenario never acted, as far as runs are recorded with their hits. It isn't counted for targets
+    /// that the program runs itself: there it is 0.
     pub unmet: u32,
-    /// The first failure of each code that a plan fails with, in the order of the plans' numbers; empty where no plan fails.
+    /// The first failure with each code with which a plan fails, in the order of the plans' numbers.
     pub findings: Vec<Finding>,
-    /// How the campaign grew, of one with a depth.
+    /// How the campaign grew, if it has a depth.
     pub growth: Option<Growth<'a>>,
 }
 

@@ -1,4 +1,4 @@
-//! The lines of a report on how a campaign grew.
+//! The lines of a report that say how a campaign grew.
 ghost use Rattle.std.specs.Prelude.{◌≡◌, ◌++◌, ◌∷◌, [], length, map, string_bytes, codes, IfSome, OnOk};
 ghost use Rattle.std.specs.Fmt.{decimal};
 ghost use Rattle.std.specs.List.{enumerate_from};
@@ -25,6 +25,7 @@ fn write_levels(out: &mut String, levels: &[u32]) -> Result<(), AllocError>
     Ok(())
 }
 
+/// Appends the lines `depth`, `level`, `onward` and `beyond`; and `unseen`, unless that is 0.
 fn write_sizes(out: &mut String, growth: &Growth<'_>) -> Result<(), AllocError>
     ensures { OnOk result (string_bytes out.new ≡ string_bytes out.old ++ text_of ((codes "depth " ++ decimal growth.now.depth) ∷ []
         ++ map level_line (enumerate_from 0 growth.now.levels)
@@ -40,7 +41,7 @@ fn write_sizes(out: &mut String, growth: &Growth<'_>) -> Result<(), AllocError>
     write_nonzero(out, "unseen", growth.unseen)
 }
 
-/// Nothing where the campaign has no depth.
+/// Appends nothing if the campaign has no depth.
 pub(crate) fn write_growth<N: Names>(
     out: &mut String,
     names: &N,
@@ -58,6 +59,7 @@ pub(crate) fn write_growth<N: Names>(
     }
 }
 
+/// Appends the line of a cause: its number, its code and its scenario.
 fn write_cause<N: Names>(
     alloc: Global,
     out: &mut String,
@@ -87,7 +89,7 @@ fn write_each_cause<N: Names>(
     Ok(())
 }
 
-/// Nothing where the campaign has no depth.
+/// Appends nothing if the campaign has no depth.
 pub(crate) fn write_causes<N: Names>(
     alloc: Global,
     out: &mut String,

@@ -15,12 +15,13 @@ use std::alloc::{AllocError, Global};
 use std::fmt::Write;
 use target_trait::Verdict;
 
-/// The bytes of the line of a verdict that passes, the line of most plans, with five digits and a few to spare.
+/// How many bytes the line of a passing verdict takes, which most plans have: with five digits, and a few bytes to spare.
 const LINE_ROOM: usize = 20;
 
-/// The bytes of the line of a cause with two faults, about.
+/// About how many bytes the line of a cause with two faults takes.
 const CAUSE_ROOM: usize = 80;
 
+/// Appends the lines `target`, `seed` and `clean`.
 fn write_head<N: Names>(
     out: &mut String,
     names: &N,
@@ -42,7 +43,7 @@ fn write_point(out: &mut String, word: &str, name: &str, hits: u32) -> Result<()
     writeln!(out, "{word} {name} {hits}")
 }
 
-/// A line for each point, with its hits behind this word.
+/// A line for each point: this word, the point, and its hits.
 pub(crate) fn write_points<N: Names>(
     out: &mut String,
     word: &str,
@@ -89,9 +90,9 @@ fn write_verdicts<N: Names>(
     Ok(())
 }
 
-/// Appends a scenario as reports say it: its printed form, or `none` where it has no entry.
+/// Appends a scenario as it stands in reports: its printed form, or `none` if it has no entry.
 ///
-/// An error means that memory was refused, and changes nothing.
+/// An error means that memory was refused; then nothing has changed.
 pub fn write_scenario(
     alloc: Global,
     out: &mut String,
@@ -107,7 +108,7 @@ pub fn write_scenario(
     out.push_str(text.as_str())
 }
 
-/// A count behind its word, where it isn't 0.
+/// A count behind its word, unless it is 0.
 pub(crate) fn write_nonzero(out: &mut String, word: &str, count: u32) -> Result<(), AllocError>
     ensures { OnOk result (string_bytes out.new ≡ string_bytes out.old ++ text_of (nonzero_lines word.now count)) }
 {
@@ -117,6 +118,7 @@ pub(crate) fn write_nonzero(out: &mut String, word: &str, count: u32) -> Result<
     writeln!(out, "{word} {count}")
 }
 
+/// Appends the four lines of a finding: `first`, `scenario`, `reduced` and `tests`.
 fn write_finding<N: Names>(
     alloc: Global,
     out: &mut String,
@@ -135,6 +137,7 @@ fn write_finding<N: Names>(
     writeln!(out, "\ntests {tests}")
 }
 
+/// Appends the lines of all findings, or `first none`.
 fn write_findings<N: Names>(
     alloc: Global,
     out: &mut String,
@@ -202,8 +205,8 @@ fn room(report: &Report<'_>) -> usize {
     }
 }
 
-/// The text of a report, each line with its line feed, by these names of points and codes. The census has to have a count for each of the
-/// points, and so has what is reached, of a campaign that has a depth.
+/// The text of a report, with these names of points and codes. Each line has its line feed. The census needs a count for each point, and so does
+/// `reached`, if the campaign has a depth.
 ///
 /// An error means that memory was refused.
 pub fn text<N: Names>(alloc: Global, names: &N, report: &Report<'_>) -> Result<Vec<u8>, AllocError>

@@ -1,9 +1,9 @@
-//! The names that a report tells.
+//! The names in a report.
 ghost use Rattle.std.specs.Prelude.{◌≡◌, ℕ, ◌<◌, List, [], length, slice_index_or};
 
 use target_trait::Target;
 
-/// The names of the points and codes that a report tells of.
+/// The names of a report's points and codes.
 ///
 /// Each target has them. A type that holds them as data, such as two lists of texts, implements this trait itself.
 pub trait Names {
@@ -13,7 +13,7 @@ pub trait Names {
     // The name of a code.
     ghost code_text: { Self → ℕ → List ℕ };
 
-    /// The name of the point of this number, of those that there are.
+    /// The name of the point with this number, which has to exist.
     fn point(&self, number: usize) -> &str
         requires { number < length (points self.now) }
         ensures { result.now ≡ slice_index_or (points self.now) number [] };

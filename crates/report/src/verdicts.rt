@@ -1,15 +1,26 @@
 //! Verdicts in words.
 ghost use Rattle.std.specs.Prelude.{◌≡◌, ◌++◌, string_bytes, OnOk, OnErr};
 ghost use Rattle.std.specs.Io.{StartsWith};
+ghost use Rattle.target_trait.specs.Verdicts.{is_fail};
 ghost use Rattle.report.specs.ReportText.{verdict_text};
 
 use crate::names::Names;
 use std::alloc::AllocError;
 use target_trait::Verdict;
 
+/// Whether a verdict is a failure, with whatever code.
+pub fn is_fail(verdict: Verdict) -> bool
+    ensures { result ≡ is_fail verdict }
+{
+    match verdict {
+        Verdict::Fail(_) => true,
+        Verdict::Pass | Verdict::Unresolved => false,
+    }
+}
+
 /// Appends a verdict as reports say it: `pass`, `unresolved`, or `fail` and the name of the code.
 ///
-/// An error means that memory was refused; what stood there is still the beginning then, and some of the bytes may stand behind it.
+/// An error means that memory was refused. Then some of the bytes may have been appended.
 pub fn write_verdict<N: Names>(
     out: &mut String,
     names: &N,

@@ -4,20 +4,21 @@ ghost use Rattle.std.specs.Io.KnownBytes.{Appends};
 
 use target_trait::Sink;
 
-/// A writing that failed before the whole text was out.
+/// A write failed before the whole text was written.
 #[derive(Clone, Copy, Debug, PartialEq, Eq)]
 pub struct WriteFault {
-    /// How many bytes went out, fewer than the text has: that many from its start.
+    /// How many bytes from the text's start were written: fewer than all.
     pub written: u64,
 }
 
-/// Writes the whole text: writes what is left of it, until nothing is left. An empty text is not written at all. The sink must not have
-/// failed before.
+/// Writes the whole text: writes what is left of it, until nothing is left. For an empty text nothing is written. The sink must not have failed
+/// before.
 ///
-/// An error of a write, an interrupted one too, and a write that takes no byte are a fault: nothing more is written, and the sink has
-/// failed from then on. This call has then given the sink the first `written` bytes of the text and nothing else. Of a sink that doesn't
-/// tell what it takes, as one over standard output, the contract says nothing of bytes: only that it has failed just where there is a
-/// fault, and that `written` is below the text's length.
+/// If a write fails (an interrupted one too) or takes no byte, this returns a fault. Then nothing more is written, the sink has failed, and it has
+/// taken the first `written` bytes of the text and nothing else.
+///
+/// If the bytes that a sink takes aren't known, as with one over standard output, the contract says nothing about bytes: only that the sink has
+/// failed exactly if there is a fault, and that `written` is below the text's length.
 pub fn write_report<W: Sink>(text: &[u8], sink: &mut W) -> Result<(), WriteFault>
     requires { W.has_failed sink.old ≡ false }
     ensures ok { OnOk result (Appends (W.told sink.old) (W.told sink.new) text.now) }

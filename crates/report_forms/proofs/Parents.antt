@@ -14,7 +14,7 @@ grown_within grown plans points n first within =
     let same : length (take (length grown) plans) ≡ length grown = ap length first ∙ length-map grown (grown_scenario points) in
     omega (arith, within, taken, same)
 
--- the parent of one with two faults or more has the scenario of its faults but the last
+-- The parent of a plan with two faults or more has the scenario of its faults except the last.
 pub parent_is : (grown : List (List Rig)) (plans : List Entries) (points : List (List ℕ)) (n parent : ℕ) (faults : List Rig) → parent < length grown → take (length grown) plans ≡ grown_scenarios points grown
     → faults ≡ get_or grown n [] → 2 ≤ length faults → ((r : Rig) (rs : List Rig) → get_or grown n [] ≡ r ∷ rs → get_or grown parent [] ≡ rs)
     → Some (get_or plans parent []) ≡ parent_at points grown n

@@ -1,4 +1,4 @@
--- The forms of a report.
+-- The text of a report in each of its forms.
 use Rattle.std.specs.Prelude.{ℕ, List}
 use Rattle.report.specs.Reports.{ReportFacts}
 use Rattle.report.specs.ReportText.{report_lines, text_of}
@@ -12,15 +12,15 @@ use Rattle.report_forms.specs.Runs.{Telling, runs_shown}
 use Rattle.report_forms.specs.declared.forms.Form.{Form}
 use Rattle.report_forms.specs.declared.forms.Form.TheVariants.{Whole, Brief, Json, Junit, Page}
 
--- the brief report and the document, by the names of points and codes
+-- The brief report and, below, the JSON document, by the names of the points and codes.
 abbrev pub brief_of : List (List ℕ) → (ℕ → List ℕ) → ReportFacts → ShownFacts → List ℕ
 brief_of points codes report shown = text_of (brief_lines points codes report shown.plans)
 
 abbrev pub document_in : List (List ℕ) → (ℕ → List ℕ) → Telling → ReportFacts → NotesFacts → ShownFacts → List ℕ
 document_in points codes tell report notes shown = json_of (document_of points codes report notes shown (runs_shown points tell report shown.grown))
 
--- the text of a report in a form, by the names of points and codes, by what is told of runs, and with what is shown beside it. The page has the document
--- in it that the report is as JSON, and the brief report.
+-- The text of a report in a form, by the names of the points and codes, by what is known of runs, and with what is shown beside the report. The page
+-- contains the report's JSON document and the brief report.
 abbrev pub text_in : Form → List (List ℕ) → (ℕ → List ℕ) → Telling → ReportFacts → ShownFacts → List ℕ
 text_in Whole points codes tell report shown = text_of (report_lines points codes report)
 text_in Brief points codes tell report shown = brief_of points codes report shown

@@ -1,4 +1,4 @@
--- The runs that are shown of a report: that without faults, those of the findings, and those of the causes.
+-- The runs that are shown with a report: the one without faults, those of the findings, and those of the causes.
 use Rattle.std.specs.Prelude.{◌≡◌, ℕ, List, [], ◌∷◌, Option, None, Some, length, map, slice_index_or, take}
 use Rattle.scenario_values.specs.Scenario.{Entries}
 use Rattle.action_eval.specs.declared.rig.Rig.{Rig}
@@ -9,25 +9,25 @@ use Rattle.report_json.specs.About.{ShownFacts}
 use Rattle.report_json.specs.Runs.{RunsFacts}
 use Rattle.report_json.specs.declared.runs.ShownRun.{ShownRun}
 
--- what is told of the run of each scenario under each stream number
+-- What is known of the run of each scenario under each stream number.
 abbrev pub Telling : Type 0
 Telling = ℕ → Entries → Option RunFacts
 
--- of a run so many hits have lines, and of the causes so many are shown with their runs
+-- A run has lines for at most this many hits and, below, at most this many causes are shown with their runs.
 abbrev pub most_hits_shown : ℕ
 most_hits_shown = 1000
 
 abbrev pub most_causes_shown : ℕ
 most_causes_shown = 100
 
--- The scenario of the plan that a plan grew from, which has its faults but the last. A plan of one fault grew from the run without faults, which is shown
--- by itself.
+-- The scenario of the plan that a plan grew from, which has all of its faults except the last. A plan of one fault grew from the run without faults,
+-- which is shown by itself, so there is none for it.
 abbrev pub parent_of : List (List ℕ) → List Rig → Option Entries
 parent_of points [] = None
 parent_of points (last ∷ []) = None
 parent_of points (last ∷ (r ∷ earlier)) = Some (grown_scenario points (r ∷ earlier))
 
--- of the plan of this number, where it is one of those that grew
+-- The same for the plan of this number, if it is one of those that grew.
 abbrev pub parent_at : List (List ℕ) → List (List Rig) → ℕ → Option Entries
 parent_at points grown number = parent_of points (slice_index_or grown number [])
 
@@ -39,12 +39,12 @@ abbrev pub beside : Option RunFacts → Option RunFacts → Option ShownRun
 beside parent None = None
 beside parent (Some run) = Some (record { run = run; parent = parent })
 
--- The run of a scenario, where it is told, and beside it that of the plan which the plan of this number grew from. Both are run under this number; a plan
--- that grew needs none.
+-- The run of a scenario, if it is known, and beside it the run of the plan that the plan of this number grew from. Both are run under this number,
+-- though the run of a plan that grew doesn't depend on it.
 abbrev pub run_shown : List (List ℕ) → Telling → List (List Rig) → ℕ → Entries → Option ShownRun
 run_shown points tell grown number scenario = beside (told_of (tell number) (parent_at points grown number)) (tell number scenario)
 
--- of a first failure the run of what its scenario was reduced to, and of a cause its own
+-- The run of a first failure's reduced scenario and, below, of a cause.
 abbrev pub finding_shown : List (List ℕ) → Telling → List (List Rig) → FindingFacts → Option ShownRun
 finding_shown points tell grown finding = run_shown points tell grown finding.number finding.reduced
 
@@ -62,6 +62,6 @@ runs_shown points tell report grown = record {
   causes = causes_shown points tell grown report.growth;
 }
 
--- the plans that grew come first among the plans
+-- The plans that grew come first among the plans.
 abbrev pub GrownAreFirst : List (List ℕ) → ShownFacts → Type 0
 GrownAreFirst points shown = take (length shown.grown) shown.plans ≡ grown_scenarios points shown.grown

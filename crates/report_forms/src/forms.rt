@@ -11,18 +11,18 @@ use report_junit::junit_text;
 use report_page::page_text;
 use std::alloc::{AllocError, Global};
 
-/// How a report is written.
+/// The form in which a report is written.
 #[derive(Drop)]
 pub enum Form<'a> {
-    /// As lines, one for each verdict.
+    /// Lines, one for each verdict.
     Whole,
-    /// As lines, one of counts in place of the verdicts that pass, and its scenario beside each other verdict.
+    /// Lines, with one line of counts in place of the passing verdicts, and its scenario beside each other verdict.
     Brief,
-    /// As a JSON document with all that the report tells, and these notes.
+    /// A JSON document with everything in the report, and these notes.
     Json(Notes<'a>),
-    /// As JUnit's XML, with a case for each plan.
+    /// JUnit's XML, with a case for each plan.
     Junit,
-    /// As a page to look at, an HTML document that is whole in itself: it shows the JSON document with these notes.
+    /// A page to look at: an HTML document that needs nothing else, and shows the JSON document with these notes.
     Page(Notes<'a>),
 }
 
@@ -46,6 +46,7 @@ fn document_of<N: Names, T: Teller>(
     json_text(alloc, names, report, notes, shown, &runs)
 }
 
+/// The page: the brief report and the document, in the frame.
 fn page_of<N: Names, T: Teller>(
     alloc: Global,
     names: &N,
@@ -66,11 +67,11 @@ fn page_of<N: Names, T: Teller>(
     page_text(alloc, brief.as_slice(), document.as_slice())
 }
 
-/// The text of a report in a form, by these names of points and codes, with what is shown beside it. The document and the page show runs too, as they
-/// are told.
+/// The text of a report in a form, with these names of points and codes, and what is shown beside it. The document and the page also show the runs
+/// that the teller gives.
 ///
-/// The census has to have a count for each of the points; of a campaign that has a depth what is reached has a count for each point too; there has to
-/// be a verdict for each plan; and the plans that grew have to come first. An error means that memory was refused.
+/// The census needs a count for each point; so does `reached`, if the campaign has a depth; each plan needs a verdict; and the plans that grew have
+/// to come first. An error means that memory was refused.
 pub fn text_in<N: Names, T: Teller>(
     alloc: Global,
     form: &Form<'_>,

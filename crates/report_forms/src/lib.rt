@@ -1,4 +1,4 @@
-//! A report in each of its forms.
+//! A report in each of its forms, and the runs that it shows. This crate doesn't depend on the source of the runs.
 #![tactic(auto)]
 
 mod forms;

@@ -1,4 +1,4 @@
-//! The runs that are shown of a report.
+//! The runs that a report shows.
 ghost use Rattle.std.specs.Prelude.{◌≡◌, [], map, take, IfOk};
 ghost use Rattle.report_forms.specs.Runs.{GrownAreFirst, cause_shown, causes_shown, finding_shown, most_causes_shown, parent_at, run_shown, runs_shown, told_of};
 
@@ -9,20 +9,20 @@ use run_explained::ToldRun;
 use scenario_values::Scenario;
 use std::alloc::{AllocError, Global};
 
-/// How many hits of a run have lines at most.
+/// The most hits of a run that have lines.
 pub const MOST_HITS_SHOWN: usize = 1000;
 
-/// How many causes are shown with their runs at most.
+/// The most causes that are shown with their runs.
 const MOST_CAUSES_SHOWN: usize = 100;
 
-/// Whoever tells runs of scenarios, hit by hit.
+/// Gives runs of scenarios, hit by hit: a target's own, or those that answers record.
 pub trait Teller {
     ghost use Rattle.report_forms.specs.Runs.{Telling};
 
-    /// The run of a scenario under a stream number, where it is told.
+    /// The run of a scenario under a stream number, if it is known.
     ghost told_runs: { Self → Telling };
 
-    /// The run of the scenario under this stream number, where it is told. An error means that memory was refused.
+    /// The run of the scenario under this stream number, if it is known. An error means that memory was refused.
     fn tell(
         &self,
         alloc: Global,
@@ -32,7 +32,7 @@ pub trait Teller {
         ensures { IfOk result (λ run. run ≡ told_runs self.now number scenario.now) };
 }
 
-/// The scenario of the plan that the plan of this number grew from, where it grew by two faults or more. The points of the faults have these names.
+/// The scenario of the plan from which the plan with this number grew, if it has two faults or more. The faults' points have these names.
 fn parent_scenario<N: Names>(
     alloc: Global,
     _names: &N,
@@ -57,7 +57,7 @@ fn parent_scenario<N: Names>(
     Ok(Some(plan.scenario(alloc)?))
 }
 
-/// The run of the plan that the plan of this number grew from, where it grew by two faults or more.
+/// The run of the plan from which the plan with this number grew, if it has two faults or more.
 fn parent_run<N: Names, T: Teller>(
     alloc: Global,
     names: &N,
@@ -74,7 +74,7 @@ fn parent_run<N: Names, T: Teller>(
     }
 }
 
-/// The run of a scenario, beside that of the plan which the plan of this number grew from.
+/// The run of a scenario, beside that of the plan from which the plan with this number grew.
 fn run_shown<N: Names, T: Teller>(
     alloc: Global,
     names: &N,
@@ -93,7 +93,7 @@ fn run_shown<N: Names, T: Teller>(
     Ok(Some(ShownRun { run, parent }))
 }
 
-/// The run of what each first failure was reduced to.
+/// The run of each first failure, as reduced.
 fn findings_shown<N: Names, T: Teller>(
     alloc: Global,
     names: &N,
@@ -148,7 +148,7 @@ fn first_causes(causes: &[Cause]) -> &[Cause]
     &causes[..MOST_CAUSES_SHOWN]
 }
 
-/// The runs of the causes of a campaign that grew, of as many as are shown.
+/// The runs of the causes of a campaign that grew, as many as are shown.
 fn causes_shown<N: Names, T: Teller>(
     alloc: Global,
     names: &N,
@@ -165,7 +165,7 @@ fn causes_shown<N: Names, T: Teller>(
     }
 }
 
-/// The run without faults, where it is told.
+/// The run without faults, if it is known.
 fn clean_run<T: Teller>(alloc: Global, teller: &T) -> Result<Option<ToldRun>, AllocError>
     ensures { IfOk result (λ run. run ≡ T.told_runs teller.now 0 []) }
 {
@@ -173,8 +173,8 @@ fn clean_run<T: Teller>(alloc: Global, teller: &T) -> Result<Option<ToldRun>, Al
     teller.tell(alloc, 0, &none)
 }
 
-/// The runs that are shown of a report: that without faults, those of the findings as reduced, and those of the first causes, each beside the run of the
-/// plan that its plan grew from.
+/// The runs that a report shows: that without faults, those of the findings as reduced, and those of the first causes, each beside the run of the
+/// plan from which its plan grew.
 pub fn runs_shown<N: Names, T: Teller>(
     alloc: Global,
     names: &N,

@@ -112,7 +112,7 @@ shallow names code_name report notes shown runs =
     (member (codes "about") (about_value notes shown runs) no_members))) in
     omega (arith, clean, census, told, unmet, findings, growth, about)
 
--- a value is read back where the reader finds its tokens in its text
+-- A value is read back if the reader finds its tokens in its text.
 read_back : (value : Json) → depth value ≤ max_depth → tokens (pretty (json_tokens value)) ≡ json_tokens value → IsReadAs value
 read_back v shallow found =
     ap (λ (ts : List Token). option_and_then (λ p. if_last p.0 p.1) (value max_depth ts)) (found ∙ sym (append-nil (json_tokens v)))

@@ -49,7 +49,7 @@ pub five_members : (old : List Token) {begun m1 m2 m3 m4 m5 new : List Token} (a
 five_members old {begun} {m1} {m2} {m3} {m4} {m5} {new} a b c d e begins h1 h2 h3 h4 h5 ends =
     join old (begin_object ∷ []) (a ++ (b ++ (c ++ (d ++ (e ++ end_object ∷ []))))) begins (join begun a (b ++ (c ++ (d ++ (e ++ end_object ∷ [])))) h1 (join m1 b (c ++ (d ++ (e ++ end_object ∷ []))) h2 (join m2 c (d ++ (e ++ end_object ∷ [])) h3 (join m3 d (e ++ end_object ∷ []) h4 (join m4 e (end_object ∷ []) h5 ends)))))
 
--- the members from a count on, which has none where it is 0
+-- The members from a count on. A count of 0 has no member.
 nonzero_tokens_are : (name : List ℕ) (n : ℕ) (others : Members) → nonzero_tokens name n ++ members_tokens others ≡ members_tokens (nonzero name n others)
 nonzero_tokens_are name zero others = refl
 nonzero_tokens_are name (suc n) others = refl

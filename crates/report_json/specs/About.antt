@@ -1,4 +1,4 @@
--- What a document tells beside its report: who made it, by which settings, each plan that grew, and runs hit by hit.
+-- What a document says besides its report: who made it, by which settings, each plan that grew, and runs hit by hit.
 use Rattle.std.specs.Prelude.{ℕ, ◌-◌, List, [], ◌∷◌, ◌++◌, codes, drop, length, map, take, Option, None, Some}
 use Rattle.std.specs.Fmt.{decimal}
 use Rattle.json.specs.Json.{Json, string, object, no_members, member}
@@ -9,14 +9,14 @@ use Rattle.action_eval.specs.declared.rig.Kind.TheVariants.{OnceReturn, OnwardRe
 use Rattle.report_json.specs.Runs.{RunsFacts, or_null, run_value, shown_value}
 use Rattle.report_json.specs.Values.{list_of, scenario_value}
 
--- the program's version, who told the runs, and the command
+-- The program's version, the source of the runs (`target` or `answers`), and the command.
 pub record NotesFacts : Type 0 where
   pub version : List ℕ
   pub told_by : List ℕ
   pub command : List ℕ
 
--- the plans of a report, and those that grew, which come first among them; how many storms and how many listed scenarios stand behind the others; and
--- the text of the settings
+-- The plans of a report; those that grew, which come first among them; how many storms and how many listed scenarios come at the end; and the text of
+-- the settings.
 pub record ShownFacts : Type 0 where
   pub plans : List Entries
   pub grown : List (List Rig)
@@ -24,13 +24,13 @@ pub record ShownFacts : Type 0 where
   pub listed : ℕ
   pub settings : List ℕ
 
--- those with these parts
+-- The facts with these parts.
 abbrev pub shown_of : List Entries → List (List Rig) → ℕ → ℕ → List ℕ → ShownFacts
 shown_of plans grown storms listed settings = record { plans = plans; grown = grown; storms = storms; listed = listed; settings = settings }
 
 -- ---- plans
 
--- the scenarios of storms and those that are listed
+-- The number of the first listed scenario and, below, that of the first storm.
 abbrev pub listed_from : ShownFacts → ℕ
 listed_from shown = length shown.plans - shown.listed
 
@@ -40,7 +40,7 @@ storms_from shown = listed_from shown - shown.storms
 abbrev pub plans_between : ℕ → ℕ → List Entries → List Entries
 plans_between first end plans = drop first (take end plans)
 
--- what happens at a hit, as the grammar says it
+-- What happens at a hit, in the syntax of scenarios.
 abbrev pub argument_text : Option (List ℕ) → List ℕ
 argument_text None = []
 argument_text (Some text) = codes "(" ++ text ++ codes ")"
@@ -50,7 +50,7 @@ kind_text (OnceReturn text) = codes "1*return" ++ argument_text text
 kind_text (OnwardReturn text) = codes "return" ++ argument_text text
 kind_text OncePanic = codes "1*panic"
 
--- a fault: its point's place in the census, which hit of it, and what happens there
+-- A fault: the place of its point in the census, which hit of the point it is at, and what happens there.
 abbrev pub fault_text : Rig → List ℕ
 fault_text r = decimal r.site.point ++ codes " " ++ decimal r.site.hit ++ codes " " ++ kind_text r.kind
 
@@ -58,7 +58,8 @@ abbrev pub separator : List Rig → List ℕ
 separator [] = []
 separator (r ∷ earlier) = codes "; "
 
--- a plan that grew: its faults in the order in which they act, as `2 1 1*return; 4 1 1*panic`. So it begins with the plan that it grew from
+-- A plan that grew: its faults in the order in which they act, as in `2 1 1*return; 4 1 1*panic`. Its text begins with that of the plan that it grew
+-- from.
 abbrev pub faults_text : List Rig → List ℕ
 faults_text [] = []
 faults_text (r ∷ earlier) = faults_text earlier ++ separator earlier ++ fault_text r
@@ -66,7 +67,7 @@ faults_text (r ∷ earlier) = faults_text earlier ++ separator earlier ++ fault_
 abbrev pub grown_value : List Rig → Json
 grown_value plan = string (faults_text plan)
 
--- ---- all of it
+-- ---- the whole
 
 abbrev pub about_value : NotesFacts → ShownFacts → RunsFacts → Json
 about_value notes shown runs =

@@ -1,4 +1,4 @@
--- A report as one JSON value, whose members docs/MACHINES.md tells, and its text. A target gives the names of its points and codes.
+-- A report as one JSON value, and its text. docs/MACHINES.md describes the members. A target gives the names of its points and codes.
 use Rattle.std.specs.Prelude.{◌≡◌, ℕ, ◌+◌, List, [], ◌∷◌, ◌++◌, length, map, codes, count_by, Option, None, Some}
 use Rattle.std.specs.Fmt.{decimal}
 use Rattle.json.specs.Json.{Json, null, string, object, no_members, member, document}
@@ -13,7 +13,7 @@ use Rattle.report_json.specs.About.{NotesFacts, ShownFacts, about_value}
 use Rattle.report_json.specs.Runs.{RunsFacts}
 use Rattle.report_json.specs.Values.{whole, nonzero, list_of, scenario_value}
 
--- the form of the document, which gets another number where members change their names or what they say
+-- The number of the document's form. It changes if members change their names or their meaning.
 abbrev pub form : ℕ
 form = 1
 
@@ -24,7 +24,7 @@ verdict_word verdict.Pass = codes "pass"
 verdict_word (verdict.Fail code) = codes "fail"
 verdict_word verdict.Unresolved = codes "unresolved"
 
--- the name of a failure's code
+-- The name of a failure's code; null if there is no failure.
 abbrev pub code_of : (ℕ → List ℕ) → Verdict → Json
 code_of code_name verdict.Pass = null
 code_of code_name (verdict.Fail code) = string (code_name code)
@@ -33,7 +33,7 @@ code_of code_name verdict.Unresolved = null
 abbrev pub clean_value : (ℕ → List ℕ) → Verdict → Json
 clean_value code_name v = object (member (codes "verdict") (string (verdict_word v)) (member (codes "code") (code_of code_name v) no_members))
 
--- how many plans there are, and how many of them have which verdict
+-- How many plans there are, and how many of them have each verdict.
 abbrev pub counts_value : List Verdict → Json
 counts_value verdicts =
     object (member (codes "plans") (whole (length verdicts))
@@ -41,7 +41,7 @@ counts_value verdicts =
     (member (codes "fail") (whole (count_by is_fail verdicts))
     (member (codes "unresolved") (whole (count_by is_unresolved verdicts)) no_members))))
 
--- a plan's number, verdict, code and scenario
+-- A plan's number, verdict, code and scenario.
 abbrev pub plan_value : (ℕ → List ℕ) → ℕ → Verdict → Entries → Json
 plan_value code_name n v plan =
     object (member (codes "number") (whole n)
@@ -49,13 +49,13 @@ plan_value code_name n v plan =
     (member (codes "code") (code_of code_name v)
     (member (codes "scenario") (scenario_value plan) no_members))))
 
--- nothing of a plan that passes
+-- A plan that passes has no value.
 abbrev pub reported_value : (ℕ → List ℕ) → ℕ → Verdict → Entries → List Json
 reported_value code_name n verdict.Pass plan = []
 reported_value code_name n (verdict.Fail code) plan = plan_value code_name n (verdict.Fail code) plan ∷ []
 reported_value code_name n verdict.Unresolved plan = plan_value code_name n verdict.Unresolved plan ∷ []
 
--- of plans numbered from n on, with their verdicts
+-- The values of plans with these verdicts, which are numbered from n on.
 abbrev pub reported_values : (ℕ → List ℕ) → ℕ → List Verdict → List Entries → List Json
 reported_values code_name n [] plans = []
 reported_values code_name n (v ∷ vs) [] = []
@@ -63,11 +63,11 @@ reported_values code_name n (v ∷ vs) (plan ∷ plans) = reported_value code_na
 
 -- ---- points
 
--- a point's name, and so many hits of it
+-- A point's name, and how many hits of it there are.
 abbrev pub point_value : List ℕ → ℕ → Json
 point_value point hits = object (member (codes "point") (string point) (member (codes "hits") (whole hits) no_members))
 
--- each point with its hits, in the order of the catalogue
+-- Each point with its hits, in the order of the catalogue.
 abbrev pub point_values : List (List ℕ) → List ℕ → List Json
 point_values [] counts = []
 point_values (point ∷ points) [] = []
@@ -75,7 +75,7 @@ point_values (point ∷ points) (hits ∷ counts) = point_value point hits ∷ p
 
 -- ---- findings and growth
 
--- the first failure of a code: its number, the name of its code, its scenario, what that was reduced to, and the tests that this took
+-- The first failure of a code: its number, the name of its code, its scenario, the reduced scenario, and how many tests the reduction took.
 abbrev pub finding_value : (ℕ → List ℕ) → FindingFacts → Json
 finding_value code_name finding =
     object (member (codes "number") (whole finding.number)
@@ -90,7 +90,7 @@ cause_value code_name cause =
     (member (codes "code") (string (code_name cause.code))
     (member (codes "scenario") (scenario_value cause.scenario) no_members)))
 
--- how a campaign with a depth grew: what its report tells beside the rest
+-- How a campaign with a depth grew; null without a depth.
 abbrev pub growth_value : List (List ℕ) → (ℕ → List ℕ) → Option GrowthFacts → Json
 growth_value names code_name None = null
 growth_value names code_name (Some growth) =
@@ -104,7 +104,7 @@ growth_value names code_name (Some growth) =
 
 -- ---- the document
 
--- all of it, by the names of the points and codes, of a report, with what is told beside it. The seed is a text, since many readers round large numbers
+-- The whole document, by the names of the points and codes. The seed is a text, since many readers round large numbers.
 abbrev pub document_of : List (List ℕ) → (ℕ → List ℕ) → ReportFacts → NotesFacts → ShownFacts → RunsFacts → Json
 document_of names code_name report notes shown runs =
     object (member (codes "version") (whole form)
@@ -119,10 +119,10 @@ document_of names code_name report notes shown runs =
     (member (codes "growth") (growth_value names code_name report.growth)
     (member (codes "about") (about_value notes shown runs) no_members)))))))))))
 
--- a line for each item and member, and a line feed at the end
+-- Each item and each member has a line, and the text ends with a line feed.
 abbrev pub text_of : Json → List ℕ
 text_of value = pretty (json_tokens value) ++ 10 ∷ []
 
--- a reader of JSON finds the value in its text, which nothing follows but the line feed
+-- A reader of JSON finds the value in its text. Only a line feed follows the value.
 abbrev pub IsReadAs : Json → Type 0
 IsReadAs value = document (pretty (json_tokens value)) ≡ Some value

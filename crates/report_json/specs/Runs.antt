@@ -1,24 +1,24 @@
--- Runs that a document tells, hit by hit.
+-- The runs that a document shows hit by hit.
 use Rattle.std.specs.Prelude.{List, codes, Option, None, Some}
 use Rattle.json.specs.Json.{Json, Members, null, string, object, no_members, member}
 use Rattle.run_explained.specs.Told.{RunFacts}
 use Rattle.report_json.specs.declared.runs.ShownRun.{ShownRun}
 use Rattle.report_json.specs.Values.{nonzero}
 
--- the run without faults, those of the findings, and those of the causes, each where it is told
+-- The run without faults, those of the findings, and those of the causes, each if it is known.
 pub record RunsFacts : Type 0 where
   pub clean : Option RunFacts
   pub findings : List (Option ShownRun)
   pub causes : List (Option ShownRun)
 
--- the lines of `explain`, how many hits have no line among them, and what stands behind these
+-- The lines of `explain`, how many hits have no line among them, and then further members.
 abbrev pub run_with : RunFacts → Members → Json
 run_with run others = object (member (codes "explained") (string run.text) (nonzero (codes "left_out") run.left_out others))
 
 abbrev pub run_value : RunFacts → Json
 run_value run = run_with run no_members
 
--- a run, and behind it that of the plan which its plan grew from, where it is told
+-- A run, and then the run of the plan that its plan grew from, if that is known.
 abbrev pub parent_member : Option RunFacts → Members
 parent_member None = no_members
 parent_member (Some parent) = member (codes "parent") (run_value parent) no_members

@@ -6,19 +6,19 @@ use Rattle.json.specs.Value.{items_of}
 use Rattle.scenario_values.specs.Scenario.{Entries}
 use Rattle.scenario_values.specs.Printed.{printed}
 
--- a whole number
+-- A whole number.
 abbrev pub whole : ℕ → Json
 whole n = number (decimal n)
 
--- a member that is a count, where it isn't 0, before others
+-- A member for a count, if the count isn't 0, before other members.
 abbrev pub nonzero : List ℕ → ℕ → Members → Members
 nonzero name zero others = others
 nonzero name (suc n) others = member name (whole (suc n)) others
 
--- a list of values
+-- A list of values.
 abbrev pub list_of : List Json → Json
 list_of values = array (items_of values)
 
--- the printed form of a scenario, which is empty for one without entries
+-- The printed form of a scenario. It is empty for a scenario without entries.
 abbrev pub scenario_value : Entries → Json
 scenario_value entries = string (printed entries)

@@ -1,4 +1,4 @@
-//! What a document tells beside its report.
+//! What a document has beside its report.
 ghost use Rattle.std.specs.Prelude.{◌≡◌, ◌++◌, ◌≤◌, length, map, codes, option_copied, OnOk};
 ghost use Rattle.json.specs.Json.{string};
 ghost use Rattle.campaign_plans.specs.GrownScenarios.{grown_among};
@@ -14,13 +14,14 @@ use grown_plans::GrownPlans;
 use json::{Pretty, Token};
 use std::alloc::{AllocError, Global};
 use std::marker::Model;
+use std::ops::Range;
 
 /// Who made a document.
 #[derive(Drop)]
 pub struct Notes<'a> {
     /// The version of the program.
     pub version: &'a str,
-    /// Who told the runs: `target` or `answers`.
+    /// The source of the runs: `target` or `answers`.
     pub told_by: &'a str,
     /// The command that makes the document.
     pub command: &'a str,
@@ -34,16 +35,16 @@ impl<'a> Model for Notes<'a> {
     ghost view = { λ n. record { version = n.version.now; told_by = n.told_by.now; command = n.command.now } };
 }
 
-/// What is shown of a campaign beside what its report tells.
+/// What is shown of a campaign beside the facts of its report.
 #[derive(Drop)]
 pub struct Shown<'a> {
     /// The plans, in the order of their numbers, from 0.
     pub plans: &'a CampaignPlans<'a>,
-    /// Those plans that grew, of a campaign with a depth. They come first among the plans.
+    /// The plans that grew, if the campaign has a depth. They come first among the plans.
     pub grown: Option<&'a GrownPlans>,
-    /// How many storms stand behind them.
+    /// How many storms stand behind these.
     pub storms: usize,
-    /// How many scenarios that the settings list stand at the end.
+    /// How many listed scenarios of the settings stand at the end.
     pub listed: usize,
     /// The text of the settings.
     pub settings: &'a str,
@@ -60,6 +61,7 @@ impl<'a> Model for Shown<'a> {
 }
 
 impl<'a> Shown<'a> {
+    /// What is shown of these plans: those that grew come first, then `storms` storms and `listed` listed scenarios.
     pub fn new(
         plans: &'a CampaignPlans<'a>,
         grown: Option<&'a GrownPlans>,
@@ -79,6 +81,7 @@ impl<'a> Shown<'a> {
     }
 }
 
+/// An item for the scenario of each plan from one number up to another.
 fn write_each_scenario(
     alloc: Global,
     out: &mut Pretty,
@@ -96,24 +99,25 @@ fn write_each_scenario(
     Ok(())
 }
 
-/// A member that tells the scenarios of the plans from one number up to another.
+/// A member with the scenarios of the plans from one number up to another.
 fn write_scenarios(
     alloc: Global,
     out: &mut Pretty,
     name: &str,
     plans: &CampaignPlans<'_>,
-    first: usize,
-    end: usize,
+    numbers: Range<usize>,
 ) -> Result<(), AllocError>
-    requires ordered { first ≤ end }
-    requires within { end ≤ length plans.now }
-    ensures { OnOk result (out.new ≡ out.old ++ member_tokens name.now (list_of (map scenario_value (plans_between first end plans.now)))) }
+    requires ordered { numbers.start ≤ numbers.end }
+    requires within { numbers.end ≤ length plans.now }
+    ensures { OnOk result (out.new ≡ out.old
+        ++ member_tokens name.now (list_of (map scenario_value (plans_between numbers.start numbers.end plans.now)))) }
 {
     begin_list(out, name)?;
-    write_each_scenario(alloc, out, plans, first, end)?;
+    write_each_scenario(alloc, out, plans, numbers.start, numbers.end)?;
     out.token(Token::EndArray)
 }
 
+/// An item for each plan that grew: its faults, as `2 1 1*return; 4 1 1*panic`.
 fn write_each_grown(alloc: Global, out: &mut Pretty, grown: &GrownPlans) -> Result<(), AllocError>
     ensures { OnOk result (out.new ≡ out.old ++ all_tokens (map grown_value grown.now)) }
 {
@@ -140,7 +144,7 @@ fn write_each_grown_among(
     }
 }
 
-/// A member that tells each plan that grew.
+/// A member with each plan that grew.
 fn write_grown(
     alloc: Global,
     out: &mut Pretty,
@@ -153,7 +157,7 @@ fn write_grown(
     out.token(Token::EndArray)
 }
 
-/// Who made the document, and by which settings.
+/// Who made the document, and from which settings.
 fn write_made(out: &mut Pretty, notes: &Notes<'_>, settings: &str) -> Result<(), AllocError>
     ensures { OnOk result (out.new ≡ out.old
         ++ member_tokens (codes "program_version") (string notes.now.version)
@@ -178,12 +182,12 @@ fn write_plans(alloc: Global, out: &mut Pretty, shown: &Shown<'_>) -> Result<(),
     let count = plans.len();
     let listed_from = count.saturating_sub(shown.listed);
     let storms_from = listed_from.saturating_sub(shown.storms);
-    write_scenarios(alloc, out, "storms", plans, storms_from, listed_from)?;
-    write_scenarios(alloc, out, "listed", plans, listed_from, count)?;
+    write_scenarios(alloc, out, "storms", plans, storms_from..listed_from)?;
+    write_scenarios(alloc, out, "listed", plans, listed_from..count)?;
     write_grown(alloc, out, shown.grown)
 }
 
-/// What a document tells beside its report.
+/// What a document has beside its report.
 pub fn write_about(
     alloc: Global,
     out: &mut Pretty,

@@ -87,12 +87,12 @@ fn written<N: Names>(
     Ok(out)
 }
 
-/// The report as a JSON document, by these names of points and codes, with what is shown beside it and the runs that are told: a line for each item
-/// and member, and a line feed at the end. docs/MACHINES.md tells its members. It is UTF-8, the same for the same report, and a reader of JSON
-/// finds that document in it, whatever characters the names have.
+/// The report as a JSON document, with these names of points and codes, what is shown beside it, and the runs. It has a line for each item and
+/// member, and a line feed at the end. docs/MACHINES.md describes the members. It is UTF-8, and the same for the same report; a reader of JSON finds
+/// that document in it, whatever characters the names have.
 ///
-/// The census has to have a count for each of the points, and so has what is reached, of a campaign that has a depth; and there has to be a
-/// verdict for each plan that is shown. An error means that memory was refused.
+/// The census needs a count for each point; so does `reached`, if the campaign has a depth; and each plan that is shown needs a verdict. An error
+/// means that memory was refused.
 pub fn json_text<N: Names>(
     alloc: Global,
     names: &N,

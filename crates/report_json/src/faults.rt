@@ -6,6 +6,7 @@ use action_eval::{Argument, Kind, Rig};
 use std::alloc::AllocError;
 use std::fmt::Write;
 
+/// Appends the text of a return in parentheses, if it has one.
 fn write_argument(out: &mut String, argument: &Argument) -> Result<(), AllocError>
     ensures { OnOk result (string_bytes out.new ≡ string_bytes out.old ++ argument_text argument.now) }
 {
@@ -17,6 +18,7 @@ fn write_argument(out: &mut String, argument: &Argument) -> Result<(), AllocErro
     out.push_str(")")
 }
 
+/// Appends what is done at a hit, as a scenario spells it: `1*return`, `return` (from then on) or `1*panic`.
 fn write_kind(out: &mut String, kind: &Kind) -> Result<(), AllocError>
     ensures { OnOk result (string_bytes out.new ≡ string_bytes out.old ++ kind_text kind.now) }
 {
@@ -33,6 +35,7 @@ fn write_kind(out: &mut String, kind: &Kind) -> Result<(), AllocError>
     }
 }
 
+/// Appends a fault: the number of its point, the number of the hit, and what is done there.
 fn write_fault(out: &mut String, fault: &Rig) -> Result<(), AllocError>
     ensures { OnOk result (string_bytes out.new ≡ string_bytes out.old ++ fault_text fault.now) }
 {
@@ -42,6 +45,7 @@ fn write_fault(out: &mut String, fault: &Rig) -> Result<(), AllocError>
     write_kind(out, &fault.kind)
 }
 
+/// Appends what stands between two faults, if there are earlier ones.
 fn write_separator(out: &mut String, earlier: &[Rig]) -> Result<(), AllocError>
     ensures { OnOk result (string_bytes out.new ≡ string_bytes out.old ++ separator earlier.now) }
 {
@@ -51,7 +55,7 @@ fn write_separator(out: &mut String, earlier: &[Rig]) -> Result<(), AllocError>
     out.push_str("; ")
 }
 
-/// Appends the faults of a plan, of which the last one to act stands first, in the order in which they act.
+/// Appends a plan's faults in the order in which they act. In the plan the last one to act stands first.
 pub fn write_faults(out: &mut String, faults: &[Rig]) -> Result<(), AllocError>
     ensures { OnOk result (string_bytes out.new ≡ string_bytes out.old ++ faults_text faults.now) }
 {

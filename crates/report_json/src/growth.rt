@@ -1,4 +1,4 @@
-//! Points and their hits, and how a campaign grew.
+//! The members with points and their hits, and with how a campaign grew.
 ghost use Rattle.std.specs.Prelude.{◌≡◌, ◌++◌, length, map, codes, Some, IfSome, OnOk};
 ghost use Rattle.json.specs.Tree.{json_tokens};
 ghost use Rattle.report_json.specs.Document.{point_value, point_values, cause_value, growth_value};
@@ -31,7 +31,7 @@ fn write_each_point<N: Names>(out: &mut Pretty, names: &N, counts: &[u32]) -> Re
     Ok(())
 }
 
-/// A member that tells each point with its hits.
+/// A member with each point and its hits.
 pub fn write_points<N: Names>(
     out: &mut Pretty,
     name: &str,
@@ -138,7 +138,7 @@ fn write_grown<N: Names>(
     out.token(Token::EndObject)
 }
 
-/// How the campaign grew, of one with a depth.
+/// How the campaign grew, if it has a depth.
 pub fn write_growth<N: Names>(
     alloc: Global,
     out: &mut Pretty,

@@ -1,7 +1,7 @@
-//! A report as one JSON document, for programs that read it. docs/MACHINES.md tells its members.
+//! A report as one JSON document, for programs that read it. docs/MACHINES.md describes its members.
 //!
-//! The tokens are written by the kit's `json`, whose contracts give the text token by token. `serde_json` says the text of a value too, but
-//! has an object's members in the order of their keys, and takes a tree of all plans that fail in memory before it writes the first.
+//! The tokens are written by the kit's `json`, whose contracts give the text token by token. The contracts of `serde_json` give a value's text too.
+//! But it puts an object's members in the order of their keys, and it would keep a tree of all failing plans in memory before it writes the first.
 #![tactic(auto)]
 
 mod about;

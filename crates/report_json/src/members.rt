@@ -28,7 +28,7 @@ pub fn write_number(out: &mut Pretty, name: &str, number: u64) -> Result<(), All
     write_whole(out, number)
 }
 
-/// A member that is a count, where it isn't 0.
+/// A member that is a count, unless it is 0.
 pub fn write_nonzero(out: &mut Pretty, name: &str, number: u64) -> Result<(), AllocError>
     ensures { OnOk result (out.new ≡ out.old ++ nonzero_tokens name.now number) }
 {

@@ -1,4 +1,4 @@
-//! Verdicts, plans and what was found.
+//! The members with verdicts, plans and findings.
 ghost use Rattle.std.specs.Prelude.{◌≡◌, ◌++◌, length, map, codes, OnOk};
 ghost use Rattle.json.specs.Tree.{json_tokens};
 ghost use Rattle.report_json.specs.Document.{code_of, clean_value, counts_value, plan_value, reported_value, reported_values, finding_value, verdict_word};
@@ -6,12 +6,13 @@ ghost use Rattle.report_json.specs.Values.{list_of};
 ghost use Rattle.report_json.specs.inside.Tokens.{member_tokens, all_tokens};
 
 use crate::members::{begin_list, write_number, write_scenario, write_text};
-use campaign_plans::{CampaignPlan, CampaignPlans};
+use campaign_plans::CampaignPlans;
 use json::{Pretty, Token};
-use report::{Finding, Names, failures, passing, unresolved};
+use report::{Finding, JudgedPlan, Names, failures, passing, unresolved};
 use std::alloc::{AllocError, Global};
 use target_trait::Verdict;
 
+/// The member `code`: the name of a failure's code, or `null`.
 fn write_code<N: Names>(out: &mut Pretty, names: &N, verdict: Verdict) -> Result<(), AllocError>
     ensures { OnOk result (out.new ≡ out.old ++ member_tokens (codes "code") (code_of (N.code_text names.now) verdict)) }
 {
@@ -47,7 +48,7 @@ pub fn write_clean<N: Names>(
     out.token(Token::EndObject)
 }
 
-/// How many plans there are, and how many of them have which verdict.
+/// How many plans there are, and how many of them have each verdict.
 pub fn write_counts(out: &mut Pretty, verdicts: &[Verdict]) -> Result<(), AllocError>
     ensures { OnOk result (out.new ≡ out.old ++ member_tokens (codes "counts") (counts_value verdicts.now)) }
 {
@@ -64,35 +65,30 @@ fn write_plan<N: Names>(
     alloc: Global,
     out: &mut Pretty,
     names: &N,
-    number: usize,
-    verdict: Verdict,
-    plan: &CampaignPlan<'_>,
+    judged: &JudgedPlan<'_>,
 ) -> Result<(), AllocError>
-    ensures { OnOk result (out.new ≡ out.old ++ json_tokens (plan_value (N.code_text names.now) number verdict plan.now)) }
+    ensures { OnOk result (out.new ≡ out.old ++ json_tokens (plan_value (N.code_text names.now) judged.now.number judged.now.verdict judged.now.plan)) }
 {
     out.token(Token::BeginObject)?;
-    write_number(out, "number", number as u64)?;
-    write_text(out, "verdict", verdict_word(verdict))?;
-    write_code(out, names, verdict)?;
-    write_scenario(alloc, out, "scenario", &plan.scenario(alloc)?)?;
+    write_number(out, "number", judged.number as u64)?;
+    write_text(out, "verdict", verdict_word(judged.verdict))?;
+    write_code(out, names, judged.verdict)?;
+    write_scenario(alloc, out, "scenario", &judged.plan.scenario(alloc)?)?;
     out.token(Token::EndObject)
 }
 
+/// An item for a plan that doesn't pass; nothing for one that does.
 fn write_reported<N: Names>(
     alloc: Global,
     out: &mut Pretty,
     names: &N,
-    number: usize,
-    verdict: Verdict,
-    plan: &CampaignPlan<'_>,
+    judged: &JudgedPlan<'_>,
 ) -> Result<(), AllocError>
-    ensures { OnOk result (out.new ≡ out.old ++ all_tokens (reported_value (N.code_text names.now) number verdict plan.now)) }
+    ensures { OnOk result (out.new ≡ out.old ++ all_tokens (reported_value (N.code_text names.now) judged.now.number judged.now.verdict judged.now.plan)) }
 {
-    match verdict {
+    match judged.verdict {
         Verdict::Pass => Ok(()),
-        Verdict::Fail(_) | Verdict::Unresolved => {
-            write_plan(alloc, out, names, number, verdict, plan)
-        }
+        Verdict::Fail(_) | Verdict::Unresolved => write_plan(alloc, out, names, judged),
     }
 }
 
@@ -107,7 +103,12 @@ fn write_each_reported<N: Names>(
     ensures { OnOk result (out.new ≡ out.old ++ all_tokens (reported_values (N.code_text names.now) 0 verdicts.now plans.now)) }
 {
     for (number, verdict) in verdicts.iter().enumerate() {
-        write_reported(alloc, out, names, number, *verdict, &plans.plan(number))?;
+        let judged = JudgedPlan {
+            number,
+            verdict: *verdict,
+            plan: plans.plan(number),
+        };
+        write_reported(alloc, out, names, &judged)?;
     }
     Ok(())
 }

@@ -1,4 +1,4 @@
-//! Runs that a document tells, hit by hit.
+//! The runs in a document, hit by hit.
 ghost use Rattle.std.specs.Prelude.{◌≡◌, ◌++◌, [], None, codes, map, OnOk};
 ghost use Rattle.json.specs.Json.{string};
 ghost use Rattle.json.specs.Tree.{json_tokens};
@@ -12,14 +12,14 @@ use run_explained::ToldRun;
 use std::alloc::{AllocError, Global};
 use std::marker::Model;
 
-/// A run that is shown, and beside it that of the plan which its plan grew from, where it is told.
+/// A run that is shown, if it is known; and beside it the run of the plan from which its plan grew.
 #[derive(Drop)]
 pub struct ShownRun {
     pub run: ToldRun,
     pub parent: Option<ToldRun>,
 }
 
-/// The runs that are shown, each where it is told.
+/// The runs that are shown, each if it is known.
 #[derive(Drop)]
 pub struct Runs {
     /// The run without faults.
@@ -54,7 +54,7 @@ fn write_run(out: &mut Pretty, run: &ToldRun) -> Result<(), AllocError>
     out.token(Token::EndObject)
 }
 
-/// A member that tells the run of the plan that a plan grew from, where it is told.
+/// A member with the run of the plan from which a plan grew, if it is known.
 fn write_parent(out: &mut Pretty, parent: &Option<ToldRun>) -> Result<(), AllocError>
     ensures { OnOk result (out.new ≡ out.old ++ parent_tokens parent.now) }
 {
@@ -76,6 +76,7 @@ fn write_shown_run(out: &mut Pretty, shown: &ShownRun) -> Result<(), AllocError>
     out.token(Token::EndObject)
 }
 
+/// A run that is shown, or `null` if it isn't known.
 fn write_shown_or_null(out: &mut Pretty, shown: &Option<ShownRun>) -> Result<(), AllocError>
     ensures { OnOk result (out.new ≡ out.old ++ json_tokens (or_null shown_value shown.now)) }
 {
@@ -94,7 +95,7 @@ fn write_each_run(out: &mut Pretty, runs: &[Option<ShownRun>]) -> Result<(), All
     Ok(())
 }
 
-/// A member that tells runs.
+/// A member with runs.
 fn write_list(out: &mut Pretty, name: &str, runs: &[Option<ShownRun>]) -> Result<(), AllocError>
     ensures { OnOk result (out.new ≡ out.old ++ member_tokens name.now (list_of (map (or_null shown_value) runs.now))) }
 {
@@ -103,7 +104,7 @@ fn write_list(out: &mut Pretty, name: &str, runs: &[Option<ShownRun>]) -> Result
     out.token(Token::EndArray)
 }
 
-/// A member that tells a run, or that none is told.
+/// A member with a run, or with `null` if it isn't known.
 fn write_run_or_null(out: &mut Pretty, name: &str, run: &Option<ToldRun>) -> Result<(), AllocError>
     ensures { OnOk result (out.new ≡ out.old ++ member_tokens name.now (or_null run_value run.now)) }
 {
@@ -114,7 +115,7 @@ fn write_run_or_null(out: &mut Pretty, name: &str, run: &Option<ToldRun>) -> Res
     }
 }
 
-/// The members that tell runs.
+/// The members with runs.
 pub fn write_runs(out: &mut Pretty, runs: &Runs) -> Result<(), AllocError>
     ensures { OnOk result (out.new ≡ out.old
         ++ member_tokens (codes "clean_run") (or_null run_value runs.now.clean)

@@ -1,4 +1,4 @@
--- A report as JUnit's XML, as programs read it that show tests: a suite, with a case for each plan. A target gives the names of its codes.
+-- A report as JUnit's XML, for programs that show tests: a suite with a case for each plan. A target gives the names of its codes.
 use Rattle.std.specs.Prelude.{ℕ, ◌+◌, ◌==◌, List, [], ◌∷◌, ◌++◌, length, codes, count_by, Option, None, Some}
 use Rattle.std.specs.Fmt.{decimal}
 use Rattle.std.specs.List.{find}
@@ -12,41 +12,41 @@ use Rattle.target_trait.specs.Verdicts.{is_fail, is_unresolved}
 
 -- ---- a case
 
--- the head of a plan's case, named by its number and its scenario as XML says it, up to the end of its attributes
+-- The head of a plan's case, up to the end of its attributes. Its name is the plan's number and its scenario, escaped for XML.
 unfoldable pub case_head : List ℕ → ℕ → List ℕ → List ℕ
 case_head label n scenario =
     codes "<testcase classname=\"" ++ escaped label ++ codes "\" name=\"plan " ++ decimal n ++ codes " " ++ scenario ++ codes "\""
 
--- what a first failure was reduced to, and how many tests that took
+-- The reduced scenario of a first failure, and how many tests the reduction took.
 unfoldable pub reduced_text : Option FindingFacts → List ℕ
 reduced_text None = []
 reduced_text (Some finding) = codes "reduced " ++ escaped (scenario_text finding.reduced) ++ codes "\ntests " ++ decimal finding.tests ++ codes "\n"
 
--- the head of a failure, with the name of its code
+-- The head of a failure, with the name of its code.
 unfoldable pub failure_head : List ℕ → List ℕ
 failure_head code = codes "<failure type=\"" ++ escaped code ++ codes "\" message=\"fail " ++ escaped code ++ codes "\">"
 
--- a failure: its scenario, and what the first one of a code was reduced to
+-- A failure: its scenario and, if it is the first one of a code, its reduced scenario.
 unfoldable pub failure_text : List ℕ → List ℕ → Option FindingFacts → List ℕ
 failure_text code scenario found = failure_head code ++ codes "scenario " ++ scenario ++ codes "\n" ++ reduced_text found ++ codes "</failure>"
 
--- what comes of a case, up to the end of its element: an unresolved plan was skipped
+-- What a case comes to, up to the end of its element. An unresolved plan counts as skipped.
 abbrev pub result_text : (ℕ → List ℕ) → Verdict → List ℕ → Option FindingFacts → List ℕ
 result_text code_name verdict.Pass scenario found = codes "/>\n"
 result_text code_name (verdict.Fail code) scenario found = codes ">" ++ failure_text (code_name code) scenario found ++ codes "</testcase>\n"
 result_text code_name verdict.Unresolved scenario found = codes "><skipped message=\"unresolved\"/></testcase>\n"
 
--- the finding that is the plan of this number
+-- The finding with this plan's number.
 abbrev pub found_at : List FindingFacts → ℕ → Option FindingFacts
 found_at findings n = find (λ finding. finding.number == n) findings
 
--- a plan's case
+-- A plan's case.
 abbrev pub case_text : (ℕ → List ℕ) → ReportFacts → ℕ → Verdict → Entries → List ℕ
 case_text code_name report n v plan =
     let scenario = escaped (scenario_text plan) in
     case_head report.label n scenario ++ result_text code_name v scenario (found_at report.findings n)
 
--- the cases of plans numbered from n on, with their verdicts
+-- The cases of plans with these verdicts, which are numbered from n on.
 abbrev pub cases_text : (ℕ → List ℕ) → ReportFacts → ℕ → List Verdict → List Entries → List ℕ
 cases_text code_name report n [] plans = []
 cases_text code_name report n (v ∷ vs) [] = []
@@ -54,11 +54,11 @@ cases_text code_name report n (v ∷ vs) (plan ∷ plans) = case_text code_name 
 
 -- ---- the document
 
--- the head of the suite, up to its name
+-- The head of the suite, up to its name.
 unfoldable pub suite_head : List ℕ → List ℕ
 suite_head label = codes "<?xml version=\"1.0\" encoding=\"UTF-8\"?>\n<testsuites>\n<testsuite name=\"" ++ escaped label ++ codes "\""
 
--- how many plans there are, how many fail, and how many are unresolved
+-- How many plans there are, how many fail, and how many are unresolved.
 unfoldable pub suite_counts : ℕ → ℕ → ℕ → List ℕ
 suite_counts tests failures skipped =
     codes " tests=\"" ++ decimal tests ++ codes "\" failures=\"" ++ decimal failures
@@ -67,7 +67,7 @@ suite_counts tests failures skipped =
 abbrev pub suite_end : List ℕ
 suite_end = codes "</testsuite>\n</testsuites>\n"
 
--- all of it, by the names of the codes, of a report over these plans
+-- The whole document of a report over these plans, by the names of the codes.
 abbrev pub document_text : (ℕ → List ℕ) → ReportFacts → List Entries → List ℕ
 document_text code_name report plans =
     suite_head report.label

@@ -13,7 +13,7 @@ use std::fmt::Write;
 use target_trait::Verdict;
 use xml_text::write_escaped;
 
-/// A scenario as reports say it and XML writes it.
+/// A scenario as it stands in reports, escaped for XML.
 fn escaped_scenario(alloc: Global, scenario: &Scenario) -> Result<String, AllocError>
     ensures { IfOk result (λ text. string_bytes text ≡ escaped (scenario_text scenario.now)) }
 {
@@ -38,6 +38,7 @@ fn write_head(
     write!(out, "\" name=\"plan {number} {scenario}\"")
 }
 
+/// Appends what a finding was reduced to and its count of tests, if there is a finding.
 #[tactic(auto, unfolding(crate::specs::Junit::reduced_text))]
 fn write_reduced(alloc: Global, out: &mut String, found: Option<&Finding>) -> Result<(), AllocError>
     ensures { OnOk result (string_bytes out.new ≡ string_bytes out.old ++ reduced_text (option_map (λ f. f.now) found.entry)) }
@@ -61,6 +62,7 @@ fn write_failure_head(out: &mut String, code: &str) -> Result<(), AllocError>
     out.push_str("\">")
 }
 
+/// Appends the element of a failing case.
 #[tactic(auto, unfolding(crate::specs::Junit::failure_text))]
 fn write_failure(
     alloc: Global,
@@ -77,7 +79,7 @@ fn write_failure(
     out.push_str("</failure>")
 }
 
-/// The finding that is the plan of this number.
+/// The finding that has the plan with this number.
 fn found_at(findings: &[Finding], number: usize) -> Option<&Finding>
     ensures { option_map (λ f. f.now) result ≡ found_at findings.now number }
 {
@@ -86,6 +88,7 @@ fn found_at(findings: &[Finding], number: usize) -> Option<&Finding>
         .find(|finding| finding.number as usize == number)
 }
 
+/// Appends the end of a case, by its verdict.
 fn write_result<N: Names>(
     alloc: Global,
     out: &mut String,
@@ -108,7 +111,7 @@ fn write_result<N: Names>(
     }
 }
 
-/// The case of the plan of this number.
+/// The case of the plan with this number.
 pub fn write_case<N: Names>(
     alloc: Global,
     out: &mut String,

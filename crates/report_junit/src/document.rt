@@ -35,6 +35,7 @@ fn write_counts(
     )
 }
 
+/// Appends what stands before the cases: the head, and the counts of verdicts.
 fn write_suite(out: &mut String, label: &str, verdicts: &[Verdict]) -> Result<(), AllocError>
     ensures { OnOk result (string_bytes out.new ≡ string_bytes out.old ++ suite_head label.now
         ++ suite_counts (length verdicts.now) (count_by is_fail verdicts.now) (count_by is_unresolved verdicts.now)) }
@@ -63,9 +64,9 @@ fn write_cases<N: Names>(
     Ok(())
 }
 
-/// The report over these plans as JUnit's XML, by these names of codes: one suite by the label, with a case for each plan by its number and
-/// scenario. A case that fails tells the name of its code and the scenario, and where it is the first of its code, what that was reduced to;
-/// one that is unresolved is skipped.
+/// The report over these plans as JUnit's XML, with these names of codes: one suite, named by the label, with a case for each plan, named by its
+/// number and scenario. A failing case has the name of its code and the scenario, and, if it is the first with its code, what that was reduced to. An
+/// unresolved case is skipped.
 ///
 /// The text is UTF-8, and XML 1.0 whatever the names are: a character that XML can't have stands as U+FFFD (`write_escaped`).
 ///

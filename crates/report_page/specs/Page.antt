@@ -1,8 +1,8 @@
--- A page: a fixed frame, and in it a text and a JSON document.
+-- A page: a fixed frame, with a text and a JSON document in it.
 use Rattle.std.specs.Prelude.{ℕ, ◌==◌, if◌then◌else◌, List, [], ◌∷◌, ◌++◌, codes, flat_map}
 use Rattle.report_page.specs.declared.frame.TheConstants.{BEFORE, BETWEEN, BEHIND}
 
--- a byte of a text in HTML: `&`, `<` and `>` by their names; HTML has no character 0, and U+FFFD stands in its place
+-- A byte of a text in HTML: `&`, `<` and `>` by their names. HTML has no character 0, so U+FFFD takes its place.
 abbrev pub in_html : ℕ → List ℕ
 in_html byte =
     if byte == 38 then codes "&amp;"
@@ -11,7 +11,7 @@ in_html byte =
     else if byte == 0 then 239 ∷ 191 ∷ 189 ∷ []
     else byte ∷ []
 
--- a byte of a JSON document in a script element: outside of strings JSON has none of `&`, `<` and `>`, and in a string it says them by their numbers
+-- A byte of a JSON document in a script element. JSON has `&`, `<` and `>` only in strings, where they can be written by their numbers.
 abbrev pub in_script : ℕ → List ℕ
 in_script byte =
     if byte == 38 then codes "\\u0026"
@@ -19,6 +19,6 @@ in_script byte =
     else if byte == 62 then codes "\\u003e"
     else byte ∷ []
 
--- the page of a brief report's text and a report's document
+-- The page with a brief report's text and a report's document.
 unfoldable pub page_text : List ℕ → List ℕ → List ℕ
 page_text brief document = BEFORE.now ++ flat_map in_html brief ++ BETWEEN.now ++ flat_map in_script document ++ BEHIND.now

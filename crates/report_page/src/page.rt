@@ -46,8 +46,9 @@ fn write_document(out: &mut Vec<u8>, document: &[u8]) -> Result<(), AllocError>
     Ok(())
 }
 
-/// One HTML document, whole in itself: the frame, in it the document of a report, which its script shows, and the brief report's text, for readers
-/// without a script. No name ends the element that it stands in ([`crate::nothing_ends_what_it_stands_in`]). An error means that memory was refused.
+/// One HTML document that needs nothing else: the frame, and in it the document of a report, which its script shows, and the brief report's text, for
+/// readers without a script. No name ends the element in which it stands ([`crate::nothing_ends_what_it_stands_in`]). An error means that memory was
+/// refused.
 pub fn page_text(alloc: Global, brief: &[u8], document: &[u8]) -> Result<Vec<u8>, AllocError>
     ensures { IfOk result (λ text. text.items ≡ page_text brief.now document.now) }
 {

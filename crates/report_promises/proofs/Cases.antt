@@ -1,4 +1,4 @@
--- Each behaviour of a component is the run of a case, and the plans of cases tell it.
+-- Each behaviour of a component is the run of a case, whose scenario is made of the plan that has the behaviour's faults.
 use Rattle.std.proofs.Common.{◌≡◌, List, [], ap, sym, ◌∙◌, subst}
 use Rattle.action_eval.specs.declared.rig.Rig.{Rig}
 use Rattle.grown_plans.specs.Runs.{Met}

@@ -1,4 +1,4 @@
--- What is told of failures: each has a cause that is listed, and what fails first has fewest faults.
+-- What a report says of failures: each has a cause that is listed, and what fails first has fewest faults.
 use Rattle.std.proofs.Common.{◌≡◌, ◌≢◌, ℕ, zero, suc, ◌<◌, ◌≤◌, inl, inr, Some, List, [], ◌∷◌, ◌++◌, length, ap, sym, ◌∙◌, subst, arith, length-append, append_assoc}
 use Rattle.std.specs.Prelude.{Contains, slice_get}
 use Rattle.std.specs.List.{AllByRecursion}

@@ -1,4 +1,4 @@
--- What is told of plans that grew to a depth: nothing is skipped, nothing is told twice, and what is reached is the most.
+-- What a report says of plans that grew to a depth: nothing is skipped, nothing is reported twice, and what is reached is the most.
 use Rattle.std.proofs.Common.{◌≡◌, ◌≢◌, ℕ, zero, suc, ◌+◌, ◌<◌, ◌≤◌, Option, Some, List, [], ◌∷◌, ◌++◌, map, length, refl, ap, sym, ◌∙◌, subst, arith, length-append}
 use Rattle.std.specs.Prelude.{Contains, slice_get, sum}
 use Rattle.std.specs.List.{AllByRecursion, range_with_len}
@@ -19,7 +19,7 @@ use Rattle.report_promises.specs.Told.{Told, count_of_levels, count_of_all, IsTo
 use Rattle.report_promises.proofs.Numbers.{get_map, get_split, get_front, one_number, sizes_sum}
 use Rattle.report_promises.proofs.Cases.{case_for, case_runs, case_ends}
 
--- what is told of a cause is so of the plan of its number
+-- What is reported of a cause is true of the plan of its number.
 abbrev pub IsCauseOf : Subject → ℕ → Told → CauseFacts → Type 0
 IsCauseOf t d told c = (plan : List Rig) × (slice_get (grown t d) c.number ≡ Some plan) × IsCause t told.report.seed c.number c.code plan
 
@@ -73,7 +73,7 @@ module _ (t : Subject) (l : IsLawful t) (d : ℕ) (told : Told) (g : Grew t d to
         no_other = λ other low same. one_number told.behaviours other n (run_in t c) twice same told_so;
       }
 
-  -- of a behaviour, by its case
+  -- for a behaviour, by its case
   of_behaviour : (bound : ℕ) (hits : List Met) (b : IsBehaviourOfKinds t hits) → IsToldOnce told bound (run_in t (case_for t l hits b)) (verdict_in t (case_for t l hits b))
       → IsToldOnce told bound hits (verdict_at_end t hits)
   of_behaviour bound hits b o =

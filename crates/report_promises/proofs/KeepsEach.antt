@@ -1,4 +1,4 @@
--- What is told of a level is reduced to all of its faults: fewer don't fail with its code.
+-- A finding of the levels is reduced to all of its faults: fewer of them don't fail with its code.
 use Rattle.std.proofs.Common.{◌≡◌, ℕ, zero, suc, ◌<◌, ◌≤◌, ◌^◌, inl, inr, false, Some, List, [], ◌∷◌, length, refl, ap, sym, ◌∙◌, subst, arith}
 use Rattle.std.specs.Prelude.{Contains, slice_get}
 use Rattle.std.specs.List.{AllByRecursion}

@@ -17,7 +17,7 @@ use Rattle.action_eval.specs.RiggedScenario.{full, offs, term_of, rigged, chain_
 use Rattle.plan_gen.specs.RiggedAnswers.{IsBefore, AreInOrder, is_onward}
 use Rattle.grown_plans.proofs.Members.{all_weaker}
 
--- the rigged hits of a set of numbers, where the first one has number n
+-- The rigged hits of a set of numbers, if the first one has number n.
 abbrev pub chosen : List ℕ → ℕ → List Rig → List Rig
 chosen set n [] = []
 chosen set n (r ∷ rs) = cond (holds set n) (r ∷ chosen set (n + 1) rs) (chosen set (n + 1) rs)

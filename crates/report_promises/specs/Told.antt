@@ -1,5 +1,4 @@
--- What a report of a campaign with a depth tells: the facts that it prints, and beside them the behaviour of each plan that grew, as `explain`
--- shows it.
+-- What a report of a campaign with a depth says: the facts that it prints, and the behaviour of each plan that grew, as `explain` shows it.
 use Rattle.std.specs.Prelude.{◌≡◌, ℕ, ◌+◌, ◌<◌, List, Some, sum, slice_get}
 use Rattle.target_trait.specs.declared.judgement.Verdict.{Verdict}
 use Rattle.grown_plans.specs.Runs.{Met}
@@ -8,24 +7,24 @@ use Rattle.report.specs.Reports.{ReportFacts, GrowthFacts}
 pub record Told : Type 0 where
   pub report : ReportFacts
   pub growth : GrowthFacts
-  -- by their numbers, of the levels from 0 on, and then of faults from then on
+  -- The behaviours by their numbers: first those of the levels from 0 on, and then those with a sticky fault.
   pub behaviours : List (List Met)
 
--- how many plans the levels have, and the levels and those from then on: the numbers below are theirs
+-- How many plans the levels have, and how many there are with the sticky ones too. Plans have the numbers below these counts.
 abbrev pub count_of_levels : Told → ℕ
 count_of_levels told = sum told.growth.levels
 
 abbrev pub count_of_all : Told → ℕ
 count_of_all told = count_of_levels told + told.growth.onward
 
--- what a number has
+-- The number has this behaviour and, below, this verdict.
 abbrev pub HasBehaviour : Told → ℕ → List Met → Type 0
 HasBehaviour told number hits = slice_get told.behaviours number ≡ Some hits
 
 abbrev pub HasVerdict : Told → ℕ → Verdict → Type 0
 HasVerdict told number verdict = slice_get told.report.verdicts number ≡ Some verdict
 
--- of the numbers below a bound exactly one tells this behaviour, with this verdict
+-- Exactly one number below a bound has this behaviour, and it has this verdict.
 pub record IsToldOnce (told : Told) (bound : ℕ) (hits : List Met) (verdict : Verdict) : Type 0 where
   pub number : ℕ
   pub below : number < bound

@@ -9,8 +9,8 @@ ghost use Rattle.grown_plans.specs.Promises.{IsLawful, verdict_of_plan};
 ghost use Rattle.std.specs.List.{AllByRecursion};
 ghost use Rattle.report_promises.specs.Behaviours.{IsBehaviour, verdict_at_end};
 
-/// A scenario plays a behaviour: its run under whatever seed and stream number, where no pause stops it, is a behaviour, and its verdict the one at
-/// that behaviour's end.
+/// A scenario plays a behaviour: under any seed and stream number, if no pause stops its run, the run is a behaviour, and the scenario's verdict is
+/// the one at that behaviour's end.
 pub fn a_scenario_plays_a_behaviour()
     ensures behaves { (t : Subject) (scenario : Entries) (seed stream : ℕ) → IsUnpaused t.asks (given_of scenario t.names seed stream t.limit)
         → IsBehaviour t (run t.asks (given_of scenario t.names seed stream t.limit)) }
@@ -18,7 +18,7 @@ pub fn a_scenario_plays_a_behaviour()
         → verdict_with t.asks t.names seed t.limit stream scenario ≡ verdict_at_end t (run t.asks (given_of scenario t.names seed stream t.limit)) }
 {}
 
-/// A plan plays its behaviour, under whatever seed and stream number.
+/// A plan plays its behaviour, under any seed and stream number.
 pub fn a_plan_plays_its_behaviour()
     ensures behaves { (t : Subject) → IsLawful t → (d : ℕ) → AllByRecursion (λ plan. IsBehaviour t (run_of_plan t plan)) (grown t d) }
     ensures same { (t : Subject) → IsLawful t → (d : ℕ) → AllByRecursion (λ plan. (seed stream : ℕ) →

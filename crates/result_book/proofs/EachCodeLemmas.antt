@@ -1,4 +1,4 @@
--- The first failure of each code: a loop that passes over codes that were found finds just these.
+-- The first failure of each code: a loop that passes over codes that were found finds exactly these.
 use Rattle.std.proofs.Common.{◌≡◌, ℕ, zero, suc, ◌+◌, ◌<◌, ◌≤◌, Bool, true, false, not, ◌&&◌, ◌||◌, cond, eqb, ltb, List, [], ◌∷◌, ◌++◌, map, length, get_or, Option, Some, None, refl, arith, ap, sym, ◌∙◌, subst, append_assoc, drop, drop-cons, add-one, inl, inr}
 use Rattle.std.specs.List.{All, Any, AllPairs, AllByRecursion, filter, filter_map, list_any, enumerate_from, slice_get}
 use Rattle.std.proofs.lemmas.Bool.{false≢true, lt-ltb, le-ltb, eq-eqb, eqb-true, not-true, and_from, cond_both, or_cases, or_left, or_right, both_ways}

@@ -19,7 +19,7 @@ place_at (c ∷ bs) [] n b v d same lt = absurd (omega arith)
 place_at (c ∷ bs) (w ∷ vs) zero b v d same lt = refl
 place_at (c ∷ bs) (w ∷ vs) (suc n) b v d same lt = place_at bs vs n b v d (omega arith) (omega arith)
 
--- a place has its verdict just where one was put
+-- A place has its verdict exactly if one was put.
 pub has_place : (bs : List Bool) (vs : List Verdict) (n : ℕ) (b : Bool) → length vs ≡ length bs → n < length bs → has (places bs vs) n ≡ get_or bs n b
 has_place [] vs n b same lt = absurd (omega arith)
 has_place (c ∷ bs) [] n b same lt = absurd (omega arith)
@@ -38,19 +38,19 @@ pub filled : {A : Type 0} (old new : List A) (n len : ℕ) (x : A) → old ≡ [
 filled old new n len x none zero_long is =
     is ∙ ap (λ l. take n l ++ replicate (n - len) x) none ∙ ap (λ l. l ++ replicate (n - len) x) (take-nil n) ∙ ap (λ k. replicate k x) (omega (arith, zero_long))
 
--- where none was put, all places are empty
+-- If none was put, all places are empty.
 pub none_put : (n : ℕ) (v : Verdict) → places (replicate n false) (replicate n v) ≡ replicate n None
 none_put zero v = refl
 none_put (suc n) v = ap (λ s. None ∷ s) (none_put n v)
 
--- all were put where none is false
+-- All were put if none is false.
 pub all_put : (bs : List Bool) (vs : List Verdict) → length vs ≡ length bs → not (list_any (λ b. beq b false) bs) ≡ list_all is_full (places bs vs)
 all_put [] vs same = refl
 all_put (b ∷ bs) [] same = absurd (omega arith)
 all_put (true ∷ bs) (v ∷ vs) same = all_put bs vs (omega arith)
 all_put (false ∷ bs) (v ∷ vs) same = refl
 
--- where all were put, the verdicts are those that are there
+-- If all were put, the verdicts are those that are there.
 pub all_present : (bs : List Bool) (vs : List Verdict) → length vs ≡ length bs → list_all is_full (places bs vs) ≡ true → vs ≡ present (places bs vs)
 all_present [] [] same whole = refl
 all_present [] (v ∷ vs) same whole = absurd (omega arith)

@@ -86,7 +86,7 @@ length_lists : (slots : List (Option Verdict)) (ls : List (Vec (ℕ × Stretch) 
 length_lists slots [] = refl
 length_lists slots (l ∷ ls) = length_plan_ranges (enter_lists slots ls) l.items ∙ length_lists slots ls
 
--- by its ticket each range is the range of that ticket
+-- Each range is the range of its ticket.
 abbrev pub AreOf : (ℕ → Stretch) → List (ℕ × Stretch) → Type 0
 AreOf range ps = AllByRecursion (λ (p : ℕ × Stretch). p.1 ≡ range p.0) ps
 

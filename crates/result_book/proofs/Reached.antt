@@ -1,4 +1,4 @@
--- Points that no run asks: of runs one after another, and of runs in parts.
+-- Points that no run asks, over runs one after another and over runs in parts.
 use Rattle.std.proofs.Common.{◌≡◌, ◌≤◌, ◌<◌, ◌+◌, ◌||◌, ◌++◌, ◌∙◌, ℕ, Bool, true, false, not, List, [], ◌∷◌, filter, length, get_or, take, drop, refl, ap, sym, add-zero, arith, if◌then◌else◌}
 use Rattle.std.specs.List.{slice_range}
 use Rattle.std.proofs.lemmas.List.Elements.{filter_agree}
@@ -40,7 +40,7 @@ unreached_last points runs r =
     filter_agree (λ p. not (is_asked p r.asked)) (λ p. not (is_reached (r ∷ []) p)) (λ p. ap not (or_none (is_asked p r.asked))) (unreached_of points runs)
     ∙ unreached_append points runs (r ∷ [])
 
--- of a range to which the next plan's run is added
+-- For a range to which the next plan's run is added.
 pub unreached_more : (run : ℕ → Entries → Told) (plans : List Entries) (points : List ℕ) (first end : ℕ) → first ≤ end → end < length plans
     → filter (λ p. not (is_asked p (run end (get_or plans end [])).asked)) (unreached_of points (runs_from run first (slice_range plans first end)))
     ≡ unreached_of points (runs_from run first (slice_range plans first (end + 1)))
@@ -52,7 +52,7 @@ unreached_more run plans points first end up lt =
     ∙ ap (unreached_of points) (sym (runs_append run first part (get_or plans end [] ∷ [])))
     ∙ ap (λ ps. unreached_of points (runs_from run first ps)) (sym (range_more plans first end [] up lt))
 
--- of no plans all points are left
+-- If there are no plans, all points are left.
 pub filter_all : (points : List ℕ) → points ≡ filter (λ p. not false) points
 filter_all [] = refl
 filter_all (p ∷ points) = ap (λ l. p ∷ l) (filter_all points)

@@ -81,7 +81,7 @@ pub agrees_empty : (vs : List Verdict) → Agrees (replicate (length vs) None) v
 agrees_empty [] = tt
 agrees_empty (v ∷ vs) = (tt, agrees_empty vs)
 
--- a book that has each number and agrees is full of just these verdicts
+-- A book that has each number and agrees is full of exactly these verdicts.
 pub full_is : (slots : List (Option Verdict)) (vs : List Verdict) → Agrees slots vs → ((n : ℕ) → n < length slots → has slots n ≡ true) → slots ≡ map Some vs
 full_is [] [] agrees each = refl
 full_is [] (v ∷ vs) agrees each = absurd agrees
@@ -116,7 +116,7 @@ taken_at (None ∷ slots) zero slot lt is = ap is_some is
 taken_at (Some w ∷ slots) zero slot lt is = ap is_some is
 taken_at (s ∷ slots) (suc n) slot lt is = taken_at slots n slot (omega arith) is
 
--- the same where a place is looked up without that
+-- The same if a place is looked up without that.
 pub taken_in : (slots : List (Option Verdict)) (n : ℕ) (slot : Option Verdict) → slot ≡ get_or slots n None → is_some slot ≡ has slots n
 taken_in slots n slot is = ap is_some is ∙ seen (get_or slots n None)
   where

@@ -1,4 +1,4 @@
--- The runs of a list of plans, and which points they don't ask.
+-- The runs of a list of plans, and which points none of them asks.
 use Rattle.std.specs.Prelude.{ℕ, ◌+◌, ◌==◌, Bool, not, List, [], ◌∷◌, filter}
 use Rattle.std.specs.List.{list_any, range_with_len}
 use Rattle.scenario_values.specs.Scenario.{Entries}
@@ -9,31 +9,31 @@ use Rattle.target_trait.specs.declared.target.Target.{Ghosts}
 use Rattle.campaign_given.specs.Given.{Given}
 use Rattle.result_book.specs.declared.input.RunInput.{RunInput}
 
--- the run of a scenario under a stream number, under the seed and the limit of these settings
+-- The run of a scenario under a stream number, with the seed and the limit of these settings.
 abbrev pub run_on : (List Reply → Move) → List (List ℕ) → Given → ℕ → Entries → Told
 run_on asks names given stream scenario = outcome asks (given_of scenario names given.plans.seed stream given.max_hits)
 
--- on an input
+-- The same on an input.
 abbrev pub input_runs : {T W : Type 0} → Ghosts T W → T → RunInput T W → ℕ → Entries → Told
 input_runs target setup input = run_on (target.asks setup input.workload.now) target.names input.settings.now
 
--- the runs of plans that are numbered from n on; a run has its plan's number as the stream number
+-- The runs of plans that are numbered from n on. Each is run with its number as the stream number.
 abbrev pub runs_from : (ℕ → Entries → Told) → ℕ → List Entries → List Told
 runs_from run n [] = []
 runs_from run n (plan ∷ plans) = run n plan ∷ runs_from run (n + 1) plans
 
--- whether a run asks the point of this number
+-- Whether a run asks the point of this number.
 abbrev pub is_asked : ℕ → List ℕ → Bool
 is_asked p asked = list_any (λ q. q == p) asked
 
--- whether one of these runs does
+-- Whether one of these runs asks the point of this number.
 abbrev pub is_reached : List Told → ℕ → Bool
 is_reached runs p = list_any (λ r. is_asked p r.asked) runs
 
--- those of these points that no run asks
+-- The ones of these points that no run asks.
 abbrev pub unreached_of : List ℕ → List Told → List ℕ
 unreached_of points runs = filter (λ p. not (is_reached runs p)) points
 
--- the numbers of the points that no run asks, in the order of the catalogue
+-- The numbers of the points that no run asks, in the order of the catalogue.
 abbrev pub unreached_in : ℕ → List Told → List ℕ
 unreached_in points runs = unreached_of (range_with_len 0 points) runs

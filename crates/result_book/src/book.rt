@@ -1,4 +1,4 @@
-//! Which plans of an input have their verdict.
+//! The book of an input's verdicts, in which each plan has a place.
 ghost use Rattle.std.specs.Prelude.{◌≡◌, ℕ, ◌+◌, ◌<◌, ◌≤◌, List, [], length, Option, None, Some, true, false, IfOk, IfErr, OnOk, OnErr, replicate, slice_set, slice_index_or};
 ghost use Rattle.std.specs.List.{list_all};
 ghost use Rattle.result_book.specs.Refused.{IsRefused};
@@ -14,13 +14,13 @@ use std::alloc::{AllocError, Global};
 use std::marker::Model;
 use target_trait::{Target, Verdict};
 
-/// A place for the verdict of each plan of an input, in the order of the plans' numbers, whatever order they are put in. Contracts see
-/// it as the list of the places. It has at most 65536 places, this project's limit of plans.
+/// A place for the verdict of each plan of an input, in the order of the plans' numbers. The verdicts may be put in any order. Contracts see it as
+/// the list of the places, of which there are at most 65536, as many as a campaign may have plans.
 ///
-/// The verdicts stand one after another, apart from which of them were put, so that a whole book is the list of its verdicts.
+/// The verdicts stand one after another, apart from the note of which were put. So the list of verdicts of a whole book is there already.
 #[derive(Drop)]
 pub struct Book {
-    /// In a place in which none was put, any verdict.
+    /// The verdict of each place. A place into which none was put has any.
     verdicts: Vec<Verdict>,
     is_put: Vec<bool>,
 }
@@ -37,7 +37,7 @@ impl Model for Book {
     ghost invariant = { λ b. (length b.is_put.items ≤ 65536) × (length b.verdicts.items ≡ length b.is_put.items) };
 }
 
-/// Why a result was not put. Either hands the result back.
+/// Why a result wasn't put. Either fault hands the result back.
 #[derive(Drop)]
 pub enum PutFault<'a, T: Target> {
     /// The book has no place for its number.
@@ -79,8 +79,8 @@ impl Book {
         Ok(())
     }
 
-    /// Puts the verdicts of the first plans, whose runs are known already, each in the place of its number, from 0 on. One whose number has
-    /// its verdict already, or has no place, changes nothing. No memory is taken.
+    /// Puts the verdicts of the first plans, whose runs are known already, each into the place of its number, from 0 on. A verdict changes nothing if
+    /// its number has one already, or has no place. No memory is taken.
     pub fn put_known(&mut self, verdicts: Vec<Verdict>)
         ensures { self.new ≡ enter_range self.old 0 verdicts.items }
     {
@@ -90,7 +90,7 @@ impl Book {
         }
     }
 
-    /// Puts a verdict in the place of this number, where there is one and it is free.
+    /// Puts a verdict into the place of this number, if there is such a place and it is free.
     fn put_free(&mut self, number: usize, verdict: Verdict)
         ensures { self.new ≡ enter self.old number verdict }
     {
@@ -99,7 +99,7 @@ impl Book {
         }
     }
 
-    /// Has this verdict in the place of this number.
+    /// Makes this verdict that of the place of this number.
     fn fill(&mut self, number: usize, verdict: Verdict)
         requires { number < length self.now }
         ensures { self.new ≡ slice_set self.old number (Some verdict) }
@@ -117,7 +117,7 @@ impl Book {
         self.is_put.len()
     }
 
-    /// The verdict of this number, where it was put.
+    /// The verdict of this number, if it was put.
     fn at(&self, number: usize) -> Option<Verdict>
         requires { number < length self.now }
         ensures { result ≡ slice_index_or self.now number None }
@@ -128,7 +128,7 @@ impl Book {
         Some(self.verdicts[number])
     }
 
-    /// The least number with a failure among those in the book, and its code.
+    /// The first failure: the least number in the book whose verdict is a failure, and its code.
     pub fn first_failure(&self) -> Option<(u32, u32)>
         ensures { result ≡ first_in 0 self.now }
     {
@@ -140,8 +140,8 @@ impl Book {
         None
     }
 
-    /// For each code that a failure in the book has, the least number with it, in the order of the numbers; each is told as the number and
-    /// the code. The first of them is the first failure. An error means that memory was refused; the book stays as it is.
+    /// The first failure of each code, in the order of the numbers, each as the number and the code. The first of them is the first failure. An error
+    /// means that memory was refused; the book stays as it is.
     pub fn first_failures(&self, alloc: Global) -> Result<Vec<(u32, u32)>, AllocError>
         ensures { IfOk result (λ firsts. firsts.items ≡ first_failures (in_book self.now)) }
     {
@@ -152,7 +152,7 @@ impl Book {
         Ok(firsts)
     }
 
-    /// The verdicts that are there, in the order of their numbers. An error means that memory was refused.
+    /// The verdicts that were put, in the order of their numbers. An error means that memory was refused.
     pub fn verdicts(&self, alloc: Global) -> Result<Vec<Verdict>, AllocError>
         ensures { IfOk result (λ all. all.items ≡ present self.now) }
     {
@@ -165,7 +165,7 @@ impl Book {
         Ok(all)
     }
 
-    /// The verdict of each plan, of a book in which each has its own. No memory is taken: it is the book's own list.
+    /// The verdict of each plan, from a book in which each has its own. No memory is taken, as it is the book's own list.
     pub fn into_verdicts(self) -> Vec<Verdict>
         requires { list_all is_full self ≡ true }
         ensures { result.items ≡ present self }
@@ -182,7 +182,7 @@ impl Book {
     }
 }
 
-/// Puts each result of a range, from its end. One whose number has its verdict already, or has no place, changes nothing.
+/// Puts each result of a range, from the last to the first. A result changes nothing if its number has a verdict already, or has no place.
 fn put_range<'a, T: Target>(book: &mut Book, range: PlanRange<'a, T>)
     ensures { book.new ≡ enter_range book.old range.entry.first range.entry.verdicts }
 {
@@ -192,7 +192,7 @@ fn put_range<'a, T: Target>(book: &mut Book, range: PlanRange<'a, T>)
     }
 }
 
-/// Puts each range of a list, from its end.
+/// Puts each range of a list, from the last to the first.
 fn put_list<'a, T: Target>(book: &mut Book, list: Vec<(u32, PlanRange<'a, T>)>)
     ensures { book.new ≡ enter_ranges book.old list.entry.items }
 {
@@ -202,8 +202,8 @@ fn put_list<'a, T: Target>(book: &mut Book, list: Vec<(u32, PlanRange<'a, T>)>)
     }
 }
 
-/// Puts each range of these lists, as workers hand them back, one list a worker. An empty range changes nothing, and neither does a result
-/// whose number has its verdict already, or has no place.
+/// Puts each range of these lists, which workers hand back, one list for each worker. An empty range changes nothing, nor does a result whose number
+/// has a verdict already, or has no place.
 pub fn put_all<'a, T: Target>(book: &mut Book, lists: Vec<Vec<(u32, PlanRange<'a, T>)>>)
     ensures { book.new ≡ enter_lists book.old lists.entry.items }
 {

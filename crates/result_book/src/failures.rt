@@ -15,7 +15,7 @@ fn has_code(failures: &[(u32, u32)], code: u32) -> bool
     failures.iter().any(|failure| failure.1 == code)
 }
 
-/// Adds a place's failure, by its number and code, where it is one of a code that isn't there. An error means that memory was refused.
+/// Adds the failure of a place, by its number and code, if it is the first of its code. An error means that memory was refused.
 pub(crate) fn add_first(
     firsts: &mut Vec<(u32, u32)>,
     number: u32,
@@ -33,9 +33,8 @@ pub(crate) fn add_first(
     Ok(())
 }
 
-/// Of a list of verdicts that may have gaps, in the order of their numbers from 0: for each code that a failure has, the least number with
-/// it, in the order of the numbers; each is told as the number and the code. The list has at most 2^32 places. An error means that memory
-/// was refused.
+/// The first failure of each code in a list of verdicts, numbered from 0, which may have gaps: for each code the least number with it, and the code,
+/// in the order of the numbers. The list has at most 2^32 places. An error means that memory was refused.
 pub fn first_failures_of(
     alloc: Global,
     slots: &[Option<Verdict>],

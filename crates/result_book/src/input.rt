@@ -4,13 +4,12 @@ use campaign_given::CampaignSettings;
 use campaign_plans::CampaignPlans;
 use target_trait::Target;
 
-/// A workload and plans, with the settings that say under which seed and limit they run, and what is to be seen of the runs. Runs on any thread
-/// borrow it.
+/// A workload and plans, the settings that say under which seed and limit they run, and the points that are watched. Runs on any thread borrow it.
 #[derive(Drop)]
 pub struct RunInput<'a, T: Target> {
     pub workload: &'a T::Workload,
     pub settings: &'a CampaignSettings,
     pub plans: &'a CampaignPlans<'a>,
-    /// The numbers of points of which it is noted whether a run asks them; none where nobody wants to know.
+    /// The numbers of the points of which it is noted whether a run asks them. The list is empty if nobody wants to know.
     pub watched: &'a [u32],
 }

@@ -1,4 +1,4 @@
-//! Plans run as numbered results, ranges of them, the book in which each number has its result once, and the first failure.
+//! Plans run as numbered results, in ranges, and the book that takes each number's result once and finds the first failures.
 #![tactic(auto)]
 
 mod book;

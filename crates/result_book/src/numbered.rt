@@ -14,8 +14,8 @@ use std::marker::Model;
 use std::mem;
 use target_trait::{Target, Verdict, run_session, session_of};
 
-/// The verdict of the run of this number under what is rigged in a workspace, whose buffers are left again for the next run. Of the points that
-/// no run asked so far those are left that this one doesn't ask. Want of memory may give the buffers back to the system.
+/// The verdict of the run of this number under what is rigged in a workspace, whose buffers then serve the next run. The points in `unreached` that
+/// this run asks are removed. If memory is refused, the buffers may be given back to the system.
 fn rigged_verdict<T: Target>(
     target: &mut T,
     input: &RunInput<'_, T>,
@@ -50,7 +50,7 @@ fn rigged_verdict<T: Target>(
     Ok(verdict)
 }
 
-/// The verdict of the plan of this number, whose scenario is made, and the points that are left, as of one that is rigged.
+/// The same for the plan of this number, by its scenario, which is made for it.
 fn written_verdict<T: Target>(
     alloc: Global,
     target: &mut T,
@@ -73,8 +73,8 @@ fn written_verdict<T: Target>(
     Ok(verdict)
 }
 
-/// The verdict of the plan of this number, where what rigs the input's plans over the target's points is made. Of the points that no run asked
-/// so far those are left that this one doesn't ask.
+/// The verdict of the plan of this number; the points in `unreached` that its run asks are removed. `rigger` rigs the input's plans over the target's
+/// points.
 pub(crate) fn verdict_of<T: Target>(
     target: &mut T,
     rigger: &CampaignRigger<'_, 'static>,
@@ -102,8 +102,8 @@ pub(crate) fn verdict_of<T: Target>(
 
 /// The number of a plan of an input, with its verdict.
 ///
-/// Only `run` and `PlanRange::pop` make one, so the verdict is always that of the plan of this number, under the stream of this number, for some
-/// setup of the target: the type keeps that. Whoever is handed one, on whatever thread it was made, needs no further promise.
+/// Only `run` and `PlanRange::pop` make one. So the verdict is always that of the plan of this number, under the stream of this number, for some
+/// setup of the target: the type keeps that. Whoever is handed one, from whatever thread, needs no further promise.
 #[derive(Drop)]
 pub struct Numbered<'a, T: Target> {
     pub(crate) input: &'a RunInput<'a, T>,
@@ -127,7 +127,7 @@ impl<'a, T: Target> Model for Numbered<'a, T> {
 impl<'a, T: Target> Numbered<'a, T> {
     /// Runs the plan of this number. The random words are those of the stream of the plan's number, whichever worker runs it.
     ///
-    /// An error means that memory was refused. The target keeps its setup, after an error too.
+    /// An error means that memory was refused. The target keeps its setup, even after an error.
     pub fn run(
         alloc: Global,
         target: &mut T,

@@ -1,4 +1,4 @@
-//! Verdicts of plans that stand one after another.
+//! Verdicts of successive plans.
 ghost use Rattle.std.specs.Prelude.{◌≡◌, ◌≤◌, [], length, IfOk, MatchOption, slice_range};
 ghost use Rattle.result_book.specs.Says.{input_says};
 ghost use Rattle.result_book.specs.Ranges.{IsLast};
@@ -11,13 +11,13 @@ use crate::watched::is_asked;
 use crate::workspace::Workspace;
 use std::alloc::{AllocError, Global};
 use std::marker::Model;
+use std::ops::Range;
 use target_trait::{Target, Verdict};
 
-/// The verdicts of plans of an input that stand one after another, from a number on, and those of the input's watched points that none of their runs
-/// asks.
+/// The verdicts of successive plans of an input, from a number on, and those of the input's watched points that none of their runs asks.
 ///
-/// Only `run_over` makes one, so each verdict is that of its plan, under the stream of its plan's number, for one setup of the target: the
-/// type keeps that. A range holds its input once, and 8 bytes a plan.
+/// Only `run_over` makes one. So each verdict is that of its plan, under the stream of its plan's number, for one setup of the target: the type keeps
+/// that. A range holds its input once, and 8 bytes for each plan.
 #[derive(Drop)]
 pub struct PlanRange<'a, T: Target> {
     input: &'a RunInput<'a, T>,
@@ -42,27 +42,27 @@ impl<'a, T: Target> Model for PlanRange<'a, T> {
 }
 
 impl<'a, T: Target> PlanRange<'a, T> {
-    /// Runs the plans from this number on, before `end`, in their order, in a workspace that serves run after run: it keeps the
-    /// memory that it has taken, and whatever it holds before makes no difference. An error means that memory was refused. The target keeps
-    /// its setup, after an error too.
+    /// Runs the plans of these numbers, in their order. The workspace serves run after run: it keeps the memory that it has taken, and what it holds
+    /// before makes no difference. An error means that memory was refused. The target keeps its setup, even after an error.
     pub fn run_over(
         alloc: Global,
         target: &mut T,
         workspace: &mut Workspace,
         input: &'a RunInput<'a, T>,
-        first: u32,
-        end: u32,
+        numbers: Range<u32>,
     ) -> Result<Self, AllocError>
-        requires within { (first ≤ end) × (end ≤ length input.now.plans.now) }
+        requires within { (numbers.start ≤ numbers.end) × (numbers.end ≤ length input.now.plans.now) }
         ensures ok { IfOk result (λ range. range ≡ record {
-          first = first;
-          verdicts = verdicts_from (input_says T.Target target.old input.now) first (slice_range input.now.plans.now first end);
+          first = numbers.start;
+          verdicts = verdicts_from (input_says T.Target target.old input.now) numbers.start (slice_range input.now.plans.now numbers.start numbers.end);
           unreached = unreached_of input.now.watched.now
-              (runs_from (input_runs T.Target target.old input.now) first (slice_range input.now.plans.now first end));
+              (runs_from (input_runs T.Target target.old input.now) numbers.start (slice_range input.now.plans.now numbers.start numbers.end));
         }) }
         ensures setup { target.new ≡ target.old }
     {
         let rigger = input.plans.rigger(T::catalogue());
+        let first = numbers.start;
+        let end = numbers.end;
         let mut verdicts = Vec::with_capacity(alloc, (end - first) as usize)?;
         let mut unreached = Vec::from_slice(alloc, input.watched)?;
         for number in first..end {
@@ -84,14 +84,14 @@ impl<'a, T: Target> PlanRange<'a, T> {
         self.verdicts.as_slice()
     }
 
-    /// Whether a point is one of the input's watched ones, and no run of the range asked it. A result that is taken out changes nothing.
+    /// Whether a point is one of the input's watched ones, and no run of the range asked it. Taking results out of the range doesn't change that.
     pub fn leaves(&self, point: u32) -> bool
         ensures { result ≡ is_asked point self.now.unreached }
     {
         is_asked(self.unreached.as_slice(), point)
     }
 
-    /// Takes the last plan's result out of the range. None where the range is empty, which leaves it so.
+    /// Takes the last plan's result out of the range; `None` if the range is empty.
     pub fn pop(&mut self) -> Option<Numbered<'a, T>>
         ensures { MatchOption result ((self.old.verdicts ≡ []) × (self.new ≡ self.old)) (IsLast self.old self.new) }
     {

@@ -9,7 +9,7 @@ pub(crate) fn is_asked(asked: &[u32], point: u32) -> bool
     asked.iter().any(|other| *other == point)
 }
 
-/// Leaves those of these points that a run didn't ask.
+/// Removes those of these points that a run asked.
 pub(crate) fn leave_unasked(points: &mut Vec<u32>, asked: &[u32])
     ensures { points.new.items ≡ filter (λ p. not (is_asked p asked.now)) points.old.items }
 {

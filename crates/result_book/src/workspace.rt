@@ -6,15 +6,15 @@ use action_eval::{FaultTable, SessionBuffers};
 use campaign_plans::RigLists;
 use std::alloc::Global;
 
-/// What a worker's plans are run in, one after another, without memory of their own. Whatever it holds before a plan makes no difference to
-/// the plan.
+/// What a worker's plans are run in, one after another, so that they needn't take memory of their own. What it holds before a plan makes no
+/// difference to the plan.
 #[derive(Drop)]
 pub struct Workspace {
-    /// What a plan's rigged hits are laid out in.
+    /// The table that has a plan's rigged hits, by their points.
     pub table: FaultTable<'static>,
-    /// What a plan's rigged hits are put into, and the faults of one that grew.
+    /// The lists into which a plan's rigged hits are put, and the faults of a plan that grew.
     pub lists: RigLists,
-    /// What a session writes into.
+    /// The lists into which a session writes.
     pub buffers: SessionBuffers,
     pub alloc: Global,
 }

@@ -1,12 +1,12 @@
-//! One run of a component that somebody else runs, told hit by hit by what an answer tells of it.
+//! One run of a component that somebody else runs, shown hit by hit as an answer records it.
 ghost use Rattle.std.specs.Prelude.{◌≡◌, string_bytes, IfOk};
 ghost use Rattle.action_eval.specs.Answers.{texts};
-ghost use Rattle.report.specs.ReportText.{text_of};
-ghost use Rattle.run_explained.specs.ByAnswer.{answer_facts, answer_text, answered_hits, has_idle, lines_with};
+ghost use Rattle.target_trait.specs.declared.judgement.Verdict.TheVariants.{Pass};
+ghost use Rattle.run_explained.specs.ByAnswer.{answer_facts, answer_text, answered_hits, has_idle};
 
-use crate::hits::{write_hits, write_stop};
-use crate::idle::{leaves_idle, write_idle};
-use crate::told::{ToldRun, head_text};
+use crate::idle::leaves_idle;
+use crate::printing::{RunHits, run_text};
+use crate::told::ToldRun;
 use action_eval::{Answered, history};
 use report::Names;
 use scenario_values::Scenario;
@@ -28,11 +28,11 @@ fn answered_hits<'a>(
     history(alloc, scenario, points, 0, 0, count, hits)
 }
 
-/// Whether a fault of a scenario never acts in a run of a component that somebody else runs, which hits these points in this order. Its shares are
-/// 0 or 100 percent.
+/// Whether a fault of a scenario never acts in a run, of a component that somebody else runs, which hits these points in this order. The scenario's
+/// shares have to be 0 or 100 percent.
 ///
-/// The time grows with the number of hits, and for each fault with it again. An error means that memory was refused, or that there are more than
-/// 4294967295 hits.
+/// The time grows with the number of hits, and with that number once more for each fault. An error means that memory was refused, or that there are
+/// more than 4294967295 hits.
 pub fn has_idle(
     alloc: Global,
     points: &[&str],
@@ -45,7 +45,7 @@ pub fn has_idle(
     Ok(leaves_idle(hits.as_slice(), scenario))
 }
 
-/// What an answer tells of a run of a component that somebody else runs.
+/// A run of a component that somebody else runs, as an answer records it.
 #[derive(Drop)]
 pub struct RunByAnswer<'a> {
     pub scenario: &'a Scenario,
@@ -54,30 +54,28 @@ pub struct RunByAnswer<'a> {
     pub hits: &'a [u32],
 }
 
-/// The lines of a run with these hits, of which some are told.
-fn lines_with<N: Names>(
-    alloc: Global,
-    names: &N,
-    points: &[&str],
-    run: &RunByAnswer<'_>,
-    hits: &[Answered<'_>],
-    told: &[Answered<'_>],
-) -> Result<String, AllocError>
-    ensures { IfOk result (λ text. string_bytes text
-        ≡ text_of (lines_with (texts points.now) (N.code_text names.now) run.now.scenario.now run.now.verdict hits.now told.now)) }
+/// The run, as its lines show it. Nobody knows its limit.
+fn shown_of<'a>(
+    points: &'a [&'a str],
+    run: &RunByAnswer<'a>,
+    hits: &'a [Answered<'a>],
+) -> RunHits<'a>
+    ensures { result ≡ record { points = points.entry; scenario = run.now.scenario; verdict = run.now.verdict; known = Pass; hits = hits.entry } }
 {
-    let mut text = head_text(alloc, names, run.verdict)?;
-    write_hits(alloc, &mut text, points, told)?;
-    write_stop(&mut text, Verdict::Pass, hits)?;
-    write_idle(&mut text, hits, run.scenario)?;
-    Ok(text)
+    RunHits {
+        points,
+        scenario: run.scenario,
+        verdict: run.verdict,
+        known: Verdict::Pass,
+        hits,
+    }
 }
 
-/// What an answer tells of a run of a component that somebody else runs, hit by hit: the lines of [`crate::explain`], by the scenario, the verdict
-/// and the points of the hits. Nobody knows the limit of such a component, so no line says that it stopped the run.
+/// A run of a component that somebody else runs, hit by hit: the lines of [`crate::explain`], by the scenario, the verdict and the points of the hits
+/// in an answer. The limit of such a component isn't known, so no line says that it stopped the run.
 ///
-/// The time and the errors are those of [`has_idle`]; but where points that are hit aren't among these, the time grows with the square of the
-/// number of hits.
+/// The time and the errors are those of [`has_idle`]. Only if points are hit that aren't among these, the time grows with the square of the number of
+/// hits.
 pub fn explain_answer<N: Names>(
     alloc: Global,
     names: &N,
@@ -88,10 +86,11 @@ pub fn explain_answer<N: Names>(
         ≡ answer_text (texts points.now) (N.code_text names.now) run.now.scenario.now run.now.verdict run.now.hits.now) }
 {
     let hits = answered_hits(alloc, points, run.scenario, run.hits)?;
-    lines_with(alloc, names, points, run, &hits, &hits)
+    let run = shown_of(points, run, hits.as_slice());
+    run_text(alloc, names, &run, hits.as_slice())
 }
 
-/// The same, but of the hits the first `most` alone have their lines, as of a run that [`crate::tell`] tells.
+/// The same, but only the first `most` hits have lines, as with [`crate::tell`].
 pub fn tell_answer<N: Names>(
     alloc: Global,
     names: &N,
@@ -103,10 +102,11 @@ pub fn tell_answer<N: Names>(
         ≡ answer_facts most (texts points.now) (N.code_text names.now) run.now.scenario.now run.now.verdict run.now.hits.now) }
 {
     let hits = answered_hits(alloc, points, run.scenario, run.hits)?;
-    let told = hits.len().min(most);
-    let text = lines_with(alloc, names, points, run, &hits, &hits[..told])?;
+    let shown = hits.len().min(most);
+    let run = shown_of(points, run, hits.as_slice());
+    let text = run_text(alloc, names, &run, &hits[..shown])?;
     Ok(ToldRun {
         text,
-        left_out: hits.len() - told,
+        left_out: hits.len() - shown,
     })
 }

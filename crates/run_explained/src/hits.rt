@@ -12,6 +12,7 @@ use std::alloc::{AllocError, Global};
 use std::fmt::Write;
 use target_trait::Verdict;
 
+/// Appends the task that acted at a hit, or `go`.
 fn write_done(out: &mut String, task: Option<&Task>) -> Result<(), AllocError>
     ensures { OnOk result (string_bytes out.new ≡ string_bytes out.old ++ done_text (did task.entry)) }
 {
@@ -21,7 +22,7 @@ fn write_done(out: &mut String, task: Option<&Task>) -> Result<(), AllocError>
     }
 }
 
-/// How many of these hits are of a point, by the counts of the points in the catalogue.
+/// How many of these hits are of this point, from the counts of the catalogue's points.
 fn hits_of(counts: &[usize], hits: &[Answered<'_>], point: u32) -> usize
     requires { AreCounts counts.now hits.now }
     ensures { result ≡ count_by (λ b. b.point == point) hits.now }
@@ -44,6 +45,7 @@ fn count_hit(counts: &mut [usize], hits: &[Answered<'_>], number: usize)
     }
 }
 
+/// Appends the line of a hit: its number, its point, which hit of that point it is, and what was done.
 fn write_hit(
     out: &mut String,
     catalogue: &[&str],
@@ -62,7 +64,7 @@ fn write_hit(
     out.push_str("\n")
 }
 
-/// Appends a line for each hit, with the counts of the points in the catalogue, which start as of no hit.
+/// Appends a line for each hit. It counts the hits of the catalogue's points in `counts`, which has to begin with no hit.
 fn write_counted(
     out: &mut String,
     catalogue: &[&str],
@@ -92,7 +94,7 @@ pub fn write_hits(
     write_counted(out, catalogue, counts.as_mut_slice(), hits)
 }
 
-/// What the last hit that stops stops: a power cut is asked after a panic too.
+/// Why the run stopped: by the last hit that stops it, as a power cut is asked after a panic too.
 fn stopped_by(hits: &[Answered<'_>]) -> Option<Stop>
     ensures { result ≡ stopped_by hits.now }
 {
@@ -103,6 +105,7 @@ fn stopped_by(hits: &[Answered<'_>]) -> Option<Stop>
     stopped
 }
 
+/// Appends the line that says what stopped the run, if anything did.
 pub fn write_stop(
     out: &mut String,
     verdict: Verdict,

@@ -10,20 +10,21 @@ use scenario_values::{Scenario, Term, is_off};
 use std::alloc::AllocError;
 use std::fmt::Write;
 
-/// How often the term of this place in the chain of a name acted.
+/// How often the term at this place in the chain of a name acted.
 fn times_acted(hits: &[Answered<'_>], name: &str, place: usize) -> usize
     ensures { result ≡ acted hits.now name.now place }
 {
     hits.iter().filter(|hit| hit.is_of(name, place)).count()
 }
 
-/// Whether the term of this place in the chain of a name is a fault that never acted.
+/// Whether the term at this place in the chain of a name is a fault that never acted.
 fn is_idle(hits: &[Answered<'_>], name: &str, place: usize, term: &Term) -> bool
     ensures { result ≡ is_idle hits.now name.now place term.now }
 {
     !is_off(&term.task) && times_acted(hits, name, place) == 0
 }
 
+/// Appends the line of a fault that never acted.
 fn write_idle_term(out: &mut String, name: &str, term: &Term) -> Result<(), AllocError>
     ensures { OnOk result (string_bytes out.new ≡ string_bytes out.old ++ ended (idle_line name.now term.now)) }
 {
@@ -61,6 +62,7 @@ fn write_idle_in(
     Ok(())
 }
 
+/// Appends a line for each fault of the scenario that never acted in a run with these hits.
 pub fn write_idle(
     out: &mut String,
     hits: &[Answered<'_>],

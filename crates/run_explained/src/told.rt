@@ -1,19 +1,15 @@
 //! One run of a target, told hit by hit, of whose hits the last ones may be left out.
-ghost use Rattle.std.specs.Prelude.{◌≡◌, ◌≤◌, ◌++◌, codes, length, string_bytes, IfOk};
-ghost use Rattle.action_eval.specs.Answers.{given_of};
-ghost use Rattle.target_trait.specs.Outcomes.{outcome};
-ghost use Rattle.report.specs.ReportText.{ended, verdict_text};
-ghost use Rattle.run_explained.specs.Told.{outcome_facts, run_facts};
+ghost use Rattle.std.specs.Prelude.{◌≡◌, IfOk};
+ghost use Rattle.run_explained.specs.Explained.{given_in};
+ghost use Rattle.run_explained.specs.Told.{run_facts};
 
-use crate::hits::{write_hits, write_stop};
-use crate::idle::write_idle;
-use action_eval::history;
-use report::{Names, write_verdict};
+use crate::ends::MadeRun;
+use crate::telling::{hits_of, made_text};
 use std::alloc::{AllocError, Global};
 use std::marker::Model;
-use target_trait::{Case, Outcome, Target, Verdict, run_case};
+use target_trait::{Case, Target, run_case};
 
-/// A run that is told.
+/// A run that is shown.
 #[derive(Drop)]
 pub struct ToldRun {
     /// Its lines, each with its line feed.
@@ -31,51 +27,7 @@ impl Model for ToldRun {
     ghost view = { λ r. record { text = string_bytes r.text; left_out = r.left_out } };
 }
 
-/// The line of a verdict.
-pub fn head_text<N: Names>(alloc: Global, names: &N, verdict: Verdict) -> Result<String, AllocError>
-    ensures { IfOk result (λ text. string_bytes text ≡ ended (codes "verdict " ++ verdict_text (N.code_text names.now) verdict)) }
-{
-    let mut text = String::new(alloc);
-    text.push_str("verdict ")?;
-    write_verdict(&mut text, names, verdict)?;
-    text.push_str("\n")?;
-    Ok(text)
-}
-
-/// What is told of an outcome of a case.
-fn told_of<T: Target>(
-    alloc: Global,
-    target: &T,
-    case: &Case<'_>,
-    outcome: &Outcome,
-    most: usize,
-) -> Result<ToldRun, AllocError>
-    requires few { length outcome.now.asked ≤ case.now.max_hits }
-    ensures { IfOk result (λ run. run ≡ outcome_facts most T.code_text
-        (given_of case.now.scenario.now T.names case.now.seed case.now.stream case.now.max_hits) outcome.now) }
-{
-    let catalogue = T::catalogue();
-    let hits = history(
-        alloc,
-        case.scenario,
-        catalogue,
-        case.seed,
-        case.stream,
-        case.max_hits,
-        outcome.asked.as_slice(),
-    )?;
-    let told = hits.len().min(most);
-    let mut text = head_text(alloc, target, outcome.verdict)?;
-    write_hits(alloc, &mut text, catalogue, &hits[..told])?;
-    write_stop(&mut text, outcome.verdict, hits.as_slice())?;
-    write_idle(&mut text, hits.as_slice(), case.scenario)?;
-    Ok(ToldRun {
-        text,
-        left_out: hits.len() - told,
-    })
-}
-
-/// Runs a case on a target, and tells the run as `explain` does, but of its hits the first `most` alone.
+/// Runs a case on a target, and writes the run as `explain` does, but only the first `most` of its hits.
 ///
 /// An error means that memory was refused. The target keeps its setup, after an error too.
 pub fn tell<T: Target>(
@@ -86,9 +38,19 @@ pub fn tell<T: Target>(
     most: usize,
 ) -> Result<ToldRun, AllocError>
     ensures run { IfOk result (λ run. run ≡ run_facts most T.code_text (T.asks target.old workload.now)
-        (given_of case.now.scenario.now T.names case.now.seed case.now.stream case.now.max_hits)) }
+        (given_in T.names case.now)) }
     ensures setup { target.new ≡ target.old }
 {
     let outcome = run_case(alloc, target, workload, case)?;
-    told_of(alloc, target, case, &outcome, most)
+    let run = MadeRun {
+        case: &*case,
+        outcome: &outcome,
+    };
+    let hits = hits_of(alloc, T::catalogue(), case, &outcome)?;
+    let shown = hits.len().min(most);
+    let text = made_text(alloc, target, &run, hits.as_slice(), &hits[..shown])?;
+    Ok(ToldRun {
+        text,
+        left_out: hits.len() - shown,
+    })
 }

@@ -72,7 +72,7 @@ piece_stands done entry piece =
 
 -- ---- the pieces up to that one
 
--- of pieces from one number on: the fault is in the piece of this index, and in none before
+-- Among pieces from one number on, the fault is in the piece of this index, and in none before.
 record Found (done : Progress) (entry : ℕ) (pieces : List (List ℕ)) (f : Fault) : Type 0 where
   pub index : ℕ
   pub place : f.entry ≡ entry + index

@@ -20,7 +20,7 @@ none_unless false x never = refl
 both_parts : (n most : ℕ) (text : List ℕ) → most < 2 ^ 32 → (is_number text && nat_le n most) ≡ true → (0 < length text) × (n < 2 ^ 32)
 both_parts n most text small both = grind (arith, nat_tests, common_steps)
 
--- where `parse` fails on digits the number is too large
+-- If `parse` fails on digits, the number is too large.
 pub too_large : {E : Type 0} (most : ℕ) (text : List ℕ) (e : E) → most < 2 ^ 32 → is_number text ≡ true → ParsesUnsigned 32 10 text (Err e) → None ≡ number_up_to most text
 too_large {E} most text e small digits parsed =
     let fails : ¬ ((0 < length text) × (digits_value 10 text < 2 ^ 32)) = parse_digits own {E = E} 32 text (Err e) parsed (grind (arith, nat_tests, common_steps)) in

@@ -1,4 +1,4 @@
--- A fault as text: its kind and its place, as `BadPercent entry 1 term 2`.
+-- A fault of a scenario text as text: its kind and its place, as in `BadPercent entry 1 term 2`.
 use Rattle.std.specs.Prelude.{ℕ, List, ◌++◌, codes}
 use Rattle.std.specs.Fmt.{decimal}
 use Rattle.scenario_grammar.specs.declared.fault.Kind.{Kind}

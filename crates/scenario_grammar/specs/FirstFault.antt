@@ -1,8 +1,7 @@
--- The first fault of a scenario text; kinds and order are this project's own. Each rule of the grammar is one function into what it finds or
--- the kind of fault; the rules
--- follow one another in the order in which faults count: the length before all; then the pieces from left to right; in a piece
--- TooMany for the piece, NoAction, NoName, then its terms from left to right; in a term TooMany for the term, Parentheses,
--- BadPercent, BadCount, UnknownTask, BadMillis, then TooMany for the fault.
+-- The first fault of a scenario text; the kinds and their order are this project's own. Each rule of the grammar is a function that gives what it
+-- reads or the kind of fault. The rules come in the order in which faults count: first the length, then the pieces from left to right. In a piece the
+-- order is TooMany for the piece, NoAction, NoName, and then its terms from left to right; in a term it is TooMany for the term, Parentheses,
+-- BadPercent, BadCount, UnknownTask, BadMillis, and then TooMany for the fault.
 use Rattle.std.specs.Prelude.{◌≡◌, ℕ, ◌+◌, ◌-◌, ◌*◌, ◌^◌, List, [], ◌∷◌, ◌==◌, ◌&&◌, length, min, Option, Some, None, Result, Ok, Err, nat_lt, nat_le, if◌then◌else◌, codes}
 use Rattle.std.specs.List.{slice_split}
 use Rattle.std.specs.Result.{result_err}
@@ -28,7 +27,7 @@ abbrev pub ◌>>=◌ : {A B E : Type 0} → Result A E → (A → Result B E) �
 (Ok x) >>= f = f x
 (Err e) >>= f = Err e
 
--- what a function returned, seen by view, is what the reading gives, unless memory ran out
+-- What a function returned is what the reading gives, seen through `view`, unless memory was refused.
 abbrev pub Fails : {Y : Type 0} → TermError → Result Y Kind → Type 0
 Fails errors.Memory read = Unit {0}
 Fails (errors.Bad kind) read = read ≡ Err kind
@@ -37,11 +36,11 @@ abbrev pub Gives : {X Y : Type 0} → (X → Y) → Result X TermError → Resul
 Gives view (Ok x) read = read ≡ Ok (view x)
 Gives view (Err e) read = Fails e read
 
--- the number, where the text is one of at most this size
+-- The number, if the text is one and it is at most this large.
 abbrev pub number_up_to : ℕ → List ℕ → Option ℕ
 number_up_to most text = if is_number text && nat_le (number text) most then Some (number text) else None
 
--- a percentage in millionths: whole percents, or whole percents, a point and up to four decimals
+-- A percentage in millionths: whole percents, perhaps with a point and one to four decimals.
 abbrev pub share_by : List ℕ → Option (List ℕ × List ℕ) → Option ℕ
 share_by text None = if is_number text then Some (min 1000000 (number text * 10000)) else None
 share_by text (Some parts) = if is_number parts.0 && is_number parts.1 && nat_le (length parts.1) 4 then Some
@@ -54,7 +53,7 @@ abbrev pub or_fault : {A : Type 0} → Kind → Option A → Result A Kind
 or_fault kind None = Err kind
 or_fault kind (Some x) = Ok x
 
--- the head, and the argument in parentheses: all between the first `(` and the `)` at the end
+-- The head, and the argument in parentheses: all between the first `(` and the `)` at the end.
 abbrev pub head_by : List ℕ → Option (List ℕ × List ℕ) → Result (List ℕ × Option (List ℕ)) Kind
 head_by term None = Ok (term, None)
 head_by term (Some parts) = or_fault Parentheses (without_last 41 parts.1) >>= (λ argument. Ok (parts.0, Some argument))
@@ -62,7 +61,7 @@ head_by term (Some parts) = or_fault Parentheses (without_last 41 parts.1) >>= (
 unfoldable pub head_of : List ℕ → Result (List ℕ × Option (List ℕ)) Kind
 head_of term = head_by term (cut 40 term)
 
--- the share, and what stands after it
+-- The share, and what comes after it.
 abbrev pub share_at_by : List ℕ → Option (List ℕ × List ℕ) → Result (ℕ × List ℕ) Kind
 share_at_by head None = Ok (1000000, head)
 share_at_by head (Some parts) = or_fault BadPercent (share_of parts.0) >>= (λ share. Ok (share, parts.1))
@@ -70,7 +69,7 @@ share_at_by head (Some parts) = or_fault BadPercent (share_of parts.0) >>= (λ s
 unfoldable pub share_at : List ℕ → Result (ℕ × List ℕ) Kind
 share_at head = share_at_by head (cut 37 head)
 
--- the count, and what stands after it
+-- The count, and what comes after it.
 abbrev pub count_at_by : List ℕ → Option (List ℕ × List ℕ) → Result (Option ℕ × List ℕ) Kind
 count_at_by head None = Ok (None, head)
 count_at_by head (Some parts) = or_fault BadCount (number_up_to 4294967295 parts.0) >>= (λ count. Ok (Some count, parts.1))
@@ -78,7 +77,7 @@ count_at_by head (Some parts) = or_fault BadCount (number_up_to 4294967295 parts
 unfoldable pub count_at : List ℕ → Result (Option ℕ × List ℕ) Kind
 count_at head = count_at_by head (cut 42 head)
 
--- the milliseconds of an argument
+-- The milliseconds that an argument spells.
 abbrev pub millis_of : Option (List ℕ) → Result ℕ Kind
 millis_of None = Err BadMillis
 millis_of (Some text) = or_fault BadMillis (number_up_to 1000000000 text)
@@ -95,7 +94,7 @@ task_of word argument =
     else if bytes_eq word (codes "delay") then (millis_of argument >>= (λ millis. Ok (tasks.Delay millis)))
     else Err UnknownTask
 
--- the term: `[<pct>%][<cnt>*]<task>[(arg)]`
+-- The term, from `[<pct>%][<cnt>*]<task>[(arg)]`.
 unfoldable pub term_of : List ℕ → Result Term Kind
 term_of text = do
   head ← head_of text
@@ -106,13 +105,13 @@ term_of text = do
 
 -- ---- chains, pieces and texts
 
--- what is wrong, in which piece and in which term, both from 1; term 0 is the piece itself
+-- What is wrong, and in which piece and which term. Both are counted from 1; term 0 is the piece itself.
 pub record Fault : Type 0 where
   pub kind : Kind
   pub entry : ℕ
   pub term : ℕ
 
--- what a function returned, seen by view, is what the reading gives, unless memory ran out
+-- What a function returned is what the reading gives, seen through `view`, unless memory was refused.
 abbrev pub FailsAt : {Y : Type 0} → ScenarioFault → Result Y Fault → Type 0
 FailsAt faults.Memory read = Unit {0}
 FailsAt (faults.Bad kind entry term) read = read ≡ Err (record { kind = kind; entry = entry; term = term })
@@ -121,7 +120,7 @@ abbrev pub Reads : {X Y : Type 0} → (X → Y) → Result X ScenarioFault → R
 Reads view (Ok x) read = read ≡ Ok (view x)
 Reads view (Err e) read = FailsAt e read
 
--- a fault of the reading of a term stands at that term
+-- A fault found in reading a term is at that term.
 abbrev pub at : {A : Type 0} → ℕ → ℕ → Result A Kind → Result A Fault
 at entry term (Ok x) = Ok x
 at entry term (Err kind) = Err (record { kind = kind; entry = entry; term = term })
@@ -129,20 +128,20 @@ at entry term (Err kind) = Err (record { kind = kind; entry = entry; term = term
 abbrev pub bad : {A : Type 0} → Kind → ℕ → ℕ → Result A Fault
 bad kind entry term = Err (record { kind = kind; entry = entry; term = term })
 
--- the faults after one more term, of which at most 4096 are allowed
+-- The term, and the number of faults with it, of which there may be 4096.
 abbrev pub count_fault : ℕ → ℕ → ℕ → Term → Result (Term × ℕ) Fault
 count_fault entry number faults t =
     if is_off t.task then Ok (t, faults)
     else if nat_le 4096 faults then bad TooMany entry number
     else Ok (t, faults + 1)
 
--- a term of a chain, and how many faults there are with it
+-- A term of a chain, and the number of faults with it.
 unfoldable pub term_in : ℕ → ℕ → ℕ → List ℕ → Result (Term × ℕ) Fault
 term_in entry number faults text =
     if nat_lt 256 number then bad TooMany entry number
     else (at entry number (term_of (trimmed text)) >>= count_fault entry number faults)
 
--- the terms of a chain from one number on
+-- The terms of a chain, of which the first has this number.
 unfoldable pub chain_from : ℕ → ℕ → ℕ → List (List ℕ) → Result (List Term × ℕ) Fault
 chain_from entry number faults [] = Ok ([], faults)
 chain_from entry number faults (text ∷ texts) = do
@@ -150,7 +149,7 @@ chain_from entry number faults (text ∷ texts) = do
   rest ← chain_from entry (number + 1) first.1 texts
   Ok (first.0 ∷ rest.0, rest.1)
 
--- what was read so far: the entries, the pieces that aren't blank, and the faults
+-- What was read by now: the entries, the number of pieces that aren't blank, and the number of faults.
 pub record Progress : Type 0 where
   pub entries : Entries
   pub pieces : ℕ
@@ -159,7 +158,7 @@ pub record Progress : Type 0 where
 abbrev pub add_entry : Progress → List ℕ → List Term × ℕ → Progress
 add_entry done name chain = record { entries = insert_entry bytes_eq done.entries name chain.0; pieces = done.pieces + 1; faults = chain.1 }
 
--- a piece that isn't blank: a name, `=` and a chain
+-- A piece that isn't blank spells a name, `=` and a chain.
 abbrev pub action : Progress → ℕ → Option (List ℕ × List ℕ) → Result Progress Fault
 action done entry None = bad NoAction entry 0
 action done entry (Some parts) =
@@ -181,17 +180,17 @@ pieces_from done entry (piece ∷ pieces) = do
 abbrev pub nothing : Progress
 nothing = record { entries = []; pieces = 0; faults = 0 }
 
--- the entries that a text spells, or its first fault
+-- The entries that a text spells, or its first fault.
 unfoldable pub reading : List ℕ → Result Entries Fault
 reading text =
     if nat_lt 65536 (length text) then bad TooLong 0 0
     else (pieces_from nothing 1 (slice_split (λ b. b == 59) text) >>= λ done. Ok done.entries)
 
--- the first thing wrong with a text, where something is
+-- The first thing that is wrong with a text, if something is.
 abbrev pub fault : List ℕ → Option Fault
 fault text = result_err (reading text)
 
--- a fault, as the error that says so
+-- The error says the first fault of the text.
 abbrev pub Tells : ScenarioFault → List ℕ → Type 0
 Tells faults.Memory text = Unit {0}
 Tells (faults.Bad kind entry term) text = fault text ≡ Some (record { kind = kind; entry = entry; term = term })

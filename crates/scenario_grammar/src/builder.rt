@@ -23,6 +23,7 @@ impl Builder {
     ghost use Rattle.scenario_grammar.specs.FirstFault.{Reads, piece_in, nothing};
     ghost use Rattle.scenario_grammar.specs.inside.Built.{progress};
 
+    /// Nothing was read yet.
     pub fn new(alloc: Global) -> Builder
         ensures { progress result ≡ nothing }
     {

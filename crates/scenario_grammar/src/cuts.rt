@@ -66,7 +66,7 @@ pub fn cut_once(text: &str, mark: char) -> Option<(&str, &str)>
     text.split_once(mark)
 }
 
-/// The text without its last character, where that is `mark`.
+/// The text without its last character, if that is `mark`.
 pub fn strip_last(text: &str, mark: char) -> Option<&str>
     requires { mark < 128 }
     ensures { option_map (λ x. x.now) result ≡ without_last mark text.now }

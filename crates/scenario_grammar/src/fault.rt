@@ -17,13 +17,13 @@ pub enum Kind {
     NoName,
     /// A term with `(` whose last character isn't `)`.
     Parentheses,
-    /// What stands before the first `%` of a head isn't one or more digits, with or without a point and one to four digits.
+    /// What stands before the first `%` of a head isn't a number: one or more digits, and perhaps a point and one to four digits.
     BadPercent,
-    /// What stands before the first `*` isn't one or more digits of a value up to 4294967295.
+    /// What stands before the first `*` isn't a number of digits alone, up to 4294967295.
     BadCount,
     /// What is left of the head is none of the eight tasks.
     UnknownTask,
-    /// The argument of `sleep` or `delay` is missing, or isn't one or more digits of a value up to 1000000000.
+    /// The argument of `sleep` or `delay` is missing, or isn't a number of digits alone, up to 1000000000.
     BadMillis,
     /// A text of more than 65536 bytes.
     TooLong,
@@ -75,8 +75,8 @@ impl<T: Drop> From<AllocFailed<T>> for TermError {
 /// Why a text is no scenario, or that memory ran out.
 #[derive(Debug, Drop, PartialEq, Eq)]
 pub enum ScenarioFault {
-    /// The first fault of the text: what is wrong, in which piece and in which term, both numbered from 1. A fault of the piece
-    /// itself stands at term 0, a text that is too long at piece 0 and term 0.
+    /// The first fault of the text: what is wrong, in which piece and in which term. Both are numbered from 1. A fault of the piece itself has term
+    /// 0; a text that is too long has piece 0 and term 0.
     Bad { kind: Kind, entry: u32, term: u32 },
     /// Memory was refused.
     Memory,

@@ -34,32 +34,32 @@ pub fn texts_spell_one_scenario()
     ensures { (text : List ℕ) (s other : Entries) → Spells text s → Spells text other → s ≡ other }
 {}
 
-/// What a text is read as it spells, within the limits.
+/// If a text is read as a scenario, it spells that scenario within the limits.
 pub fn texts_read_are_spelled()
     ensures { (text : List ℕ) (s : Entries) → reading text ≡ Ok s
         → (actions : List (List ℕ × List Term)) × Writes text actions × Within text actions × (s ≡ entries_of actions) }
 {}
 
-/// There is a fault just where the text spells nothing or passes a limit.
+/// A text has a fault exactly if it spells nothing or passes a limit.
 pub fn faults_tell()
     ensures spelled { (text : List ℕ) → fault text ≡ None → IsScenarioText text }
     ensures sound { (text : List ℕ) → IsScenarioText text → fault text ≡ None }
 {}
 
-/// Where a text has a fault and isn't too long, the text up to the end of the piece of its first fault has the same first fault, and the
-/// text of the pieces before that one has none.
+/// If a text that isn't too long has its first fault in some piece, the text up to the end of that piece has the same first fault, and the text of
+/// the pieces before it has none.
 pub fn first_fault_is_local()
     ensures same { (text : List ℕ) (f : Fault) → fault text ≡ Some f → (f.kind ≡ TooLong → ⊥) → fault (first_pieces f.entry text) ≡ Some f }
     ensures before { (text : List ℕ) (f : Fault) → fault text ≡ Some f → (f.kind ≡ TooLong → ⊥) → fault (first_pieces (f.entry - 1) text) ≡ None }
 {}
 
-/// A lawful term's printed form spells it, and is read as it.
+/// The printed form of a lawful term spells the term, and is read as the term.
 pub fn printed_terms_are_read()
     ensures spelled { (t : Term) → is_lawful_term t ≡ true → SpellsTerm (term_text t) t }
     ensures again { (t : Term) → is_lawful_term t ≡ true → term_of (term_text t) ≡ Ok t }
 {}
 
-/// A scenario's printed form spells it, has no fault, and is read as it.
+/// The printed form of a scenario spells the scenario, has no fault, and is read as the scenario.
 pub fn printed_scenarios_are_read()
     ensures spelled { (s : Entries) → IsScenario s → Spells (printed s) s }
     ensures again { (s : Entries) → IsScenario s → reading (printed s) ≡ Ok s }

@@ -1,6 +1,6 @@
-//! Scenario texts: parsed, with the exact place of the first fault, and printed. What is printed is parsed as the same scenario.
+//! Scenario texts: parsed, with the exact place of the first fault, and printed. A printed scenario is parsed as the same scenario.
 //!
-//! The values themselves, and what is done to them without their text, are those of `scenario_values`, named again here.
+//! The values themselves, and everything that needs no text, are in `scenario_values`; they are exported from here too.
 #![tactic(auto)]
 
 mod builder;

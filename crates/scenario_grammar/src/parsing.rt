@@ -28,6 +28,7 @@ pub fn read_pieces(alloc: Global, pieces: &[&str]) -> Result<Builder, ScenarioFa
     Ok(builder)
 }
 
+/// The entries of the scenario that a text spells.
 #[tactic(auto, unfolding(crate::specs::FirstFault::reading))]
 fn read_entries(alloc: Global, text: &str) -> Result<IndexMap<Text, Chain>, ScenarioFault>
     ensures { Reads (λ m. m.entries) result (reading text.now) }
@@ -51,12 +52,12 @@ fn read(alloc: Global, text: &str) -> Result<Scenario, ScenarioFault>
     Ok(Scenario::from_entries(entries))
 }
 
-/// The scenario that a text spells: `name=term->term;name=..`, a term `[<percent>%][<count>*]<task>[(argument)]`, with blank
-/// characters allowed round names and terms. A name given again keeps its first place and takes its last chain. The grammar is
-/// that of the FAILPOINTS variable of fail-rs; the limits are 65536 bytes, 256 pieces that aren't blank, 256 terms in a chain and
-/// 4096 faults, overwritten entries counted.
+/// The scenario that a text spells: `name=term->term;name=..`, where a term is `[<percent>%][<count>*]<task>[(argument)]`. Blank characters are
+/// allowed round names and terms. A name that is given again keeps its first place and takes its last chain. The grammar is that of the FAILPOINTS
+/// variable of fail-rs. The limits are 65536 bytes, 256 pieces that aren't blank, 256 terms in a chain, and 4096 faults, including those of
+/// overwritten entries.
 ///
-/// `Err` is the first fault of the text with its place, or want of memory.
+/// `Err` is the first fault of the text with its place, or that memory was refused.
 pub fn parse(alloc: Global, text: &str) -> Result<Scenario, ScenarioFault>
     // What is answered is spelled so, and there is no fault.
     ensures found { IfOk result (λ s. Spells text.now s × (fault text.now ≡ None)) }

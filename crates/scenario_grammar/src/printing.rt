@@ -60,6 +60,7 @@ fn write_count(out: &mut String, count: Option<u32>) -> Result<(), AllocError>
     }
 }
 
+/// Appends the decimals of a percentage, without zeros at their end.
 fn write_decimals(out: &mut String, n: u32) -> Result<(), AllocError>
     requires { n < 10000 }
     ensures { OnOk result (string_bytes out.new ≡ string_bytes out.old ++ decimals_of 4 n) }
@@ -85,6 +86,7 @@ fn write_decimals(out: &mut String, n: u32) -> Result<(), AllocError>
     write!(out, "{n}")
 }
 
+/// Appends the point and the decimals of a percentage, if it has any.
 fn write_point(out: &mut String, n: u32) -> Result<(), AllocError>
     requires { n < 10000 }
     ensures { OnOk result (string_bytes out.new ≡ string_bytes out.old ++ point_and n) }
@@ -96,6 +98,7 @@ fn write_point(out: &mut String, n: u32) -> Result<(), AllocError>
     write_decimals(out, n)
 }
 
+/// Appends a share as a percentage, unless it is full.
 #[tactic(auto, unfolding(scenario_values::specs::Printed::share_text))]
 fn write_share(out: &mut String, share: u32) -> Result<(), AllocError>
     ensures { OnOk result (string_bytes out.new ≡ string_bytes out.old ++ share_text share) }
@@ -108,7 +111,7 @@ fn write_share(out: &mut String, share: u32) -> Result<(), AllocError>
     out.push_str("%")
 }
 
-/// Appends a term in its printed form: its share where that isn't full, its count where it has one, and its task.
+/// Appends a term in its printed form: its share unless that is full, its count if it has one, and its task.
 ///
 /// An error means that memory was refused; the text may then have some of the bytes.
 #[tactic(auto, unfolding(scenario_values::specs::Printed::term_text))]
@@ -146,8 +149,8 @@ fn write_entry(out: &mut String, first: bool, name: &Text, terms: &[Term]) -> Re
     write_chain(out, terms)
 }
 
-/// The printed form of a scenario: entries in order joined by `;`, terms by `->`, no blank added. A share under 1000000 prints as
-/// a percentage with no needless zeros. It is at most 65536 bytes. `Err` is want of memory.
+/// The printed form of a scenario: entries in order joined by `;`, terms by `->`, no blank added. A share under 1000000 prints as a percentage with
+/// no needless zeros. It is at most 65536 bytes. An error means that memory was refused.
 pub fn print(alloc: Global, scenario: &Scenario) -> Result<String, AllocError>
     ensures bytes { IfOk result (λ text. string_bytes text ≡ printed scenario.now) }
     ensures spelled { IfOk result (λ text. Spells (string_bytes text) scenario.now × (fault (string_bytes text) ≡ None)) }
@@ -161,7 +164,7 @@ pub fn print(alloc: Global, scenario: &Scenario) -> Result<String, AllocError>
     Ok(out)
 }
 
-/// A scenario printed and parsed again: the same scenario, or want of memory.
+/// A scenario printed and parsed again: the same scenario. The only error is that memory was refused.
 pub fn parse_printed(alloc: Global, scenario: &Scenario) -> Result<Scenario, ScenarioFault>
     ensures same { IfOk result (λ read. read ≡ scenario.now) }
     ensures only { IfErr result (λ fault. fault ≡ ScenarioFault.Memory) }

@@ -24,7 +24,7 @@ fn is_number(text: &str) -> bool
     !text.is_empty() && all_digits(text.as_bytes())
 }
 
-/// The number, where the text is one of at most this size.
+/// The number that the text is, if it is digits alone and at most this.
 fn number_up_to(most: u32, text: &str) -> Option<u32>
     ensures { result ≡ number_up_to most text.now }
 {
@@ -37,7 +37,7 @@ fn number_up_to(most: u32, text: &str) -> Option<u32>
     }
 }
 
-/// The whole percents, at most a hundred.
+/// The whole percents of a share, at most a hundred.
 fn whole_percents(text: &str) -> u32
     requires { is_number text.now ≡ true }
     ensures { result ≡ min 100 (number text.now) }
@@ -116,6 +116,7 @@ fn count_at(head: &str) -> Result<(Option<u32>, &str), TermError>
     }
 }
 
+/// The milliseconds that the argument of `sleep` or `delay` gives.
 fn millis_of(argument: Option<&str>) -> Result<u32, TermError>
     ensures { Gives (λ n. n) result (millis_of (option_map (λ t. t.now) argument.entry)) }
 {
@@ -128,6 +129,7 @@ fn millis_of(argument: Option<&str>) -> Result<u32, TermError>
     }
 }
 
+/// A copy of the argument, if there is one.
 fn kept(alloc: Global, argument: Option<&str>) -> Result<Option<Text>, TermError>
     ensures { Gives (λ t. t) result (Ok (option_map (λ t. t.now) argument.entry)) }
 {

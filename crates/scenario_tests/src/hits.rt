@@ -38,7 +38,7 @@ fn words_of(stream: u64) -> ChaCha8Rng {
     generator
 }
 
-/// The letter of a return: the first one of its text, where it has one.
+/// The letter of a return: the first one of its text, if it has one.
 fn letter_of(text: Option<&str>) -> char {
     match text {
         Some(text) => text.chars().next().unwrap_or('R'),
@@ -69,7 +69,7 @@ pub fn answers(
     Ok(letters)
 }
 
-/// What a session tells, but for the notes' texts.
+/// What a session says of its run, without the notes' texts.
 #[derive(Clone, Copy, Debug, PartialEq, Eq)]
 struct Told {
     asked: usize,
@@ -89,7 +89,7 @@ fn tell(session: &Session<'_>) -> Told {
     }
 }
 
-/// What so many hits of a point are answered, by a session of so many hits, and what it tells then.
+/// How this many hits of a point are answered, by a session of this many hits, and what it says of the run then.
 fn said(
     alloc: Global,
     stream: u64,
@@ -148,7 +148,7 @@ fn a_session_stops_at_its_limit_at_a_panic_and_at_a_pause(rt: HostRuntime) -> Re
     Ok(())
 }
 
-/// The points that a session is asked by so many hits of a point, and the notes that it leaves.
+/// The points that a session was asked after this many hits of a point, and the notes that it leaves.
 fn left(alloc: Global, point: u32, count: u32) -> Result<(Vec<u32>, Vec<Note>), Fail> {
     if point as usize >= POINTS.len() {
         return Err(Fail::from("no such point"));

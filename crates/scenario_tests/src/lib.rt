@@ -1,5 +1,5 @@
-//! Tests of scenarios through calls of the library: their values, parts of them, and the hits of a session under them. What their texts mean
-//! and what is wrong with texts, the program shows: tests/scenarios.t has it.
+//! Tests of scenarios through calls of the library: their values, parts of them, and the hits of a session under them. What texts mean, and what is
+//! wrong with them, is tested by tests/scenarios.t.
 #![tactic(auto)]
 
 #[cfg(test)]

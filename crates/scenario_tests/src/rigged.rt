@@ -26,7 +26,7 @@ fn rig(place: Hit) -> Rig {
     }
 }
 
-/// A text of a return; none, where it can't be one.
+/// The text of a return; none if it can't be one.
 fn argument(text: &str) -> Argument {
     if is_argument(text) {
         Argument::of(text).unwrap_or(Argument::none())
@@ -35,7 +35,7 @@ fn argument(text: &str) -> Argument {
     }
 }
 
-/// What four hits of a point are answered over a fault table, a letter each.
+/// How four hits of a point are answered over a fault table, a letter each.
 fn over(alloc: Global, table: &FaultTable<'_>, point: u32) -> Result<String, Fail>
     requires { point < length table.now.names }
 {
@@ -43,7 +43,7 @@ fn over(alloc: Global, table: &FaultTable<'_>, point: u32) -> Result<String, Fai
     Ok(answers(alloc, &mut session, point, 4)?)
 }
 
-/// What they are answered under a scenario.
+/// How they are answered under a scenario.
 fn under(alloc: Global, scenario: &str, point: u32) -> Result<String, Fail> {
     if point as usize >= POINTS.len() {
         return Err(Fail::from("no such point"));
@@ -53,7 +53,7 @@ fn under(alloc: Global, scenario: &str, point: u32) -> Result<String, Fail> {
     Ok(answers(alloc, &mut session, point, 4)?)
 }
 
-/// Two rigged hits, the scenario that says the same, and what four hits of each point are answered.
+/// Two rigged hits, the scenario that says the same, and how four hits of each point are answered.
 #[derive(Drop)]
 struct Rigged {
     first: Hit,

@@ -51,7 +51,7 @@ kept_all s = all_from (range_with_len 0 (all_faults s)) 0 s (λ k l m. holds_ran
 
 -- ---- a part of what was kept
 
--- for every number of a fault: the last set holds it where the first one does, and the second one holds its number among those kept
+-- For every number of a fault: the last set holds it exactly if the first one does and the second one holds its number among those kept.
 abbrev pub Parts : List ℕ → List ℕ → List ℕ → Type 0
 Parts set own last = (k : ℕ) → holds last k ≡ (holds set k && holds own (rank set k))
 

@@ -293,7 +293,7 @@ pub keeping_is_done : (set : List ℕ) (done total left : Entries) (number passe
 unfolding kept_from
 keeping_is_done set done total left number passed l k = sym (ap (λ es. insert_all bytes_eq done (kept_from set number es)) l) ∙ k.so_far
 
--- what the loop over the entries keeps, where it collects faults
+-- What the loop over the entries keeps if it collects faults.
 pub record FaultsWalk (done total : List Place) (left : Entries) (entry : ℕ) : Type 0 where
   pub few : entry + length left ≤ 256
   pub short : AllByRecursion (λ e. length e.1 ≤ 256) left

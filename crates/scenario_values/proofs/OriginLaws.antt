@@ -1,4 +1,4 @@
--- Where the faults of a tidied scenario come from.
+-- The faults that those of a tidied scenario come from.
 use Rattle.std.proofs.Common.{◌≡◌, ℕ, zero, suc, ◌+◌, ◌-◌, ◌<◌, ◌≤◌, List, [], ◌∷◌, ◌++◌, Bool, true, false, cond, not, eqb, ◌&&◌, ◌||◌, nat_lt, length, map, take, get_or, Option, Some, None, refl, ap, sym, ◌∙◌, arith, subst, append_assoc, length-append}
 use Rattle.std.specs.Prelude.{slice_get, slice_index, remove}
 use Rattle.std.specs.List.{AllByRecursion, range_with_len, suffix_len, position_or_len}
@@ -318,7 +318,7 @@ apart_case : (ns : List ℕ) (k j : ℕ) (b : Bool) → eqb k j ≡ b → holds 
 apart_case ns k j true e h f = let same : k ≡ j = equal_is k j e in sym (sym f ∙ ap (holds ns) (sym same) ∙ h)
 apart_case ns k j false e h f = refl
 
--- all faults but one that is dropped are all faults of the tidied scenario
+-- All faults except one that is dropped are all faults of the tidied scenario.
 pub origins_dropped : (s : Entries) (j : ℕ) → holds (origins s) j ≡ false → SameFaults (remove (range_with_len 0 (all_faults s)) j) (range_with_len 0 (all_faults (tidied s))) 0 (origins s)
 origins_dropped s j f =
     let ns = origins s in

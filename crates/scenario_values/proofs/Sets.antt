@@ -111,7 +111,7 @@ and_false : (a : Bool) → false ≡ (a && false)
 and_false true = refl
 and_false false = refl
 
--- of the members at some places, a number is one where the set holds it and its place is one of these
+-- A number is one of the members at some places if the set holds it and its place is one of these.
 pub holds_members : (k : ℕ) (set places : List ℕ) → Ascends set → AllByRecursion (λ i. i < length set) places → holds (members_at set places) k ≡ (holds set k && holds places (rank set k))
 holds_members k set [] a w = and_false (holds set k)
 holds_members k set (i ∷ places) a w =

@@ -40,7 +40,7 @@ ascends_from low n (x ∷ xs) e =
 le_case : (n k : ℕ) → eqb k n ≡ false → nat_le n k ≡ nat_le (n + 1) k
 le_case n k e = grind (arith, nat_tests)
 
--- where the set lacks a number, it has the same numbers from that one on and from the next one on
+-- If the set lacks a number, it has the same numbers from that one on and from the next one on.
 pub from_absent : (n : ℕ) (set : List ℕ) → holds set n ≡ false → from n set ≡ from (n + 1) set
 from_absent n [] e = refl
 from_absent n (k ∷ ks) e =
@@ -74,7 +74,7 @@ present_case n k ks false e a f t =
     let next : nat_le (n + 1) k ≡ false = grind (arith, nat_tests) in
     ap (λ b. cond b (k ∷ from n ks) (from n ks)) here ∙ f t ∙ ap (λ b. n ∷ cond b (k ∷ from (n + 1) ks) (from (n + 1) ks)) (sym next)
 
--- where the set holds a number, it stands first of those from that one on
+-- If the set holds a number, it stands first of those from that one on.
 pub from_present : (n : ℕ) (set : List ℕ) → Ascends set → holds set n ≡ true → from n set ≡ n ∷ from (n + 1) set
 from_present n [] a e = absurd cc
 from_present n (k ∷ ks) a e = present_case n k ks (eqb k n) refl a.0 (λ t. from_present n ks a.1 t) e

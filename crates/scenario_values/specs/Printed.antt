@@ -6,16 +6,16 @@ use Rattle.scenario_values.specs.declared.term.Term.{Term}
 use Rattle.scenario_values.specs.declared.term.Task.{Task}
 use Rattle.scenario_values.specs.declared.term.Task.TheVariants as tasks
 
--- the digits of n in this many places, without zeros at the end
+-- The digits of n with this many places, without zeros at the end.
 abbrev pub decimals_of : ℕ → ℕ → List ℕ
 decimals_of zero n = []
 decimals_of (suc places) n = if n == 0 then [] else (decimal (n / 10 ^ places) ++ decimals_of places (n % 10 ^ places))
 
--- the point and the decimals, where there are any
+-- The point and the decimals, if there are any.
 abbrev pub point_and : ℕ → List ℕ
 point_and n = if n == 0 then [] else (46 ∷ decimals_of 4 n)
 
--- a share under 1000000, as a percentage
+-- A share under 1000000, as a percentage. The whole share isn't printed.
 unfoldable pub share_text : ℕ → List ℕ
 share_text share = if nat_lt share 1000000 then decimal (share / 10000) ++ point_and (share % 10000) ++ (37 ∷ []) else []
 
@@ -40,7 +40,7 @@ task_text (tasks.Delay millis) = codes "delay" ++ argument_text (Some (decimal m
 unfoldable pub term_text : Term → List ℕ
 term_text t = share_text t.share ++ count_text t.count ++ task_text t.task
 
--- the terms, joined by `->`
+-- The terms, joined by `->`.
 unfoldable pub chain_text : List Term → List ℕ
 chain_text [] = []
 chain_text (t ∷ ts) = term_text t ++ flat_map (λ u. 45 ∷ 62 ∷ term_text u) ts
@@ -48,7 +48,7 @@ chain_text (t ∷ ts) = term_text t ++ flat_map (λ u. 45 ∷ 62 ∷ term_text u
 abbrev pub entry_text : List ℕ × List Term → List ℕ
 entry_text e = e.0 ++ (61 ∷ chain_text e.1)
 
--- the entries, joined by `;`
+-- The entries, joined by `;`.
 unfoldable pub printed : List (List ℕ × List Term) → List ℕ
 printed [] = []
 printed (e ∷ es) = entry_text e ++ flat_map (λ f. 59 ∷ entry_text f) es

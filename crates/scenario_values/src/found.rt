@@ -1,4 +1,4 @@
-//! Where a name stands among entries.
+//! Finds the entry of a name.
 ghost use Rattle.std.specs.Prelude.{◌≡◌, ◌≤◌, length};
 ghost use Rattle.scenario_values.specs.Scenario.{entry_of};
 

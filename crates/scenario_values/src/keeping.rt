@@ -11,14 +11,14 @@ use crate::text::Text;
 use indexmap::IndexMap;
 use std::alloc::{AllocError, Global};
 
-/// Where a walk over a scenario's faults stands: the number of the next fault, and how many numbers of the set it has passed.
+/// The state of a walk over a scenario's faults: the number of the next fault, and how many numbers of the set it has passed.
 #[derive(Clone, Copy)]
 struct Walk {
     number: u32,
     passed: usize,
 }
 
-/// Whether these are numbers of so many faults, from 0, in ascending order, each once: the condition of `keep`.
+/// Whether these are numbers of faults below this count, in ascending order, each once: the condition of `keep`.
 pub fn are_faults(count: u32, set: &[u32]) -> bool
     ensures { result ≡ are_faults count set.now }
 {
@@ -42,7 +42,7 @@ fn holds_next(set: &[u32], walk: Walk) -> bool
     walk.passed < set.len() && set[walk.passed] == walk.number
 }
 
-/// A copy of the term, switched off where it is a fault outside the set, and where the walk stands then.
+/// A copy of the term, switched off if it is a fault outside the set; and where the walk stands after it.
 fn keep_term(set: &[u32], walk: Walk, term: &Term) -> Result<(Term, Walk), AllocError>
     requires small { walk.number + 1 < 2 ^ 32 }
     requires ascends { Ascends set.now }
@@ -69,7 +69,7 @@ fn keep_term(set: &[u32], walk: Walk, term: &Term) -> Result<(Term, Walk), Alloc
     Ok((off, Walk { number, passed }))
 }
 
-/// A copy of the chain with the faults of the set alone, and where the walk stands then.
+/// A copy of the chain with only the faults of the set, and where the walk stands after it.
 fn keep_chain(
     alloc: Global,
     set: &[u32],
@@ -93,7 +93,7 @@ fn keep_chain(
     Ok((kept, walk))
 }
 
-/// The entries with the faults of the set alone.
+/// The entries with only the faults of the set.
 fn kept_entries(
     alloc: Global,
     set: &[u32],
@@ -116,9 +116,9 @@ fn kept_entries(
     Ok(to)
 }
 
-/// The scenario with the faults of the set alone: the task of each other fault is `off`, its share and count stay, so that later
-/// terms draw the same words. The numbers are those of `faults`, ascending, each once (`are_faults` is the test). The time is linear in
-/// the scenario. The rule is this project's own.
+/// The scenario with only the faults of the set. Each other fault gets the task `off` and keeps its share and count, so that later terms draw the
+/// same random words. The set has the numbers of `faults`, in ascending order, each once (`are_faults` tests that). The time is linear in the
+/// scenario. The rule is this project's own.
 pub fn keep(alloc: Global, scenario: &Scenario, set: &[u32]) -> Result<Scenario, AllocError>
     requires { are_faults (all_faults scenario.now) set.now ≡ true }
     ensures { IfOk result (λ s. s ≡ kept set.now scenario.now) }

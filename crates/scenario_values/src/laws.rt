@@ -1,5 +1,5 @@
-//! Laws of `faults`, `keep` and `tidy`, as contracts of functions that do nothing. Each speaks of the entries of scenarios, and of sets
-//! of faults as lists of their numbers.
+//! Laws of `faults`, `keep` and `tidy`, as contracts of functions that do nothing. They are about the entries of scenarios, and about sets of faults
+//! as lists of their numbers.
 ghost use Rattle.std.specs.Prelude.{◌≡◌, ◌<◌, ℕ, List, true, false, Some, length, map, remove, slice_get, slice_index};
 ghost use Rattle.std.specs.List.{AllByRecursion, range_with_len};
 ghost use Rattle.scenario_values.specs.Scenario.{Entries, all_faults};
@@ -37,7 +37,7 @@ pub fn kept_faults_are_the_faults()
         → map (λ x. Some x) (named_faults (kept set s)) ≡ map (slice_get (named_faults s)) set }
 {}
 
-/// Keeping a part of what was kept is keeping that part of the scenario: the part's numbers are read through the set.
+/// Keeping a part of what was kept is the same as keeping that part of the scenario: number i of the part is then the set's i-th number.
 pub fn keeping_again_is_keeping_a_part()
     ensures part { (s : Entries) (set places : List ℕ)
         → are_faults (all_faults s) set ≡ true
@@ -60,8 +60,8 @@ pub fn tidied_faults_have_origins()
         → map (λ x. Some x) (named_faults (tidied s)) ≡ map (slice_get (named_faults s)) (origins s) }
 {}
 
-/// A set of faults of the tidied scenario, by their own numbers, holds the same faults as the set of their origins. So do all faults
-/// but one, and all of the scenario but its origin; and so do all faults, and all of the scenario but one that tidying drops.
+/// A set of faults of the tidied scenario corresponds to the set of their origins in the scenario: all faults but one to all of the scenario's but
+/// its origin, and all faults to all of the scenario's but one that tidying drops.
 pub fn faults_follow_their_origins()
     ensures part { (s : Entries) (own : List ℕ)
         → AllByRecursion (λ i. i < all_faults (tidied s)) own

@@ -1,4 +1,5 @@
-//! Scenarios as values: names with chains of terms, their faults, and scenarios with fewer of them.
+//! Scenarios as values: names with chains of terms, the faults among these, and scenarios with fewer faults. How a text spells a scenario is no
+//! matter of this crate.
 #![tactic(auto)]
 
 mod building;

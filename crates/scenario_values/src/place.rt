@@ -1,6 +1,6 @@
-//! Where a term of a scenario stands.
+//! The place of a term in a scenario.
 
-/// Where a term of a scenario stands.
+/// The place of a term in a scenario.
 #[derive(Clone, Copy, Debug, PartialEq, Eq)]
 pub struct Place {
     /// The entry's number in the order of entries, from 0 to 255.

@@ -17,9 +17,11 @@ use crate::text::Text;
 use indexmap::IndexMap;
 use std::marker::Model;
 
-/// Names of points with their chains, in order. Each value keeps these limits, which are this project's own: at most 256 entries, 1 to
-/// 256 terms a chain, 4096 terms whose task isn't `off`, and 65536 bytes of printed form; distinct names, each lawful (not empty, no
-/// blank character at either end, no `;` and no `=`); and lawful terms. A name that a target doesn't have is no error, and never acts.
+/// Names of points with their chains, in order.
+///
+/// Each value keeps these limits, which are this project's own: at most 256 entries, 1 to 256 terms in a chain, 4096 terms whose task isn't `off`,
+/// and 65536 bytes of printed form. Names are distinct and lawful (not empty, no blank character at either end, no `;` and no `=`), and terms are
+/// lawful. A name that a target doesn't have is no error, and never acts.
 #[derive(Debug, Drop)]
 pub struct Scenario {
     entries: IndexMap<Text, Chain>,

@@ -5,21 +5,21 @@ ghost use Rattle.scenario_values.specs.Scenario.{is_off};
 use crate::text::Text;
 use std::alloc::AllocError;
 
-/// What a term does when it acts. The words and their arguments are those of fail-rs; no argument and an empty one are different. A
-/// lawful argument holds no `;` and no `->`.
+/// What a term does when it acts. The tasks and their arguments are those of fail-rs. No argument and an empty argument are different. A lawful
+/// argument holds no `;` and no `->`.
 #[derive(Clone, Debug, Drop, PartialEq, Eq)]
 pub enum Task {
     /// Nothing. Each other task makes its term a fault.
     Off,
     /// The operation fails, with this text if there is one.
     Return(Option<Text>),
-    /// So many milliseconds, 0 to 1000000000, are added to the simulated time.
+    /// This many milliseconds, 0 to 1000000000, are added to the simulated time.
     Sleep(u32),
     /// The component stops, with this text if there is one.
     Panic(Option<Text>),
     /// A note, with this text if there is one.
     Print(Option<Text>),
-    /// The component stops, and what it would have done stays open.
+    /// The component stops for good, and nothing is known of what it would have done.
     Pause,
     /// Nothing that can be seen.
     Yield,
@@ -30,9 +30,9 @@ pub enum Task {
 /// How often a term acts, how many times, and what it does then.
 #[derive(Clone, Debug, Drop, PartialEq, Eq)]
 pub struct Term {
-    /// In millionths, 0 to 1000000: of the hits that reach the term, how many it acts at. fail-rs writes a percentage.
+    /// At how many of the hits that reach the term it acts, in millionths, 0 to 1000000. fail-rs writes a percentage.
     pub share: u32,
-    /// How many times the term acts at most, 0 to 4294967295; `None` is without end.
+    /// How many times the term acts at most, 0 to 4294967295; `None` is without a limit.
     pub count: Option<u32>,
     pub task: Task,
 }

@@ -10,7 +10,7 @@ use std::alloc::{AllocError, Global};
 use std::hash::{Hash, Hasher};
 use std::marker::Model;
 
-/// A name of a point, or a task's argument. Two texts are equal where their bytes are.
+/// A name of a point, or a task's argument. Two texts are equal if their bytes are.
 #[derive(Debug, Drop)]
 pub struct Text {
     text: String,

@@ -39,6 +39,7 @@ fn drop_used(terms: &mut Vec<Term>)
     terms.retain(|t| is_live(t));
 }
 
+/// The place of the first term that acts at each hit that reaches it.
 fn endless_at(terms: &[Term]) -> Option<usize>
     ensures { result ≡ position is_endless terms.now }
 {
@@ -65,7 +66,7 @@ fn drop_idle_end(terms: &mut Vec<Term>)
     terms.truncate(n);
 }
 
-/// The count of two terms in one, where they are joined.
+/// The count of two terms joined into one; `None` if they aren't joined.
 fn joint(t: &Term, u: &Term) -> Option<u32>
     ensures { result ≡ joint t.now u.now }
 {
@@ -78,7 +79,7 @@ fn joint(t: &Term, u: &Term) -> Option<u32>
     }
 }
 
-/// Joins the next term into the last one, or makes it the last one.
+/// Joins the next term into the last one if that may be; otherwise it becomes the last one.
 fn join_next(done: &mut Vec<Term>, last: Term, next: &Term) -> Result<Term, AllocError>
     ensures { IfOk result (λ t. (rest : List Term) → done.old.items ++ joined_onto last (next.now ∷ rest) ≡ done.new.items ++ joined_onto t rest) }
 {
@@ -96,7 +97,7 @@ fn join_next(done: &mut Vec<Term>, last: Term, next: &Term) -> Result<Term, Allo
     }
 }
 
-/// Joins each term into the one before it, from left to right, where that may be.
+/// Joins each term into the one before it if that may be, from left to right.
 fn join_all(alloc: Global, first: &Term, rest: &[Term]) -> Result<Vec<Term>, AllocError>
     ensures { IfOk result (λ v. v.items ≡ joined_onto first.now rest.now) }
 {
@@ -119,6 +120,7 @@ fn join_terms(alloc: Global, terms: &[Term]) -> Result<Vec<Term>, AllocError>
     }
 }
 
+/// A chain after the four steps of `tidy`.
 #[tactic(auto, unfolding(crate::specs::Tidied::tidied_chain))]
 fn tidy_chain(alloc: Global, chain: &Chain) -> Result<Chain, AllocError>
     ensures { IfOk result (λ c. c ≡ tidied_chain chain.now) }
@@ -141,7 +143,7 @@ fn put_entry(to: &mut IndexMap<Text, Chain>, name: &Text, chain: Chain) -> Resul
     Ok(())
 }
 
-/// The entries with their chains tidied, where a term is left.
+/// The entries with their chains tidied; an entry of which no term is left is dropped.
 fn tidied_entries(
     alloc: Global,
     from: &IndexMap<Text, Chain>,
@@ -155,10 +157,15 @@ fn tidied_entries(
     Ok(to)
 }
 
-/// The scenario without what can't act. In each chain, in this order: the terms of count 0 are dropped; so is all that follows the first
-/// term with no count and share 1000000; from left to right, a term is joined into the one before it where both are `off` with share
-/// 1000000 and a count and the sum is at most 4294967295; `off` terms of share 1000000 at the end are dropped. Then entries without
-/// terms are dropped. The rules are this project's own.
+/// The scenario without what can't act. The rules are this project's own. In each chain, in this order:
+///
+/// 1. the terms of count 0 are dropped;
+/// 2. everything after the first term with no count and share 1000000 is dropped;
+/// 3. from left to right, a term is joined into the one before it if both are `off` with share 1000000 and a count, and the sum is at most
+///    4294967295;
+/// 4. `off` terms of share 1000000 at the end are dropped.
+///
+/// Then entries without terms are dropped.
 pub fn tidy(alloc: Global, scenario: &Scenario) -> Result<Scenario, AllocError>
     ensures { IfOk result (λ s. s ≡ tidied scenario.now) }
 {

@@ -58,7 +58,7 @@ kept_of_files (b ∷ keep) [] used h = tt
 kept_of_files (true ∷ keep) (p ∷ writes) used h = (h.0, kept_of_files keep writes used h.1)
 kept_of_files (false ∷ keep) (p ∷ writes) used h = kept_of_files keep writes used h.1
 
--- ---- where a name leads once they last
+-- ---- what a name leads to once the names last
 
 led_in_use : (c : Call) (file : Option ℕ) (n : ℕ) (old : Option ℕ) (used : ℕ) → InUse used file → InUse used old → InUse used (led_by c file n old)
 led_in_use (call.Create m) file n old used h k = either_in_use (n == m) file old used h k

@@ -43,7 +43,7 @@ kept_next [] (q ∷ writes) (suc i) p within is = refl
 kept_next (b ∷ keep) (q ∷ writes) zero p within is = by_answer b keep q writes ∙ ap (λ (x : Pending). cond b (x ∷ kept keep writes) (kept keep writes)) (sym is)
 kept_next (b ∷ keep) (q ∷ writes) (suc i) p within is = kept_next keep writes i p (omega (arith, within)) is
 
--- of a file in use
+-- Each of these writes is to a file in use.
 pub of_files_at : (writes : List Pending) (used i : ℕ) (p : Pending) → AreOfFiles writes used → i < length writes → p ≡ get_or writes i p
     → IfSome p.file (λ f. f < used)
 of_files_at [] used i p all within is = absurd (omega (arith, within))

@@ -34,7 +34,7 @@ cuts_keeping old new keep settles none es k =
       pending = none;
     }
 
--- ---- names, where all is kept
+-- ---- names, if all is kept
 
 leads_more : (writes : List Pending) (p : Pending) (n : ℕ) (x : Option ℕ) → leads_with (writes ++ p ∷ []) n x ≡ led_by p.call p.file n (leads_with writes n x)
 leads_more [] p n x = refl
@@ -116,7 +116,7 @@ all_names (Unlink m ∷ es) n =
 all_names (SyncDir ∷ es) n = leads_contents (pending es) n (leads es Live n)
 all_names (PowerCut keep ∷ es) n = refl
 
--- ---- contents, where all is kept
+-- ---- contents, if all is kept
 
 holds_more : (writes : List Pending) (p : Pending) (f : ℕ) (x : List ℕ) → holds_with (writes ++ p ∷ []) f x ≡ held_with p f (holds_with writes f x)
 holds_more [] p f x = refl
@@ -150,7 +150,7 @@ at_end (byte ∷ bytes) old =
     ∙ ap (λ (l : List ℕ). old ++ (byte ∷ bytes) ++ l) (drop_all (length old + length (byte ∷ bytes)) old (omega arith))
     ∙ append-nil (old ++ (byte ∷ bytes))
 
--- what is appended is written where the file ends
+-- What is appended is written at the end of the file.
 appended_here : (b : Bool) (place : ℕ) (bytes old : List ℕ) → (b ≡ true → place ≡ length old)
     → cond b (overwritten place bytes old) old ≡ cond b (old ++ bytes) old
 appended_here true place bytes old h = ap (λ p. overwritten p bytes old) (h refl) ∙ at_end bytes old

@@ -1,34 +1,34 @@
 -- What a list of effects on a file device means, the newest effect first: where names lead, what files hold, and which writes are pending.
--- The device is a disk with a cache, as seen by a program that calls pwrite(2), ftruncate(2), fsync(2), rename(2), link(2) and unlink(2) of Linux: what was
--- written to a file or cut off it lasts once the file was synced, and a change of names lasts once the directory was synced. At a power cut what is
--- pending is lost, or kept: then it is there, and lasts.
+-- The device is a disk with a cache, as seen by a program that calls pwrite(2), ftruncate(2), fsync(2), rename(2), link(2) and unlink(2) of Linux:
+-- what was written to a file or cut off it lasts once the file was synced, and a change of names lasts once the directory was synced. At a power cut
+-- each pending write is lost or kept. If it is kept, it is there afterwards and lasts.
 -- The list holds what the device accepted since it was made or last cleared. A call that is refused, and a rename of a name to itself, add nothing.
 use Rattle.std.specs.Prelude.{ℕ, ◌+◌, ◌==◌, not, if◌then◌else◌, Bool, List, [], ◌∷◌, ◌++◌, take, filter, Option, Some, None, option_map}
 use Rattle.sim_device.specs.declared.pending.Call.TheVariants as call
 use Rattle.sim_device.specs.Pending.{Pending, is_file, overwritten, is_of_contents, is_to, leads_with, holds_with, further, written, shortened, long, renames, kept}
 
--- one accepted call. Names are numbers
+-- One accepted call. Names are numbers.
 pub data Effect : Type 0 where
   Create : ℕ → Effect
   Append : ℕ → List ℕ → Effect
-  -- bytes over those at a place
+  -- Writes bytes over those at a place.
   Write : ℕ → ℕ → List ℕ → Effect
-  -- how many bytes the file has at most from then on
+  -- Cuts the file to at most this many bytes.
   Truncate : ℕ → ℕ → Effect
   Sync : ℕ → Effect
   Rename : ℕ → ℕ → Effect
   Link : ℕ → ℕ → Effect
   Unlink : ℕ → Effect
   SyncDir : Effect
-  -- whether each pending write is kept, in their order. Those past the answers are lost
+  -- For each pending write in order, whether it is kept. Writes without an answer are lost.
   PowerCut : List Bool → Effect
 
--- what is there now, and what is there after a power cut
+-- What is there now, and what is there after a power cut.
 pub data Side : Type 0 where
   Live : Side
   Lasting : Side
 
--- how many files were created. A file's number is how many were created before it
+-- How many files were created. A file's number is how many were created before it.
 abbrev pub created : List Effect → ℕ
 created [] = 0
 created (Create m ∷ before) = created before + 1
@@ -43,8 +43,8 @@ created (SyncDir ∷ before) = created before
 created (PowerCut keep ∷ before) = created before
 
 abbrev mutual
-  -- the file that a name leads to. Live names change with each call that names them; lasting names are the live names of the last `SyncDir`; a power
-  -- cut leaves the lasting names, with the changes that it keeps, and they last
+  -- The file that a name leads to. Live names change with each call that names them. Lasting names are the live names of the last `SyncDir`. A power
+  -- cut leaves the lasting names, with the changes that it keeps, and these last.
   pub leads : List Effect → Side → ℕ → Option ℕ
   leads [] side n = None
   leads (Create m ∷ before) Live n = if n == m then Some (created before) else leads before Live n
@@ -63,8 +63,8 @@ abbrev mutual
   leads (Unlink m ∷ before) Lasting n = leads before Lasting n
   leads (PowerCut keep ∷ before) side n = leads_with (kept keep (pending before)) n (leads before Lasting n)
 
-  -- what a file holds. Live contents are what the last power cut left, with all that was appended, written over and cut off since; lasting
-  -- contents are the live ones of the file's last `Sync`. A power cut leaves the lasting contents, with the writes that it keeps, and they last
+  -- What a file holds. Live contents are what the last power cut left, with all that was appended, written over and cut off since. Lasting contents
+  -- are the live ones of the file's last `Sync`. A power cut leaves the lasting contents, with the writes that it keeps, and these last.
   pub contents : List Effect → Side → ℕ → List ℕ
   contents [] side f = []
   contents (Create m ∷ before) side f = if f == created before then [] else contents before side f
@@ -83,7 +83,7 @@ abbrev mutual
   contents (Unlink m ∷ before) side f = contents before side f
   contents (SyncDir ∷ before) side f = contents before side f
 
-  -- the pending writes, in the order in which they were made
+  -- The pending writes, in the order in which they were made.
   pub pending : List Effect → List Pending
   pending [] = []
   pending (Create m ∷ before) = pending before ++ renames (call.Create m) (Some (created before)) ∷ []
@@ -98,6 +98,6 @@ abbrev mutual
   pending (SyncDir ∷ before) = filter (λ p. is_of_contents p.call) (pending before)
   pending (PowerCut keep ∷ before) = []
 
--- what a name reads, if it leads to a file
+-- What a name reads, if it leads to a file.
 abbrev pub held : List Effect → Side → ℕ → Option (List ℕ)
 held effects side n = option_map (contents effects side) (leads effects side n)

@@ -1,14 +1,14 @@
--- What the laws of file effects speak of, the newest effect first.
+-- Conditions on a list of effects, the newest first, that the laws of file effects use.
 use Rattle.std.specs.Prelude.{◌≡◌, ℕ, ◌==◌, Bool, false, List, [], ◌∷◌, ◌++◌}
 use Rattle.sim_device.specs.FileEffects.{Effect, Create, Append, Write, Truncate, Sync, Rename, Link, Unlink, SyncDir, PowerCut, Live, leads}
 use Rattle.sim_device.specs.Pending.{is_file}
 
--- none of these answers keeps a write
+-- None of these answers keeps a write.
 abbrev pub KeepsNone : List Bool → Type 0
 KeepsNone [] = Unit {0}
 KeepsNone (keeps ∷ rest) = (keeps ≡ false) × KeepsNone rest
 
--- among the later effects none wrote to or cut a name that then led to this file
+-- None of the later effects wrote to or cut a name that led to this file at that time.
 abbrev pub IsUntouched : ℕ → List Effect → List Effect → Type 0
 IsUntouched f [] before = Unit {0}
 IsUntouched f (Append m bytes ∷ later) before = (is_file f (leads (later ++ before) Live m) ≡ false) × IsUntouched f later before
@@ -22,7 +22,7 @@ IsUntouched f (Unlink m ∷ later) before = IsUntouched f later before
 IsUntouched f (SyncDir ∷ later) before = IsUntouched f later before
 IsUntouched f (PowerCut keep ∷ later) before = IsUntouched f later before
 
--- no `SyncDir` is among these, and no power cut that keeps a write
+-- None of these is a `SyncDir`, or a power cut that keeps a write.
 abbrev pub HasNoSyncDir : List Effect → Type 0
 HasNoSyncDir [] = Unit {0}
 HasNoSyncDir (SyncDir ∷ later) = ⊥
@@ -36,7 +36,7 @@ HasNoSyncDir (Link a b ∷ later) = HasNoSyncDir later
 HasNoSyncDir (Unlink m ∷ later) = HasNoSyncDir later
 HasNoSyncDir (PowerCut keep ∷ later) = KeepsNone keep × HasNoSyncDir later
 
--- among the later effects none gives this name to a file or takes it from one, and none is a power cut
+-- None of these gives this name to a file or takes it from one, and none is a power cut.
 abbrev pub IsUnnamed : ℕ → List Effect → Type 0
 IsUnnamed n [] = Unit {0}
 IsUnnamed n (Create m ∷ later) = ((n == m) ≡ false) × IsUnnamed n later
@@ -50,7 +50,7 @@ IsUnnamed n (Truncate m count ∷ later) = IsUnnamed n later
 IsUnnamed n (Sync m ∷ later) = IsUnnamed n later
 IsUnnamed n (SyncDir ∷ later) = IsUnnamed n later
 
--- among the later effects no sync went to a name that then led to this file, and no power cut kept a write
+-- None of the later effects synced a name that led to this file at that time, and no power cut among them kept a write.
 abbrev pub IsUnsynced : ℕ → List Effect → List Effect → Type 0
 IsUnsynced f [] before = Unit {0}
 IsUnsynced f (Sync m ∷ later) before = (is_file f (leads (later ++ before) Live m) ≡ false) × IsUnsynced f later before

@@ -11,15 +11,15 @@ use crate::pending::{Call, PendingWrite, add_where, drop_names, drop_synced};
 use std::alloc::{AllocError, Global};
 use std::marker::Model;
 
-/// A simulated disk of files under names, as `FileDevice`, that tells which writes are pending, and on which a power cut keeps any of them.
+/// A simulated disk of files under names, as `FileDevice` is, which also says which writes are pending. A power cut may keep any of them.
 ///
-/// A disk writes out what was not synced in an order of its own. So when the power goes, each pending write may be there or not, whatever
-/// became of the others: a rename without the bytes that were written before it, the second of two writes without the first. Bytes before a
-/// kept write that nothing kept are zeros.
+/// A disk writes out in an order of its own what was not synced. So after a power cut each pending write may be there or not, whatever became of the
+/// others: for example a rename without the bytes that were written before it, or the second of two writes without the first. Bytes before a kept
+/// write are zeros if nothing kept them.
 ///
-/// A device stands for the list of the effects that it accepted since it was made or cleared, and what is pending follows from that list. A call
-/// that is refused changes nothing, and adds no effect; but a `cut_keeping` that is refused memory leaves a new device. It takes memory for each
-/// pending write, so `unlink` may be refused some here.
+/// A device stands for the list of the effects that it accepted since it was made or cleared; what is pending follows from that list. A refused call
+/// changes nothing and adds no effect, except that a `cut_keeping` that is refused memory leaves a new device. Each pending write takes memory, so
+/// here `unlink` may be refused too.
 #[derive(Drop)]
 pub struct CrashDevice {
     alloc: Global,
@@ -59,7 +59,7 @@ impl CrashDevice {
     ///
     /// # Errors
     ///
-    /// `Exists` where the name is there, and else only `Memory`.
+    /// `Exists` if the name is there; otherwise only `Memory`.
     pub fn create(&mut self, name: u32) -> Result<(), DeviceFault>
         ensures ok { OnOk result (AddsNoted self.old self.new (Create name)) }
         ensures err { OnErr result (self.new ≡ self.old) }
@@ -79,7 +79,7 @@ impl CrashDevice {
     ///
     /// # Errors
     ///
-    /// `NotFound` where `from` is not there, and else only `Memory`.
+    /// `NotFound` if `from` is not there; otherwise only `Memory`.
     pub fn rename(&mut self, from: u32, to: u32) -> Result<(), DeviceFault>
         ensures ok { OnOk result (AddsNotedRename self.old self.new from to) }
         ensures err { OnErr result (self.new ≡ self.old) }
@@ -105,7 +105,7 @@ impl CrashDevice {
     ///
     /// # Errors
     ///
-    /// `NotFound` where `from` is not there, also where `to` is; else `Exists` where `to` is there; else only `Memory`.
+    /// `NotFound` if `from` is not there, whether or not `to` is; otherwise `Exists` if `to` is there; otherwise only `Memory`.
     pub fn link(&mut self, from: u32, to: u32) -> Result<(), DeviceFault>
         ensures ok { OnOk result (AddsNoted self.old self.new (Link from to)) }
         ensures err { OnErr result (self.new ≡ self.old) }
@@ -127,11 +127,11 @@ impl CrashDevice {
         Ok(())
     }
 
-    /// Removes a name. Its file stays, under its other names and where the removed name lasts.
+    /// Removes a name. Its file stays under its other names, and under the removed one as far as that lasts.
     ///
     /// # Errors
     ///
-    /// `NotFound` where the name is not there, and else only `Memory`.
+    /// `NotFound` if the name is not there; otherwise only `Memory`.
     pub fn unlink(&mut self, name: u32) -> Result<(), DeviceFault>
         ensures ok { OnOk result (AddsNoted self.old self.new (Unlink name)) }
         ensures err { OnErr result (self.new ≡ self.old) }
@@ -150,7 +150,7 @@ impl CrashDevice {
     ///
     /// # Errors
     ///
-    /// `NotFound` where the name is not there, and else only `Memory`.
+    /// `NotFound` if the name is not there; otherwise only `Memory`.
     pub fn append(&mut self, name: u32, bytes: &[u8]) -> Result<(), DeviceFault>
         ensures ok { OnOk result (AddsNoted self.old self.new (Append name bytes.now)) }
         ensures err { OnErr result (self.new ≡ self.old) }
@@ -172,7 +172,7 @@ impl CrashDevice {
     ///
     /// # Errors
     ///
-    /// `NotFound` where the name is not there, and else only `Memory`.
+    /// `NotFound` if the name is not there; otherwise only `Memory`.
     pub fn write_at(&mut self, name: u32, place: usize, bytes: &[u8]) -> Result<(), DeviceFault>
         ensures ok { OnOk result (AddsNoted self.old self.new (Write name place bytes.now)) }
         ensures err { OnErr result (self.new ≡ self.old) }
@@ -189,11 +189,11 @@ impl CrashDevice {
         Ok(())
     }
 
-    /// Leaves the first `count` bytes of a name's file, and all where there are no more: then it makes no pending write.
+    /// Cuts a name's file to its first `count` bytes. If it has no more bytes, that changes nothing and makes no pending write.
     ///
     /// # Errors
     ///
-    /// `NotFound` where the name is not there, and else only `Memory`.
+    /// `NotFound` if the name is not there; otherwise only `Memory`.
     pub fn truncate(&mut self, name: u32, count: usize) -> Result<(), DeviceFault>
         ensures ok { OnOk result (AddsNoted self.old self.new (Truncate name count)) }
         ensures err { OnErr result (self.new ≡ self.old) }
@@ -211,11 +211,11 @@ impl CrashDevice {
         Ok(())
     }
 
-    /// Makes what a name's file holds last: no write to it is pending any more. No name lasts by it. It takes no memory.
+    /// Makes the contents of a name's file last: no write to it is pending any more. It makes no name last. It takes no memory.
     ///
     /// # Errors
     ///
-    /// `NotFound` where the name is not there, and no other.
+    /// `NotFound` if the name is not there; no other.
     pub fn sync(&mut self, name: u32) -> Result<(), DeviceFault>
         ensures ok { OnOk result (AddsNoted self.old self.new (Sync name)) }
         ensures err { OnErr result (self.new ≡ self.old) }
@@ -229,8 +229,8 @@ impl CrashDevice {
         Ok(())
     }
 
-    /// Makes the names that are there last, and those that are gone stay away: no change of names is pending any more. No contents last by it.
-    /// It takes no memory.
+    /// Makes the names last as they are: those that are there stay, and those that are gone stay away. No change of names is pending any more. It
+    /// makes no contents last. It takes no memory.
     pub fn sync_dir(&mut self)
         ensures { AddsNoted self.old self.new SyncDir }
     {
@@ -238,7 +238,7 @@ impl CrashDevice {
         drop_names(&mut self.writes);
     }
 
-    /// Leaves only the names and contents that last: all that is pending is lost, as by `cut_keeping` with no answers. It takes no memory.
+    /// Leaves only the names and contents that last: everything pending is lost, as by `cut_keeping` with no answers. It takes no memory.
     pub fn power_cut(&mut self)
         ensures { AddsNoted self.old self.new (PowerCut []) }
     {
@@ -246,12 +246,12 @@ impl CrashDevice {
         self.writes.clear();
     }
 
-    /// Cuts the power, and keeps those pending writes for which the answers say so, in the order of `pending`. Writes past the answers are lost,
-    /// and answers past the writes mean nothing. What is left lasts, and nothing is pending then.
+    /// Cuts the power, and keeps the pending writes for which the answers, in the order of `pending`, say so. Writes past the answers are lost, and
+    /// answers past the writes mean nothing. Afterwards everything that is left lasts, and nothing is pending.
     ///
     /// # Errors
     ///
-    /// Only want of memory. The device is then a new one.
+    /// Only that memory was refused. The device is then a new one.
     pub fn cut_keeping(&mut self, keep: &[bool]) -> Result<(), AllocError>
         ensures ok { OnOk result (AddsNoted self.old self.new (PowerCut keep.now)) }
         ensures err { OnErr result (Tells self.new []) }
@@ -279,7 +279,7 @@ impl CrashDevice {
     ///
     /// # Errors
     ///
-    /// `NotFound` where the name is not there, and no other.
+    /// `NotFound` if the name is not there; no other.
     pub fn read(&self, name: u32) -> Result<&[u8], DeviceFault>
         ensures { MatchResult result (λ bytes. reads self.now.disk name ≡ Some bytes.now)
             (λ fault. (fault ≡ DeviceFault.NotFound) × (reads self.now.disk name ≡ None)) }

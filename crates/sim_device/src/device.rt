@@ -1,3 +1,4 @@
+//! A disk of files under names.
 ghost use Rattle.std.specs.Prelude.{◌≡◌, ◌≤◌, ◌<◌, ◌+◌, ◌++◌, ℕ, List, [], ◌∷◌, length, take, OnOk, OnErr, MatchResult, IfSome, is_some, is_none, slice_set, Some, None};
 ghost use Rattle.sim_device.specs.FileEffects.{Effect, Create, Append, Write, Truncate, Sync, Link, Unlink, SyncDir, PowerCut, Live, held};
 ghost use Rattle.sim_device.specs.Pending.{overwritten};
@@ -12,11 +13,11 @@ use std::marker::Model;
 
 /// A simulated disk of files under names, on which a power cut keeps only what was synced.
 ///
-/// A name is a small number that the component under test chooses, mostly through an enum of its own: the device
-/// keeps a table of all numbers up to the greatest one in use and some after it, so the memory of a device grows with that number.
+/// A name is a small number that the component under test chooses, mostly through an enum of its own. The device keeps a table of all numbers up to
+/// the greatest one in use and some after it, so its memory grows with that number.
 ///
-/// A device stands for the list of the effects that it accepted since it was made or cleared. A call that is refused
-/// changes nothing, and adds no effect. `clear` keeps the memory of names and files for those to come.
+/// A device stands for the list of the effects that it accepted since it was made or cleared. A refused call changes nothing and adds no effect.
+/// `clear` keeps the memory of names and files for those to come.
 #[derive(Drop)]
 pub struct FileDevice {
     alloc: Global,
@@ -154,7 +155,7 @@ impl FileDevice {
     ///
     /// # Errors
     ///
-    /// `Exists` where the name is there, and else only `Memory`.
+    /// `Exists` if the name is there; otherwise only `Memory`.
     #[inline(always)]
     pub fn create(&mut self, name: u32) -> Result<(), DeviceFault>
         ensures ok { OnOk result (AddsEffect self.old self.new (Create name)) }
@@ -174,7 +175,7 @@ impl FileDevice {
     ///
     /// # Errors
     ///
-    /// `NotFound` where the name is not there, and else only `Memory`.
+    /// `NotFound` if the name is not there; otherwise only `Memory`.
     pub fn append(&mut self, name: u32, bytes: &[u8]) -> Result<(), DeviceFault>
         ensures ok { OnOk result (AddsEffect self.old self.new (Append name bytes.now)) }
         ensures err { OnErr result (self.new ≡ self.old) }
@@ -192,7 +193,7 @@ impl FileDevice {
     ///
     /// # Errors
     ///
-    /// `NotFound` where the name is not there, and else only `Memory`.
+    /// `NotFound` if the name is not there; otherwise only `Memory`.
     pub fn write_at(&mut self, name: u32, place: usize, bytes: &[u8]) -> Result<(), DeviceFault>
         ensures ok { OnOk result (AddsEffect self.old self.new (Write name place bytes.now)) }
         ensures err { OnErr result (self.new ≡ self.old) }
@@ -205,12 +206,12 @@ impl FileDevice {
         Ok(())
     }
 
-    /// Leaves the first `count` bytes of a name's file, and all where there are no more. What lasts stays until the file is synced: a power cut
-    /// before it brings the bytes back that were cut off.
+    /// Cuts a name's file to its first `count` bytes; if it has no more, that changes nothing. What lasts stays until the file is synced: a power cut
+    /// before that brings the bytes back that were cut off.
     ///
     /// # Errors
     ///
-    /// `NotFound` where the name is not there, and else only `Memory`.
+    /// `NotFound` if the name is not there; otherwise only `Memory`.
     pub fn truncate(&mut self, name: u32, count: usize) -> Result<(), DeviceFault>
         ensures ok { OnOk result (AddsEffect self.old self.new (Truncate name count)) }
         ensures err { OnErr result (self.new ≡ self.old) }
@@ -223,11 +224,11 @@ impl FileDevice {
         Ok(())
     }
 
-    /// Makes what a name's file holds last. No name lasts by it. It takes no memory.
+    /// Makes the contents of a name's file last. It makes no name last. It takes no memory.
     ///
     /// # Errors
     ///
-    /// `NotFound` where the name is not there, and no other.
+    /// `NotFound` if the name is not there; no other.
     pub fn sync(&mut self, name: u32) -> Result<(), DeviceFault>
         ensures ok { OnOk result (AddsEffect self.old self.new (Sync name)) }
         ensures err { OnErr result (self.new ≡ self.old) }
@@ -244,7 +245,7 @@ impl FileDevice {
     ///
     /// # Errors
     ///
-    /// `NotFound` where `from` is not there, and else only `Memory`.
+    /// `NotFound` if `from` is not there; otherwise only `Memory`.
     pub fn rename(&mut self, from: u32, to: u32) -> Result<(), DeviceFault>
         ensures ok { OnOk result (AddsRename self.old self.new from to) }
         ensures err { OnErr result (self.new ≡ self.old) }
@@ -264,7 +265,7 @@ impl FileDevice {
     ///
     /// # Errors
     ///
-    /// `NotFound` where `from` is not there, also where `to` is; else `Exists` where `to` is there; else only `Memory`.
+    /// `NotFound` if `from` is not there, whether or not `to` is; otherwise `Exists` if `to` is there; otherwise only `Memory`.
     pub fn link(&mut self, from: u32, to: u32) -> Result<(), DeviceFault>
         ensures ok { OnOk result (AddsEffect self.old self.new (Link from to)) }
         ensures err { OnErr result (self.new ≡ self.old) }
@@ -280,11 +281,11 @@ impl FileDevice {
         Ok(())
     }
 
-    /// Removes a name. Its file stays, under its other names and where the removed name lasts. It takes no memory.
+    /// Removes a name. Its file stays under its other names, and under the removed one as far as that lasts. It takes no memory.
     ///
     /// # Errors
     ///
-    /// `NotFound` where the name is not there, and no other.
+    /// `NotFound` if the name is not there; no other.
     pub fn unlink(&mut self, name: u32) -> Result<(), DeviceFault>
         ensures ok { OnOk result (AddsEffect self.old self.new (Unlink name)) }
         ensures err { OnErr result (self.new ≡ self.old) }
@@ -297,8 +298,8 @@ impl FileDevice {
         Ok(())
     }
 
-    /// Makes the names that are there last, and those that are gone stay away. No contents last by it. It takes no
-    /// memory, and a time by the names in the table from the first to the last that changed since the last sync.
+    /// Makes the names last as they are: those that are there stay, and those that are gone stay away. It makes no contents last. It takes no memory.
+    /// Its time grows with the number of names in the table from the first to the last that changed since the last sync.
     pub fn sync_dir(&mut self)
         ensures { AddsEffect self.old self.new SyncDir }
     {
@@ -312,11 +313,11 @@ impl FileDevice {
         self.leave_lasting();
     }
 
-    /// Lends what a name's file holds now, so its length and its parts too. It takes no memory.
+    /// Lends what a name's file holds now. It takes no memory.
     ///
     /// # Errors
     ///
-    /// `NotFound` where the name is not there, and no other.
+    /// `NotFound` if the name is not there; no other.
     pub fn read(&self, name: u32) -> Result<&[u8], DeviceFault>
         ensures { (es : List Effect) → StandsFor self.now es →
             MatchResult result (λ bytes. held es Live name ≡ Some bytes.now)
@@ -328,9 +329,9 @@ impl FileDevice {
         Ok(self.files[file].read())
     }
 
-    /// The least name that is there now, of this one and those above it. It takes no memory, and a time by the names between the two.
+    /// The least name that is there now and isn't below this one. It takes no memory. Its time grows with the number of names between the two.
     ///
-    /// All names of the device are those from `next_name(0)` on, each asked for from the number after the last.
+    /// To go through all names, begin with `next_name(0)`, and ask each time from the number after the name that was found.
     pub fn next_name(&self, from: u32) -> Option<u32>
         ensures { IsNext self.now.names from result }
     {

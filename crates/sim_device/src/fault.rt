@@ -1,3 +1,4 @@
+//! Why a call on a device is refused.
 ghost use Rattle.std.specs.Prelude.{◌≡◌, Some};
 ghost use Rattle.sim_device.specs.declared.fault.DeviceFault.TheVariants.{Memory};
 ghost use Rattle.sim_device.specs.Refusals.{fault_text};

@@ -1,3 +1,4 @@
+//! A single file.
 ghost use Rattle.std.specs.Prelude.{◌≡◌, ◌≤◌, ◌+◌, ◌-◌, ◌++◌, [], drop, length, replicate, take, OnOk, OnErr};
 ghost use Rattle.sim_device.specs.Pending.{overwritten};
 
@@ -5,14 +6,14 @@ use std::alloc::{AllocError, Global};
 use std::marker::Model;
 use std::mem;
 
-/// A file by itself, under no name: what it holds, and how much of that lasts. It is the device of a component that keeps all in one file,
-/// and `FileDevice` is made of such files.
+/// A file by itself, under no name: what it holds, and how much of that lasts. It is the device of a component that keeps everything in one file.
+/// `FileDevice` is made of such files.
 ///
-/// It is a file of a disk with a cache, as a program sees it that calls write(2), pwrite(2), ftruncate(2) and fsync(2) of Linux.
+/// It behaves as a file on a disk with a cache does for a program that calls write(2), pwrite(2), ftruncate(2) and fsync(2) of Linux.
 #[derive(Drop)]
 pub struct File {
     contents: Vec<u8>,
-    // What lasts are the first so many bytes, of the contents or, where one of these was changed since the last sync, of `synced`.
+    // This many bytes last: the first ones of the contents, or of `synced` if one of them was changed since the last sync.
     lasting: usize,
     is_changed: bool,
     synced: Vec<u8>,
@@ -29,7 +30,7 @@ impl Model for File {
     ghost invariant = { λ f. f.lasting ≤ length (if f.is_changed then f.synced.items else f.contents.items) };
 }
 
-/// Makes these bytes all that it holds. After an error it may hold anything.
+/// Replaces the contents by these bytes. After an error the file may hold anything.
 fn refill(held: &mut Vec<u8>, bytes: &[u8]) -> Result<(), AllocError>
     ensures { OnOk result (held.new.items ≡ bytes.now) }
 {
@@ -85,7 +86,7 @@ impl File {
         }
     }
 
-    /// Holds nothing from here on, and keeps its memory for the bytes to come.
+    /// Empties the file, and keeps its memory for the bytes to come.
     pub fn clear(&mut self)
         ensures { self.new ≡ record { live = []; lasting = [] } }
     {
@@ -98,7 +99,7 @@ impl File {
     ///
     /// # Errors
     ///
-    /// Only want of memory. The file is then as it was.
+    /// Only that memory was refused. The file is then as it was.
     // A single byte is added within the caller's loop.
     #[inline]
     pub fn append(&mut self, bytes: &[u8]) -> Result<(), AllocError>
@@ -117,7 +118,7 @@ impl File {
     ///
     /// # Errors
     ///
-    /// Only want of memory. The file is then as it was.
+    /// Only that memory was refused. The file is then as it was.
     pub fn write_at(&mut self, place: usize, bytes: &[u8]) -> Result<(), AllocError>
         ensures ok { OnOk result (self.new ≡ record { live = overwritten place bytes.now self.old.live; lasting = self.old.lasting }) }
         ensures err { OnErr result (self.new ≡ self.old) }
@@ -129,12 +130,12 @@ impl File {
         overwrite(&mut self.contents, place, bytes)
     }
 
-    /// Leaves the first `count` bytes, and all where there are no more. What lasts stays until the next sync: a power cut before it brings
-    /// the bytes back that were cut off.
+    /// Cuts the file to its first `count` bytes; if it has no more, that changes nothing. What lasts stays until the next sync: a power cut before it
+    /// brings the bytes back that were cut off.
     ///
     /// # Errors
     ///
-    /// Only want of memory, where bytes that last are cut off. The file is then as it was.
+    /// Only that memory was refused, and only if bytes that last are cut off. The file is then as it was.
     pub fn truncate(&mut self, count: usize) -> Result<(), AllocError>
         ensures ok { OnOk result (self.new ≡ record { live = take count self.old.live; lasting = self.old.lasting }) }
         ensures err { OnErr result (self.new ≡ self.old) }
@@ -147,7 +148,7 @@ impl File {
         Ok(())
     }
 
-    /// Makes all that is there last. It takes no memory.
+    /// Makes everything that is there last. It takes no memory.
     pub fn sync(&mut self)
         ensures { self.new ≡ record { live = self.old.live; lasting = self.old.live } }
     {
@@ -166,7 +167,7 @@ impl File {
         self.contents.truncate(self.lasting);
     }
 
-    /// Lends all that is there. It takes no memory.
+    /// Lends everything that is there. It takes no memory.
     pub fn read(&self) -> &[u8]
         ensures { result.now ≡ self.now.live }
     {

@@ -12,7 +12,7 @@ pub fn names_lead_to_files()
         leads effects side n ≡ Some f → f < created effects }
 {}
 
-/// Contents that were synced, and neither written to nor cut since, are what a power cut leaves, whatever it keeps.
+/// Contents that were synced, and neither written to nor cut since, survive a power cut, whatever it keeps.
 pub fn synced_contents_stay()
     ensures { (later before : List Effect) (n f : ℕ) (keep : List Bool) →
         leads before Live n ≡ Some f → IsUntouched f later (Sync n ∷ before) →
@@ -25,7 +25,7 @@ pub fn names_last()
         HasNoSyncDir later → leads (later ++ before) Lasting n ≡ leads before Lasting n }
 {}
 
-/// A name leads where it led, until a call names it or the power is cut.
+/// A name leads to what it led to before, until a call names it or the power is cut.
 pub fn unnamed_names_stay()
     ensures { (later before : List Effect) (n : ℕ) →
         IsUnnamed n later → leads (later ++ before) Live n ≡ leads before Live n }
@@ -63,7 +63,7 @@ pub fn write_overwrites()
         contents (Write name place bytes ∷ before) Live f ≡ overwritten place bytes (contents before Live f) }
 {}
 
-/// What is cut leaves the first bytes, as many as it tells, or all where there are no more.
+/// A cut leaves the first bytes, as many as it says, or all if there are no more.
 pub fn truncate_cuts()
     ensures { (before : List Effect) (name f count : ℕ) →
         leads before Live name ≡ Some f →
@@ -82,7 +82,7 @@ pub fn rename_keeps_contents()
         contents (Rename from to ∷ before) side f ≡ contents before side f }
 {}
 
-/// The records of a force, in their order, are a front of the log from then on, whatever follows.
+/// Once a force has made records last, the log begins with them, in their order, whatever follows.
 pub fn forced_records_stay<R: Copy>()
     ensures { (later before : List (LogEffect R)) (r : R) (side : Side) →
         ((more : List R) ×
@@ -95,7 +95,7 @@ pub fn forced_record_survives<R: Copy>()
         Contains (records (Restart ∷ (later ++ Force r ∷ before)) Live) r }
 {}
 
-/// What was added since the last force is lost at a restart, and nothing else.
+/// A restart loses what was added since the last force, and nothing else.
 pub fn unforced_records_are_lost<R: Copy>()
     ensures { (later before : List (LogEffect R)) →
         HasNoForce later → records (Restart ∷ (later ++ before)) Live ≡ records before Lasting }
@@ -125,7 +125,7 @@ pub fn kept_bytes_are_appended_to()
         ≡ contents before Live f ++ first ++ second }
 {}
 
-/// What a name reads on a device is what its file holds by the effects.
+/// What is read under a name on a device is what its file holds according to the effects.
 pub fn names_read_what_they_hold()
     ensures { (disk : Disk) (effects : List Effect) (n : ℕ) → StandsFor disk effects → reads disk n ≡ held effects Live n }
 {}

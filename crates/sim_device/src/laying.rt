@@ -1,4 +1,4 @@
-//! What a power cut leaves that keeps some of the pending writes.
+//! What is left by a power cut that keeps some of the pending writes.
 ghost use Rattle.std.specs.Prelude.{◌≡◌, ◌↔◌, IsTrue, ◌∷◌, ◌<◌, [], true, false, Some, length, slice_index_or, if◌then◌else◌, IfSome, OnOk};
 ghost use Rattle.sim_device.specs.Pending.{is_of_contents, kept};
 ghost use Rattle.sim_device.specs.inside.Laid.{AreOfFiles, Lays, SettlesTo};
@@ -44,7 +44,7 @@ fn lay_names(device: &mut FileDevice, write: &PendingWrite) -> Result<(), AllocE
     }
 }
 
-/// Whether a write is of no file, or of one of the first so many. All pending writes are; so much is known of them by the effects alone.
+/// Whether a write concerns no file, or one of the first `files` files. Every pending write does, but from the effects alone that isn't known.
 fn is_of_files(write: &PendingWrite, files: usize) -> bool
     ensures { IsTrue result ↔ IfSome write.now.file (λ file. file < files) }
 {
@@ -75,7 +75,7 @@ fn keeps(keep: &[bool], place: usize) -> bool
     keep.get(place).copied().unwrap_or(false)
 }
 
-/// Makes a write again where it is kept.
+/// Makes a write again if it is kept.
 fn lay_if(device: &mut FileDevice, write: &PendingWrite, is_kept: bool) -> Result<(), AllocError>
     ensures { IfSome write.now.file (λ f. f < length device.old.files)
         → OnOk result (Lays device.old device.new (if is_kept then write.now ∷ [] else [])) }
@@ -86,7 +86,7 @@ fn lay_if(device: &mut FileDevice, write: &PendingWrite, is_kept: bool) -> Resul
     Ok(())
 }
 
-/// Makes the writes again that are kept, the first made first. Writes past the answers are lost.
+/// Makes the kept writes again, in the order in which they were made. Writes past the answers are lost.
 fn lay_kept(
     device: &mut FileDevice,
     writes: &[PendingWrite],

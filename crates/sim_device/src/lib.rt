@@ -1,5 +1,5 @@
-//! Simulated devices for components that must survive faults: a disk of files that forgets at a power cut what was not
-//! synced, a single file of such a disk, and a log of records that forgets at a restart what was not forced.
+//! Simulated devices for components that must survive faults: a disk of files that forgets at a power cut what was not synced, a single file of such
+//! a disk, and a log of records that forgets at a restart what was not forced. They know nothing of points, scenarios and targets.
 #![tactic(auto)]
 
 mod crash;

@@ -1,3 +1,4 @@
+//! A log of records.
 ghost use Rattle.std.specs.Prelude.{◌≡◌, List, [], OnOk, OnErr};
 ghost use Rattle.sim_device.specs.FileEffects.{Live};
 ghost use Rattle.sim_device.specs.LogEffects.{LogEffect, Append, Force, Restart, records, unforced, kept_front, LogStandsFor, AddsLogEffect, RestartsKeeping};
@@ -5,14 +6,13 @@ ghost use Rattle.sim_device.specs.LogEffects.{LogEffect, Append, Force, Restart,
 use std::alloc::{AllocError, Global};
 use std::marker::Model;
 
-/// A simulated log of records, which keeps over a restart only what was forced.
+/// A simulated log of records. A restart keeps only what was forced.
 ///
-/// A log stands for the list of the effects that it accepted since it was made or cleared. A call that is refused
-/// changes nothing, and adds no effect.
+/// A log stands for the list of the effects that it accepted since it was made or cleared. A refused call changes nothing and adds no effect.
 #[derive(Drop)]
 pub struct RecordLog<R: Drop> {
     records: Vec<R>,
-    // Records are only added between restarts, so those that last are always a front of all.
+    // Records are only added between restarts, so the log always begins with those that last.
     lasting: usize,
 }
 
@@ -27,7 +27,7 @@ impl<R: Drop> Model for RecordLog<R> {
     ghost invariant = { λ l. l.lasting ≤ vec_len l.records };
 }
 
-/// How many answers there are up to the last that keeps.
+/// How many answers there are up to the last one that keeps its record.
 fn kept_front(keep: &[bool]) -> usize
     ensures { result ≡ kept_front keep.now }
 {
@@ -61,7 +61,7 @@ impl<R: Drop> RecordLog<R> {
     ///
     /// # Errors
     ///
-    /// Only want of memory. The log is then as it was.
+    /// Only that memory was refused. The log is then as it was.
     pub fn append(&mut self, entry: R) -> Result<(), AllocError>
         ensures ok { OnOk result (AddsLogEffect self.old self.new (Append entry)) }
         ensures err { OnErr result (self.new ≡ self.old) }
@@ -74,7 +74,7 @@ impl<R: Drop> RecordLog<R> {
     ///
     /// # Errors
     ///
-    /// Only want of memory. The log is then as it was.
+    /// Only that memory was refused. The log is then as it was.
     pub fn force(&mut self, entry: R) -> Result<(), AllocError>
         ensures ok { OnOk result (AddsLogEffect self.old self.new (Force entry)) }
         ensures err { OnErr result (self.new ≡ self.old) }
@@ -91,9 +91,8 @@ impl<R: Drop> RecordLog<R> {
         self.records.truncate(self.lasting);
     }
 
-    /// Leaves the records that last, and the pending ones for which the answers say so, the oldest first. A log is written in order: a record that
-    /// is kept keeps those before it. Records past the answers are lost, and answers past the records mean nothing. What is left lasts. It takes
-    /// no memory.
+    /// Restarts, and keeps the pending records for which the answers, the oldest record first, say so. A log is written in order, so a kept record
+    /// keeps those before it. Records past the answers are lost, and answers past the records mean nothing. What is left lasts. It takes no memory.
     pub fn restart_keeping(&mut self, keep: &[bool])
         ensures { RestartsKeeping self.old self.new keep.now }
     {

@@ -1,4 +1,4 @@
-//! Calls of a file device that cannot be refused but for want of memory: who calls them knows which names are there.
+//! Calls of a file device that can only be refused memory, because the caller knows which names are there.
 ghost use Rattle.std.specs.Prelude.{◌≡◌, OnOk, OnErr, IsOk, IsErr, IfErr, is_some, is_none, false};
 ghost use Rattle.sim_device.specs.declared.fault.DeviceFault.TheVariants.{Memory};
 ghost use Rattle.sim_device.specs.FileEffects.{Create, Append, Write, Truncate, Sync, Link, Unlink};
@@ -8,7 +8,7 @@ use crate::device::FileDevice;
 use crate::fault::DeviceFault;
 use std::alloc::AllocError;
 
-/// The answer of a call whose other faults are ruled out.
+/// The result of a call whose other faults are ruled out.
 fn but_for_memory(answer: Result<(), DeviceFault>) -> Result<(), AllocError>
     requires { IfErr answer (λ fault. fault ≡ Memory) }
     ensures ok { OnOk result (IsOk answer) }
@@ -26,7 +26,7 @@ impl FileDevice {
     ///
     /// # Errors
     ///
-    /// Only want of memory. The device is then as it was.
+    /// Only that memory was refused. The device is then as it was.
     #[inline(always)]
     pub fn must_create(&mut self, name: u32) -> Result<(), AllocError>
         requires { is_some (entry_at self.old.names name).live ≡ false }
@@ -40,7 +40,7 @@ impl FileDevice {
     ///
     /// # Errors
     ///
-    /// Only want of memory. The device is then as it was.
+    /// Only that memory was refused. The device is then as it was.
     pub fn must_append(&mut self, name: u32, bytes: &[u8]) -> Result<(), AllocError>
         requires { is_none (entry_at self.old.names name).live ≡ false }
         ensures ok { OnOk result (AddsEffect self.old self.new (Append name bytes.now)) }
@@ -53,7 +53,7 @@ impl FileDevice {
     ///
     /// # Errors
     ///
-    /// Only want of memory. The device is then as it was.
+    /// Only that memory was refused. The device is then as it was.
     pub fn must_write_at(&mut self, name: u32, place: usize, bytes: &[u8]) -> Result<(), AllocError>
         requires { is_none (entry_at self.old.names name).live ≡ false }
         ensures ok { OnOk result (AddsEffect self.old self.new (Write name place bytes.now)) }
@@ -66,7 +66,7 @@ impl FileDevice {
     ///
     /// # Errors
     ///
-    /// Only want of memory. The device is then as it was.
+    /// Only that memory was refused. The device is then as it was.
     pub fn must_truncate(&mut self, name: u32, count: usize) -> Result<(), AllocError>
         requires { is_none (entry_at self.old.names name).live ≡ false }
         ensures ok { OnOk result (AddsEffect self.old self.new (Truncate name count)) }
@@ -90,7 +90,7 @@ impl FileDevice {
     ///
     /// # Errors
     ///
-    /// Only want of memory. The device is then as it was.
+    /// Only that memory was refused. The device is then as it was.
     pub fn must_rename(&mut self, from: u32, to: u32) -> Result<(), AllocError>
         requires { is_none (entry_at self.old.names from).live ≡ false }
         ensures ok { OnOk result (AddsRename self.old self.new from to) }
@@ -103,7 +103,7 @@ impl FileDevice {
     ///
     /// # Errors
     ///
-    /// Only want of memory. The device is then as it was.
+    /// Only that memory was refused. The device is then as it was.
     pub fn must_link(&mut self, from: u32, to: u32) -> Result<(), AllocError>
         requires from { is_none (entry_at self.old.names from).live ≡ false }
         requires to { is_some (entry_at self.old.names to).live ≡ false }

@@ -1,12 +1,13 @@
+//! The names of a disk: where each leads now, and after a power cut.
 ghost use Rattle.std.specs.Prelude.{◌≡◌, ◌≢◌, ◌<◌, ◌≤◌, ℕ, [], length, None, Some, OnOk, OnErr};
 ghost use Rattle.sim_device.specs.Disk.{entry_at, ChangesName, IsNext, MovesName, IsSettledOutside};
 
 use std::alloc::{AllocError, Global};
 use std::marker::Model;
 
-/// How many names a table makes room for first: many a run has no more.
+/// For how many names a table makes room at first. Many runs have no more.
 const AT_FIRST: usize = 4;
-/// How many names it makes room for at once from then on: names mostly come one after another.
+/// For how many names it makes room at once later. Names mostly come one after another.
 const AT_ONCE: usize = 16;
 
 /// The files that a name leads to, by number: now, and after a power cut.
@@ -16,7 +17,7 @@ pub struct Entry {
     pub lasting: Option<usize>,
 }
 
-/// Where each name leads. A name is a place in the table.
+/// What each name leads to. A name is a place in the table.
 #[derive(Drop)]
 pub struct Directory {
     entries: Vec<Entry>,
@@ -74,7 +75,7 @@ impl Directory {
         }
     }
 
-    /// No name leads anywhere from here on. The memory is kept.
+    /// Makes each name lead nowhere. The memory is kept.
     pub fn clear(&mut self)
         ensures { self.new ≡ [] }
     {
@@ -93,7 +94,7 @@ impl Directory {
         }
     }
 
-    /// The least name that leads to a file now, of this one and those above it.
+    /// The least name that leads to a file now and isn't below this one.
     pub fn next(&self, from: u32) -> Option<u32>
         ensures { IsNext self.now from result }
     {
@@ -187,7 +188,7 @@ impl Directory {
         Ok(())
     }
 
-    /// The names that are there now last.
+    /// Makes the names last as they are now.
     pub fn sync(&mut self)
         ensures { (n : ℕ) → let old = entry_at self.old n in
             entry_at self.new n ≡ record { live = old.live; lasting = old.live } }
@@ -197,7 +198,7 @@ impl Directory {
         self.end = 0;
     }
 
-    /// Only the names that last are left.
+    /// Leaves only the names that last.
     pub fn cut(&mut self)
         ensures { (n : ℕ) → let old = entry_at self.old n in
             entry_at self.new n ≡ record { live = old.lasting; lasting = old.lasting } }

@@ -14,7 +14,7 @@ pub enum Call {
     Append(u32, usize),
     /// Bytes were written to the name's file, at this place.
     WriteAt(u32, usize),
-    /// The name's file was cut to so many bytes.
+    /// The name's file was cut to this many bytes.
     Truncate(u32, usize),
     /// The first name was renamed to the second.
     Rename(u32, u32),
@@ -36,7 +36,7 @@ impl Call {
     }
 }
 
-/// A write that a power cut may keep or lose: its call, the file that it gives a name to or whose contents it changes, and its bytes.
+/// A write that a power cut may keep or lose: its call, its bytes, and the file to which it gives a name or whose contents it changes.
 #[derive(Drop)]
 pub struct PendingWrite {
     call: Call,
@@ -80,21 +80,21 @@ impl PendingWrite {
         })
     }
 
-    /// The call, by which the write is told.
+    /// The call that made the write.
     pub fn call(&self) -> Call
         ensures { result ≡ self.now.call }
     {
         self.call
     }
 
-    /// The number of the file, which is how many were created before it. A name that was removed has none.
+    /// The number of the file: how many files were created before it. The removal of a name has none.
     pub fn file(&self) -> Option<usize>
         ensures { result ≡ self.now.file }
     {
         self.file
     }
 
-    /// The bytes that are written. A change of names, and a cut, has none.
+    /// The bytes that are written. A change of names and a cut have none.
     pub fn bytes(&self) -> &[u8]
         ensures { result.now ≡ self.now.bytes }
     {
@@ -116,7 +116,7 @@ impl PendingWrite {
     }
 }
 
-/// Adds a write, for which there is room, where it changes anything.
+/// Adds a write if it changes anything. There has to be room for it.
 pub fn add_where(writes: &mut Vec<PendingWrite>, write: PendingWrite, changes: bool)
     requires { vec_len writes.old < vec_capacity writes.old }
     ensures { writes.new.items ≡ (if changes then writes.old.items ++ write ∷ [] else writes.old.items) }

@@ -1,4 +1,4 @@
-//! A gate that counts how often each plan arrives, and what those that ran came to.
+//! A gate that counts how often each plan arrives, and what the plans came to.
 
 use std::alloc::{AllocError, Global};
 use std::sync::atomic::{AtomicU64, Ordering};
@@ -7,19 +7,19 @@ use work_gate::{Ended, Gate, Phase, Stage};
 /// A gate that holds nobody, and counts the plans that arrive.
 #[derive(Drop)]
 pub struct Arrivals {
-    /// How often, by the plan's number.
+    /// How often each plan arrived, by its number.
     arrived: Vec<AtomicU64>,
     /// Arrivals of numbers that no plan has.
     strangers: AtomicU64,
-    /// How many plans were told to come, over all calls.
+    /// How many plans were expected, over all calls.
     expected: AtomicU64,
-    /// How many plans were told to have ended, and how many of them to fail.
+    /// How many plans have ended, as the gate heard, and how many of them fail.
     ended: AtomicU64,
     failing: AtomicU64,
 }
 
 impl Arrivals {
-    /// A gate of so many plans, none of which has arrived. An error means that memory was refused.
+    /// A gate for this many plans, none of which has arrived. An error means that memory was refused.
     pub fn new(alloc: Global, plans: u32) -> Result<Self, AllocError> {
         let mut arrived = Vec::new(alloc);
         for _ in 0..plans {
@@ -34,7 +34,7 @@ impl Arrivals {
         })
     }
 
-    /// Whether the first so many plans came once each, and no other one did.
+    /// Whether the first `count` plans arrived once each, and no other plan did.
     pub fn came_once(&self, plans: usize) -> bool {
         let came = self.arrived.iter().enumerate();
         self.strangers.load(Ordering::SeqCst) == 0
@@ -43,17 +43,17 @@ impl Arrivals {
                 .all(|(comes, times)| times == u64::from(comes))
     }
 
-    /// How many plans were told to come.
+    /// How many plans were expected.
     pub fn expected(&self) -> u64 {
         self.expected.load(Ordering::SeqCst)
     }
 
-    /// How many plans were told to have ended.
+    /// How many plans have ended.
     pub fn ended(&self) -> u64 {
         self.ended.load(Ordering::SeqCst)
     }
 
-    /// How many of these were told to fail.
+    /// How many of these fail.
     pub fn failing(&self) -> u64 {
         self.failing.load(Ordering::SeqCst)
     }

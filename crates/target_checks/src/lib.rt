@@ -1,6 +1,5 @@
-//! What tests of targets share: a run under a scenario's text, whether a target keeps its promise under each single fault, the small
-//! workload of the replacement of a file, a writer that goes wrong, a gate that counts who arrives, and a wait for another thread that has an
-//! end.
+//! What tests of targets share: a run under a scenario's text, whether a target keeps its promise under each single fault, a small workload for the
+//! replacement of a file, a writer that goes wrong, a gate that counts arrivals, and a wait for another thread that ends.
 #![tactic(auto)]
 
 mod arrivals;

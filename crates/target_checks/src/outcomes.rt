@@ -18,7 +18,7 @@ pub const SEED: u64 = 7;
 ///
 /// # Errors
 ///
-/// The first fault of the text, where the target isn't run; or want of memory. The target keeps its setup.
+/// The first fault of the text (then the target isn't run), or that memory was refused. The target keeps its setup.
 pub fn outcome_of<T: Target>(
     alloc: Global,
     target: &mut T,

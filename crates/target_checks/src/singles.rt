@@ -51,14 +51,14 @@ fn first_of<T: Target>(
     Ok(None)
 }
 
-/// The first scenario under which a target doesn't pass: that without faults, or one with a single fault, where a hit of the run without
-/// faults fails, or it and all after it do, or the run halts there. `None` where the target passes under all of them.
+/// The first scenario under which a target doesn't pass: the one without faults, or one with a single fault, by which a hit of the run without faults
+/// fails, or it and all later hits of its point do, or the run halts there. `None` if the target passes under all of them.
 ///
 /// Runs have seed 7 and stream number 0, and at most 1000 of their hits are answered: a run that asks on is unresolved, and does not pass.
 ///
 /// # Errors
 ///
-/// There are more than 65536 such scenarios, and none was run but that without faults; or want of memory. The target keeps its setup.
+/// There are more than 65536 such scenarios (then only the one without faults was run), or memory was refused. The target keeps its setup.
 pub fn first_failure<T: Target>(
     alloc: Global,
     target: &mut T,

@@ -8,8 +8,8 @@ use std::time::Duration;
 /// How often a wait looks. It sleeps a millisecond after each look.
 const TURNS: u32 = 10_000;
 
-/// Whether a count that other threads raise comes to so much within ten seconds or so. A test that expects two threads to meet fails then,
-/// and doesn't wait for ever.
+/// Whether a count that other threads raise comes to this much within some ten seconds. With it, a test that expects two threads to meet fails if
+/// they don't, and doesn't wait for ever.
 pub fn comes_to<C: Clock>(clock: &C, count: &AtomicU64, wanted: u64) -> bool {
     for _ in 0..TURNS {
         if count.load(Ordering::SeqCst) >= wanted {

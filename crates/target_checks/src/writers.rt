@@ -4,7 +4,7 @@ use std::alloc::Global;
 use std::io;
 use std::io::Write;
 
-/// What a writer does at the write where it goes wrong.
+/// What a writer does at the write that goes wrong.
 #[derive(Clone, Copy, Debug, PartialEq, Eq)]
 pub enum Trouble {
     /// It fails as a pipe that nobody reads.
@@ -14,12 +14,12 @@ pub enum Trouble {
     TakesNothing,
 }
 
-/// A writer into memory that takes a few bytes a write, and goes wrong at one of its writes.
+/// A writer into memory that takes a few bytes at each write, and goes wrong at one of its writes.
 #[derive(Drop)]
 pub struct Narrow {
-    /// What it took.
+    /// The bytes that it took.
     pub bytes: Vec<u8>,
-    /// How many bytes it takes a write.
+    /// How many bytes it takes at each write.
     pub at_once: usize,
     /// How often it was asked to write.
     pub writes: u64,
@@ -29,7 +29,7 @@ pub struct Narrow {
 }
 
 impl Narrow {
-    /// A writer that takes so many bytes a write, and never goes wrong.
+    /// A writer that takes this many bytes at each write, and never goes wrong.
     pub fn new(alloc: Global, at_once: usize) -> Self {
         Narrow {
             bytes: Vec::new(alloc),

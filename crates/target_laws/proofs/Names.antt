@@ -1,4 +1,4 @@
--- What is so of each name of a catalogue.
+-- What holds of each name of a catalogue.
 use Rattle.std.proofs.Common.{◌≡◌, ◌<◌, ◌≤◌, ◌==◌, ◌∙◌, ap, subst, sym, refl, arith, ℕ, zero, suc, List, [], ◌∷◌, true, false, Bool, not, Bor, length, slice_index_or}
 use Rattle.std.proofs.lemmas.Bool.Decides.{nat_tests}
 use Rattle.std.specs.List.{AllByRecursion}

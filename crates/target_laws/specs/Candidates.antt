@@ -1,4 +1,4 @@
--- What is seen of a target about which nothing is proved: the runs that were made of it, and which law of a target they break.
+-- What runs show of a target about which nothing is proved: whether they break a law of a target, and which.
 use Rattle.std.specs.Prelude.{◌≡◌, ℕ, ◌<◌, Bool, true, false, List, [], ◌∷◌, ◌++◌, Option, None, Some, Ok, Contains, codes, length, slice_index_or}
 use Rattle.scenario_values.specs.Scenario.{Entries}
 use Rattle.scenario_grammar.specs.FirstFault.{reading}
@@ -8,7 +8,7 @@ use Rattle.target_laws.specs.declared.broken.BrokenLaw.{BrokenLaw}
 use Rattle.target_laws.specs.declared.broken.BrokenLaw.TheVariants.{Catalogue, AsksAfterHalt, KeepsState}
 use Rattle.target_laws.specs.declared.candidate.Looked.{Looked}
 
--- a run that was made: what it was made under, and what it came to
+-- A run that was made: what it was made under, and what it came to.
 pub record Look : Type 0 where
   pub scenario : Entries
   pub seed : ℕ
@@ -29,23 +29,23 @@ look scenario seed stream limit looked = record {
   is_asked_on = looked.is_asked_on;
 }
 
--- runs that were made one after another lead from one state of a candidate to another
+-- Runs that were made one after another lead from one state of a candidate to another.
 abbrev pub Lead : {S : Type 0} → (S → Look → S → Type 0) → S → List Look → S → Type 0
 Lead made a [] b = a ≡ b
 Lead {S} made a (l ∷ looks) b = (c : S) × made a l c × Lead made c looks b
 
--- under what all of them are made that look for a broken law: a seed and a limit of hits, and the stream of number 0
+-- A run for this scenario, made like all runs that look for a broken law: under this seed and limit of hits, and under stream number 0.
 pub record IsUnder (seed limit : ℕ) (s : Entries) (l : Look) : Type 0 where
   pub scenario : l.scenario ≡ s
   pub seed_is : l.seed ≡ seed
   pub stream : l.stream ≡ 0
   pub limit_is : l.limit ≡ limit
 
--- the scenario `name=panic`, which stops a run at the first hit of a point; none where no scenario has that name
+-- The scenario `name=panic`, which stops a run at the first hit of a point. There is none if no scenario can have that name.
 abbrev pub Halts : List ℕ → Entries → Type 0
 Halts name s = reading (name ++ codes "=panic") ≡ Ok s
 
--- one of the runs was stopped so, and asked nothing more
+-- One of the runs was made under this scenario, and asked nothing after it was stopped.
 pub record IsStopped (seed limit : ℕ) (looks : List Look) (s : Entries) : Type 0 where
   pub run : Look
   pub made : Contains looks run
@@ -55,19 +55,19 @@ pub record IsStopped (seed limit : ℕ) (looks : List Look) (s : Entries) : Type
 abbrev pub IsStoppedAt : ℕ → ℕ → List Look → List ℕ → Type 0
 IsStoppedAt seed limit looks name = (s : Entries) → Halts name s → IsStopped seed limit looks s
 
--- one of them asked on
+-- One of the runs was stopped at the point, and asked on.
 pub record IsAskedOnAt (looks : List Look) (name : List ℕ) : Type 0 where
   pub run : Look
   pub made : Contains looks run
   pub halts : Halts name run.scenario
   pub asks : run.is_asked_on ≡ true
 
--- a run was stopped at a point, where a scenario has its name, and asked nothing more; or it asked on
+-- False if a run was stopped at the point and asked nothing more, or if no scenario can have the point's name; true if a run asked on.
 abbrev pub IsTriedAt : ℕ → ℕ → List Look → List ℕ → Bool → Type 0
 IsTriedAt seed limit looks name false = IsStoppedAt seed limit looks name
 IsTriedAt seed limit looks name true = IsAskedOnAt looks name
 
--- the same of all points
+-- The same for all points: nothing more was asked at any of them or, below, a run asked on at one.
 abbrev pub AreStopped : List (List ℕ) → ℕ → ℕ → List Look → Type 0
 AreStopped names seed limit looks = (point : ℕ) → point < length names → IsStoppedAt seed limit looks (slice_index_or names point [])
 
@@ -78,7 +78,7 @@ abbrev pub AreTried : List (List ℕ) → ℕ → ℕ → List Look → Bool →
 AreTried names seed limit looks false = AreStopped names seed limit looks
 AreTried names seed limit looks true = AsksOn names looks
 
--- the first and the last of them are made without faults
+-- The first and the last of these runs were made without faults, and the others come between them.
 pub record IsBetween (seed limit : ℕ) (looks between : List Look) (first last : Look) : Type 0 where
   pub are : looks ≡ first ∷ (between ++ last ∷ [])
   pub first_is : IsUnder seed limit [] first
@@ -87,8 +87,8 @@ pub record IsBetween (seed limit : ℕ) (looks between : List Look) (first last 
 abbrev pub AreAlike : Look → Look → Type 0
 AreAlike a b = (a.verdict ≡ b.verdict) × (a.asked ≡ b.asked)
 
--- no law is seen to be broken: the names are a catalogue, two runs without faults came to the same, and between these a run was stopped at each
--- point, and asked nothing more
+-- No law is seen to be broken: the names are a catalogue, two runs without faults came to the same, and between these two a run was stopped at each
+-- point and asked nothing more.
 pub record KeepsLaws (names : List (List ℕ)) (seed limit : ℕ) (looks : List Look) : Type 0 where
   pub catalogue : IsCatalogue names
   pub between : List Look
@@ -105,13 +105,13 @@ pub record DiffersAgain (seed limit : ℕ) (looks : List Look) : Type 0 where
   pub whole : IsBetween seed limit looks between first last
   pub differ : AreAlike first last → ⊥
 
--- the law that runs are seen to break, or none
+-- The law that the runs are seen to break, or none.
 abbrev pub IsSeen : List (List ℕ) → ℕ → ℕ → List Look → Option BrokenLaw → Type 0
 IsSeen names seed limit looks None = KeepsLaws names seed limit looks
 IsSeen names seed limit looks (Some (Catalogue fault)) = IsCatalogue names → ⊥
 IsSeen names seed limit looks (Some AsksAfterHalt) = AsksOn names looks
 IsSeen names seed limit looks (Some KeepsState) = DiffersAgain seed limit looks
 
--- so it is of the runs that were made, from one state of a candidate to another
+-- The same for the runs that were made from one state of a candidate to another.
 abbrev pub IsSeenIn : {S : Type 0} → (S → Look → S → Type 0) → List (List ℕ) → ℕ → ℕ → S → S → Option BrokenLaw → Type 0
 IsSeenIn made names seed limit a b law = (looks : List Look) × Lead made a looks b × IsSeen names seed limit looks law

@@ -1,4 +1,4 @@
--- What is seen where plans that fail are run once more.
+-- What is seen if failing plans are run once more.
 use Rattle.std.specs.Prelude.{◌≡◌, ℕ, ◌<◌, List, [], Option, None, Some, Contains, length, slice_get, slice_index_or}
 use Rattle.scenario_values.specs.Scenario.{Entries}
 use Rattle.target_trait.specs.declared.judgement.Verdict.{Verdict}
@@ -7,7 +7,7 @@ use Rattle.campaign_given.specs.Given.{Given}
 use Rattle.target_laws.specs.Candidates.{Lead, Look}
 use Rattle.target_laws.specs.declared.recheck.ChangedVerdict.{ChangedVerdict}
 
--- a plan was run under its number, and came to this
+-- A plan was run under its number, and came to this verdict.
 pub record IsRunAgain (given : Given) (plans : List Entries) (runs : List Look) (n : ℕ) (verdict : Verdict) : Type 0 where
   pub run : Look
   pub made : Contains runs run
@@ -17,7 +17,7 @@ pub record IsRunAgain (given : Given) (plans : List Entries) (runs : List Look) 
   pub limit : run.limit ≡ given.max_hits
   pub comes : run.verdict ≡ verdict
 
--- it was run again, where its first run came to this: it comes to the same, or it is told to what else
+-- A plan was run again and its verdict changed. In `IsRerun`, below, there is no change if it came to the same.
 pub record IsChanged (given : Given) (plans : List Entries) (runs : List Look) (n : ℕ) (first : Verdict) (changed : ChangedVerdict) : Type 0 where
   pub plan : changed.plan ≡ n
   pub first_is : changed.first ≡ first
@@ -28,12 +28,12 @@ abbrev pub IsRerun : Given → List Entries → List Look → ℕ → Verdict �
 IsRerun given plans runs n first None = IsRunAgain given plans runs n first
 IsRerun given plans runs n first (Some changed) = IsChanged given plans runs n first changed
 
--- of the first so many verdicts each that fails was come to again
+-- Each of the first `count` plans that fails was run again and came to the same failure.
 abbrev pub AreSteady : Given → List Entries → List Verdict → List Look → ℕ → Type 0
 AreSteady given plans verdicts runs count =
     (n code : ℕ) → n < count → slice_get verdicts n ≡ Some (Fail code) → IsRunAgain given plans runs n (Fail code)
 
--- the first one that fails and changed, or none
+-- The first failing plan whose verdict changed, or none.
 pub record IsFirstChanged (given : Given) (plans : List Entries) (verdicts : List Verdict) (runs : List Look) (changed : ChangedVerdict) : Type 0 where
   pub code : ℕ
   pub failed : slice_get verdicts changed.plan ≡ Some (Fail code)
@@ -44,6 +44,6 @@ abbrev pub IsRechecked : Given → List Entries → List Verdict → List Look �
 IsRechecked given plans verdicts runs None = AreSteady given plans verdicts runs (length verdicts)
 IsRechecked given plans verdicts runs (Some changed) = IsFirstChanged given plans verdicts runs changed
 
--- so it is of the runs that were made, from one state of a candidate to another
+-- The same for the runs that were made from one state of a candidate to another.
 abbrev pub IsRecheckedIn : {S : Type 0} → (S → Look → S → Type 0) → Given → List Entries → List Verdict → S → S → Option ChangedVerdict → Type 0
 IsRecheckedIn made given plans verdicts a b changed = (runs : List Look) × Lead made a runs b × IsRechecked given plans verdicts runs changed

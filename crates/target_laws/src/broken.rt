@@ -1,4 +1,4 @@
-//! Which law a target breaks.
+//! Which of a target's laws a run shows to be broken.
 ghost use Rattle.std.specs.Prelude.{◌≡◌, None, IfOk};
 ghost use Rattle.target_laws.specs.Candidates.{IsSeenIn};
 
@@ -15,7 +15,7 @@ use target_trait::{Case, Target};
 pub enum BrokenLaw {
     /// Its catalogue isn't 1 to 64 distinct names of at most 200 bytes, each of which a scenario can have.
     Catalogue(CatalogueFault),
-    /// It asked a point after it had been stopped. It went on where its component was dead, so what it judged shows nothing.
+    /// It asked a point after it had been stopped. It went on although its component was dead, so what it judged shows nothing.
     AsksAfterHalt,
     /// Two runs of the same scenario differ: something is kept from run to run.
     KeepsState,
@@ -31,8 +31,8 @@ impl fmt::Display for BrokenLaw {
     }
 }
 
-/// The first law that a candidate is seen to break: by its catalogue, in a run for each point that stops at the point's first hit, and in two runs
-/// without faults, one before these and one after. A candidate may still break a law that shows in other runs alone.
+/// The first law that a candidate is seen to break. Looked at are its catalogue, a run for each point that is stopped at the point's first hit, and
+/// two runs without faults, one before these and one after. A candidate may still break a law in other runs.
 ///
 /// An error means that memory was refused.
 pub fn first_broken_law<C: Candidate>(
@@ -65,9 +65,9 @@ pub fn first_broken_law<C: Candidate>(
     Ok(None)
 }
 
-/// The first law that a target is seen to break, as of a candidate. The caller's target isn't touched.
+/// The first law that a target is seen to break, found as for a candidate. The caller's target isn't touched.
 ///
-/// A proved target breaks none, and the answer is `None`. An error means that memory was refused.
+/// A proved target breaks none, so this is `None`. An error means that memory was refused.
 pub fn broken_law<T: Target>(
     alloc: Global,
     target: &T,

@@ -1,4 +1,4 @@
-//! A target about which nothing is proved: its calls without its laws, and what its runs came to when they were made.
+//! A target about which nothing is proved: its calls without its laws, and what its runs came to.
 ghost use Rattle.std.specs.Prelude.{◌≡◌, IfOk};
 ghost use Rattle.action_eval.specs.Answers.{texts};
 ghost use Rattle.target_laws.specs.Candidates.{look};
@@ -7,17 +7,17 @@ ghost use Rattle.target_laws.specs.inside.Lawful.{IsMadeOf};
 use std::alloc::{AllocError, Global};
 use target_trait::{Case, Target, Verdict, run_session, session_of};
 
-/// What a run came to that is looked at.
+/// What a run came to, as it is looked at.
 #[derive(Debug, Drop)]
 pub struct Looked {
     pub verdict: Verdict,
-    /// The points that were asked, in order; a hit past the limit isn't among them.
+    /// The points that were asked, in order. A hit past the limit isn't among them.
     pub asked: Vec<u32>,
     /// Whether a point was asked after the run was stopped.
     pub is_asked_on: bool,
 }
 
-/// The calls of a [`Target`], without its laws: of a candidate nothing is known but what the runs came to that were made. Each target is one.
+/// The calls of a [`Target`], without its laws. Nothing is known of a candidate except what its runs came to. Each target is a candidate.
 pub trait Candidate {
     ghost use Rattle.std.specs.Prelude.{ℕ, List};
     ghost use Rattle.target_laws.specs.Candidates.{Look};
@@ -27,14 +27,14 @@ pub trait Candidate {
     /// The names of its points.
     ghost names: { List (List ℕ) };
 
-    /// A run on a workload that was made came to this, and led from one state of the candidate to another.
+    /// A run on a workload was made, came to this, and led from one state of the candidate to another.
     ghost made: { Self.Workload → Self → Look → Self → Type 0 };
 
     /// The names of its points.
     fn points() -> &'static [&'static str]
         ensures { texts result.now ≡ names };
 
-    /// Makes a run of a case. An error means that memory was refused.
+    /// Runs a case. An error means that memory was refused.
     fn look(
         &mut self,
         alloc: Global,

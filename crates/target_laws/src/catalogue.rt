@@ -17,7 +17,7 @@ const MOST_BYTES: usize = 200;
 pub enum CatalogueFault {
     /// It has no point.
     NoPoints,
-    /// It has so many points, more than 64.
+    /// It has this many points, more than 64.
     ManyPoints(usize),
     /// This name has more than 200 bytes.
     LongName(&'static str),
@@ -39,7 +39,7 @@ impl fmt::Display for CatalogueFault {
     }
 }
 
-/// Whether the name of this place stands at an earlier one too.
+/// Whether the name at this place stands at an earlier place too.
 fn is_repeated(names: &[&str], place: usize) -> bool
     requires { place < length names.now }
     ensures lawful { IsCatalogue (texts names.now) → result ≡ false }
@@ -53,7 +53,7 @@ fn is_repeated(names: &[&str], place: usize) -> bool
     false
 }
 
-/// What is wrong with the name of this place: it is too long, no scenario can have it, or it is one of those before it.
+/// What is wrong with the name at this place: it is too long, no scenario can have it, or it stands at an earlier place too.
 fn name_fault(names: &[&'static str], place: usize) -> Option<CatalogueFault>
     requires { place < length names.now }
     ensures lawful { IsCatalogue (texts names.now) → result ≡ None }
@@ -72,8 +72,8 @@ fn name_fault(names: &[&'static str], place: usize) -> Option<CatalogueFault>
     None
 }
 
-/// The first thing that is wrong with a catalogue: how many names there are, and then of each name in order what is wrong with it. `None`
-/// just where these are 1 to 64 distinct names of at most 200 bytes, each of which a scenario can have.
+/// The first thing that is wrong with a catalogue. The number of names is looked at first, then each name in order. `None` exactly if there are 1 to
+/// 64 distinct names of at most 200 bytes, each of which a scenario can have.
 pub fn catalogue_fault(names: &[&'static str]) -> Option<CatalogueFault>
     ensures lawful { IsCatalogue (texts names.now) → result ≡ None }
     ensures only { result ≡ None → IsCatalogue (texts names.now) }

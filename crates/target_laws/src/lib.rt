@@ -1,4 +1,4 @@
-//! What a target has to keep to, looked at in a target that isn't proved. A proved one keeps to all of it.
+//! Whether a target that isn't proved keeps a target's laws, as far as runs show it. A proved target keeps them all.
 #![tactic(auto)]
 
 mod broken;

@@ -17,32 +17,32 @@ use target_trait::{Target, Verdict};
 pub struct ChangedVerdict {
     /// The plan's number.
     pub plan: usize,
-    /// What the first run says, which is fail.
+    /// The verdict of the first run, which is fail.
     pub first: Verdict,
-    /// What the second one says.
+    /// The verdict of the second run.
     pub second: Verdict,
 }
 
-/// The plans of a campaign, and the settings that say under which seed and limit they run.
+/// The plans of a campaign, and the settings with the seed and the limit under which they run.
 #[derive(Clone, Copy)]
 pub struct CampaignCases<'a> {
     pub plans: &'a CampaignPlans<'a>,
     pub settings: &'a CampaignSettings,
 }
 
-/// Whether the plan of this number comes to something else than the first time when it is run once more.
+/// Whether the plan of this number comes to something else than this verdict when it is run once more.
 fn changed<C: Candidate>(
     alloc: Global,
     candidate: &mut C,
     workload: &C::Workload,
     cases: CampaignCases<'_>,
-    number: usize,
-    first: Verdict,
+    judged: (usize, Verdict),
 ) -> Result<Option<ChangedVerdict>, AllocError>
-    requires { number < length cases.plans.now }
+    requires { judged.0 < length cases.plans.now }
     ensures { IfOk result (λ changed. (runs : List Look) × Lead (C.made workload.now) candidate.old runs candidate.new
-        × IsRerun cases.entry.settings.now cases.entry.plans.now runs number first changed) }
+        × IsRerun cases.entry.settings.now cases.entry.plans.now runs judged.0 judged.1 changed) }
 {
+    let (number, first) = judged;
     let scenario = cases.plans.plan(number).scenario(alloc)?;
     let case = cases.settings.case(&scenario, number as u64);
     let second = candidate.look(alloc, workload, &case)?.verdict;
@@ -56,8 +56,8 @@ fn changed<C: Candidate>(
     }))
 }
 
-/// The first of a campaign's plans that fails by these verdicts, which are those of its first plans, and comes to something else when it is run once
-/// more. Plans that don't fail aren't run. An error means that memory was refused.
+/// Runs each plan that fails by these verdicts once more, and returns the first whose verdict differs now. The verdicts are those of the campaign's
+/// first plans. Plans that don't fail aren't run. An error means that memory was refused.
 pub fn first_changed_verdict<C: Candidate>(
     alloc: Global,
     candidate: &mut C,
@@ -70,7 +70,8 @@ pub fn first_changed_verdict<C: Candidate>(
 {
     for number in 0..verdicts.len() {
         if let Verdict::Fail(_) = verdicts[number] {
-            let changed = changed(alloc, candidate, workload, cases, number, verdicts[number])?;
+            let judged = (number, verdicts[number]);
+            let changed = changed(alloc, candidate, workload, cases, judged)?;
             if changed.is_some() {
                 return Ok(changed);
             }
@@ -79,9 +80,9 @@ pub fn first_changed_verdict<C: Candidate>(
     Ok(None)
 }
 
-/// The same of a target, on a twin: the caller's target isn't touched.
+/// The same for a target, on a twin: the caller's target isn't touched.
 ///
-/// Of a proved target there is none: its verdict is a function of the scenario. An error means that memory was refused.
+/// A proved target has no such plan, because its verdict is a function of the scenario. An error means that memory was refused.
 pub fn changed_verdict<T: Target>(
     alloc: Global,
     target: &T,

@@ -1,4 +1,4 @@
-//! Runs in which a candidate's laws are looked at.
+//! Runs that show whether a candidate breaks a law.
 ghost use Rattle.std.specs.Prelude.{◌≡◌, ◌↔◌, None, true, List, IfOk, IfSome};
 ghost use Rattle.scenario_values.specs.Scenario.{Entries};
 ghost use Rattle.target_laws.specs.Candidates.{AreTried, Halts, IsTriedAt, Lead, Look};
@@ -17,7 +17,7 @@ pub fn are_alike(one: &Looked, other: &Looked) -> bool
     one.verdict == other.verdict && one.asked.as_slice() == other.asked.as_slice()
 }
 
-/// The scenario that stops a run at the first hit of a point; `None` where no scenario can name it.
+/// The scenario that stops a run at the first hit of a point; `None` if no scenario can name the point.
 fn halting_at(alloc: Global, name: &str) -> Result<Option<Scenario>, AllocError>
     ensures halts { IfOk result (λ scenario. IfSome scenario (Halts name.now)) }
     ensures unnamed { IfOk result (λ scenario. scenario ≡ None → (s : Entries) → Halts name.now s → ⊥) }
@@ -31,7 +31,7 @@ fn halting_at(alloc: Global, name: &str) -> Result<Option<Scenario>, AllocError>
     }
 }
 
-/// Whether a candidate asks a further point after it was stopped at the first hit of this one.
+/// Whether a candidate asks another point after it was stopped at the first hit of this one.
 fn asks_after_halt<C: Candidate>(
     alloc: Global,
     candidate: &mut C,

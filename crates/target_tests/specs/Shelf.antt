@@ -1,4 +1,4 @@
--- A shelf onto which two things are put, one after the other. Nothing that is put lasts before the power is cut.
+-- A shelf onto which two things are put, one after the other. All that was put is pending until the power is cut.
 use Rattle.std.specs.Prelude.{ℕ, ◌==◌, if◌then◌else◌, Bool, List, length, Option, Some, None}
 use Rattle.target_trait.specs.declared.judgement.Judgement.{Judgement}
 use Rattle.target_trait.specs.declared.judgement.Judgement.TheVariants.{Kept, Broken}
@@ -30,14 +30,14 @@ refused (shelf.Over count) = shelf.Over count
 abbrev pub table : Table Shelf
 table = record { first = shelf.Empty; point = point_of; go = put; fail = λ s text. refused s; judge = λ s. Kept }
 
--- how many things were put
+-- How many things were put.
 abbrev pub count_of : Shelf → ℕ
 count_of shelf.Empty = 0
 count_of shelf.FirstPut = 1
 count_of shelf.FirstRefused = 0
 count_of (shelf.Over count) = count
 
--- a cut that was asked for anything breaks the promise, so that a test sees it
+-- A cut that is asked about anything breaks the promise, so that a test sees it.
 abbrev pub cut_table : CutTable Shelf
 cut_table = record { pending = count_of; judge = λ s keep. if length keep == 0 then Kept else Broken 5 }
 

@@ -13,7 +13,7 @@ fn committed(participant: usize, transaction: usize) -> Write {
     forced(Party::Participant(participant), transaction, Kind::Commit)
 }
 
-/// The logs of so many participants, after these writes.
+/// The logs of this many participants, after these writes.
 fn logs_of(alloc: Global, participants: usize, writes: &[Write]) -> Result<Logs, AllocError> {
     let mut logs = Logs::new(alloc);
     logs.clear(participants)?;
@@ -23,7 +23,7 @@ fn logs_of(alloc: Global, participants: usize, writes: &[Write]) -> Result<Logs,
     Ok(logs)
 }
 
-/// The transactions that were told, how many were begun, and the judgement.
+/// The transactions that the client was told of, how many were begun, and the judgement.
 type Row = (&'static [usize], usize, Judgement);
 
 /// The logs of two participants, after these writes, are judged so.

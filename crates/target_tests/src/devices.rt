@@ -49,7 +49,7 @@ fn perform_all(device: &mut FileDevice, calls: &[Call<'_>]) -> Result<(), Device
     Ok(())
 }
 
-/// What a name holds; nothing, where it is gone.
+/// What a name holds; nothing if it is gone.
 type Contents<'c> = Option<&'c [u8]>;
 
 /// The name holds these contents, or it is gone.
@@ -175,8 +175,8 @@ fn link_shares_the_file(rt: HostRuntime) -> Result<(), DeviceFault> {
     Ok(())
 }
 
-// Which of two appended bytes a power cut keeps, and what is there in the end where the power is cut again, a third byte is appended and synced, and the
-// power is cut once more. Where the second byte is kept without the first, there is a zero in its place.
+// Which of two appended bytes a power cut keeps; and what is there in the end, after another power cut, a third byte that is appended and synced, and
+// one more power cut. If the second byte is kept without the first, there is a zero in the first one's place.
 const RECOVERED: [(&[bool], &[u8]); 4] = [
     (&[], b"z"),
     (&[true], b"xz"),
@@ -203,7 +203,7 @@ fn what_a_cut_kept_lasts_and_is_appended_to(rt: HostRuntime) -> Result<(), Devic
     Ok(())
 }
 
-/// Adds these records, where `force` says which are forced.
+/// Adds these records; `force` says which are forced.
 fn add(log: &mut RecordLog<u32>, records: &[(u32, bool)]) -> Result<(), AllocError> {
     for (record, force) in records {
         if *force {

@@ -152,8 +152,8 @@ fn with_its_cut(
     Ok(())
 }
 
-// Scenarios with what is pending at the end of their runs. First the two records and the commit record of the first transaction, where its only sync
-// halts; then the record and the commit record of the second one, where its only sync fails.
+// Scenarios with what is pending at the end of their runs. First the two records and the commit record of the first transaction, as its only sync
+// halts; then the record and the commit record of the second one, as its only sync fails.
 const KEPT: [Row<'static>; 8] = [
     ("", Verdict::Pass, 0),
     ("journal::sync=1*panic", Verdict::Pass, 3),
@@ -194,9 +194,9 @@ fn one_sync_is_torn_where_the_commit_record_is_kept(rt: HostRuntime) -> Result<(
     Ok(())
 }
 
-// Scenarios with how many appends are pending at the end of the sound journal's runs. The records of the first transaction, where their sync halts,
-// and with them that of the second one, where each sync fails. Then the whole commit record of the first and the record of the second; and half of
-// the commit record and the record of the second.
+// Scenarios with how many appends are pending at the end of the sound journal's runs. The records of the first transaction, if their sync halts, and
+// with them that of the second one, if each sync fails. Then the whole commit record of the first and the record of the second; and half of the
+// commit record and the record of the second.
 const PENDING: [(&str, usize); 5] = [
     ("journal::sync=1*panic", 2),
     ("journal::sync=return", 3),

@@ -98,7 +98,7 @@ const SOUND: [Row; 9] = [
         11,
         2,
     ),
-    // nothing: an acknowledgement is missing, or nobody was told
+    // nothing is pending: an acknowledgement is missing, or nobody was told
     ("commit::send_ack=1*return;power::keep=return", PASS, 13, 0),
     (
         "commit::send_outcome=1*panic;power::keep=return",
@@ -114,7 +114,7 @@ fn the_sound_variant_survives_each_cut(rt: HostRuntime) -> Result<(), Fail> {
     come_to(&rt, rt.alloc(), Variant::Sound, &workload, &SOUND)
 }
 
-// What the coordinator has pending of the first transaction is forced by the commit record of the second, and else it is the first that is pending.
+// The commit record of the second transaction forces what the coordinator has pending of the first. Otherwise that is the first pending record.
 const SOUND_TWICE: [Row; 4] = [
     ("power::keep=return", PASS, 27, 1),
     // the first's end record, and then the abort record of the second participant, whose yes alone arrived in the second transaction
@@ -139,7 +139,7 @@ fn records_are_pending_over_all_logs(rt: HostRuntime) -> Result<(), Fail> {
     come_to(&rt, rt.alloc(), Variant::Sound, &workload, &SOUND_TWICE)
 }
 
-/// The run has this verdict, and asks so many points.
+/// The run has this verdict, and asks this many points.
 fn ends(rt: &impl Abort, told: &Outcome, verdict: Verdict, asked: usize) {
     assert_eq!(rt; told.verdict, verdict);
     assert_eq!(rt; told.asked.len(), asked);
@@ -168,7 +168,7 @@ fn a_run_that_is_cut_short_has_no_cut(rt: HostRuntime) -> Result<(), Fail> {
     Ok(())
 }
 
-// A prepare record that wasn't forced is pending until its log is forced. Where the outcome doesn't arrive, a kept one makes up for it.
+// A prepare record that wasn't forced is pending until its log is forced. If the outcome doesn't arrive, a kept prepare record makes up for it.
 const LAZY_PREPARE: [Row; 7] = [
     // the first participant's, and the second has committed
     ("commit::send_outcome=1*return", SPLIT_ENDS, 12, 1),
@@ -218,7 +218,7 @@ fn lazy_prepare_is_as_the_prepare_records_are_kept(rt: HostRuntime) -> Result<()
     )
 }
 
-// Both prepare records of the first participant are pending, since no outcome arrives there. Where the later one is kept, so is the earlier one.
+// Both prepare records of the first participant are pending, since no outcome arrives there. If the later one is kept, so is the earlier one.
 const LAZY_PREPARE_TWICE: [Row; 4] = [
     (
         "commit::send_outcome=1*return->1*off->1*return",
@@ -254,7 +254,7 @@ fn a_kept_record_keeps_those_before_it(rt: HostRuntime) -> Result<(), Fail> {
     )
 }
 
-// The end record is pending before anybody is told. Where it is kept, who inquires is told abort.
+// The end record is pending before anybody is told. If it is kept, a participant that inquires is told abort.
 const END_FIRST: [Row; 10] = [
     ("power::keep=return", PASS, 14, 1),
     ("commit::send_outcome=1*return", PASS, 12, 1),
@@ -306,13 +306,13 @@ fn end_first_is_broken_where_the_end_record_is_kept(rt: HostRuntime) -> Result<(
     come_to(&rt, rt.alloc(), Variant::EndFirst, &workload, &END_FIRST)
 }
 
-// Where an acknowledgement is missing nothing more is asked, so that no later commit record forces the end record.
+// If an acknowledgement is missing, nothing more is asked, so that no later commit record forces the end record.
 const END_FIRST_TWICE: [Row; 5] = [
     ("", PASS, 27, 1),
     ("commit::send_ack=1*return", PASS, 14, 1),
     ("commit::send_outcome=1*return", PASS, 12, 1),
     ("commit::force_outcome=1*off->1*return", PASS, 13, 1),
-    // an abort lacks none: the second transaction follows, and ends well
+    // an abort needs no acknowledgement: the second transaction follows, and ends well
     ("commit::send_vote=1*return", PASS, 21, 1),
 ];
 

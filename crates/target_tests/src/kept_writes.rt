@@ -1,5 +1,5 @@
 //! File replacements whose power cut keeps some of what is pending. A file of `old` is replaced once, by the chunks `ne` and `w`: the pending writes
-//! are the name of the new file, its two chunks, and the rename, in this order, but for what a sync has made last.
+//! are the name of the new file, its two chunks, and the rename, in this order, except what a sync has made last.
 
 use crate::runs::{Row, comes_to};
 use file_replace::{Replace, TORN, Variant};
@@ -23,7 +23,7 @@ fn come_to(rt: &impl Abort, alloc: Global, variant: Variant, rows: &[Row<'_>]) -
     Ok(())
 }
 
-// The file is renamed before it is synced: where the cut keeps the rename alone, `target` holds nothing.
+// The file is renamed before it is synced: if the cut keeps the rename alone, `target` holds nothing.
 const RENAME_FIRST: [Row<'static>; 4] = [
     (
         "replace::sync=1*return;power::keep=3*off->1*return",
@@ -103,8 +103,8 @@ fn ignore_sync_is_torn_where_a_chunk_is_kept(rt: HostRuntime) -> Result<(), Fail
     come_to(&rt, rt.alloc(), Variant::IgnoreSync, &IGNORE_SYNC)
 }
 
-// There is no file but the one that is replaced: once its name is gone, only what is kept of the new one stands there. Pending are the old name's end,
-// the new name, and the two chunks, but for what a sync has made last.
+// There is no file but the one that is replaced: once its name is gone, only what is kept of the new one stands there. Pending are the old name's
+// end, the new name, and the two chunks, except what a sync has made last.
 const IN_PLACE: [Row<'static>; 8] = [
     (
         "replace::create=1*return;power::keep=1*return",

@@ -1,5 +1,5 @@
-//! What the bundled targets tell of their pending writes: a line for each write that the power cut of a run asks for, in the order in which the writes
-//! were made.
+//! What the bundled targets say of their pending writes: a line for each write for which the power cut of a run asks, in the order in which the
+//! writes were made.
 ghost use Rattle.std.specs.Prelude.{◌≡◌, length, IfOk};
 
 use chunked_text::Chunks;
@@ -32,7 +32,7 @@ fn are(rt: &impl Abort, calls: &[String], lines: &[&str], scenario: &str) {
     }
 }
 
-/// The lines that a run tells.
+/// The lines of a run.
 type Lines = &'static [&'static str];
 
 const RENAMED: Lines = &[
@@ -118,7 +118,7 @@ fn two_letters(alloc: Global) -> Result<Messages, AllocError> {
     Ok(Messages::new(messages))
 }
 
-/// Deliveries tell these lines.
+/// Deliveries have these lines.
 fn delivering_tells(
     rt: &impl Abort,
     alloc: Global,
@@ -210,7 +210,7 @@ fn two_agreed(alloc: Global) -> Result<Transactions, AllocError> {
     Ok(Transactions::new(2, transactions))
 }
 
-/// Commits tell these lines.
+/// Commits have these lines.
 fn committing_tells(
     rt: &impl Abort,
     alloc: Global,

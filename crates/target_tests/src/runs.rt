@@ -15,7 +15,7 @@ pub fn asks(rt: &impl Abort, told: &Outcome, verdict: Verdict, points: &[u32], a
 /// A scenario, the verdict of its run, and how often the cut asks: once for each pending write, in the order in which they were made.
 pub type Row<'r> = (&'r str, Verdict, usize);
 
-/// How often the last point of so many was asked, which is that of the cut.
+/// How often the last of this many points was asked, which is that of the cut.
 fn keeps_asked(asked: &[u32], points: usize) -> usize {
     asked
         .iter()
@@ -23,7 +23,7 @@ fn keeps_asked(asked: &[u32], points: usize) -> usize {
         .count()
 }
 
-/// A run with its cut has this verdict, and the cut asks so often. How many points were asked, those of the cut among them.
+/// A run with its cut has this verdict, and the cut asks this often. Returns how many points were asked, those of the cut among them.
 pub fn comes_to<T: Target>(
     rt: &impl Abort,
     alloc: Global,

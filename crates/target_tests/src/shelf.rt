@@ -1,4 +1,4 @@
-//! A component of two steps, that tells what is pending.
+//! A component of two steps that says what is pending.
 ghost use Rattle.std.specs.Prelude.{[], ◌∷◌, codes};
 ghost use Rattle.std.proofs.Common.{rules};
 ghost use Rattle.target_tests.specs.Shelf.{table, cut_table, shelf-within};
@@ -13,7 +13,7 @@ pub enum Shelf {
     Empty,
     FirstPut,
     FirstRefused,
-    /// So many things were put.
+    /// This many things were put.
     Over(u32),
 }
 

@@ -6,10 +6,10 @@ use target_checks::{Narrow, Trouble};
 use target_trait::{Out, Sink};
 use work_gate::{FreeGate, Gate, Phase};
 
-/// What is written, what is told of it, and whether the sink has failed then.
+/// What is written, what is reported of it, and whether the sink has failed then.
 type Row = (&'static [u8], Result<usize, ()>, bool);
 
-/// These are written, one after the other, and told so.
+/// These are written, one after the other, and reported so.
 fn writes<S: Sink>(rt: &impl Abort, out: &mut S, rows: &[Row]) {
     for (bytes, told, has_failed) in rows {
         assert!(rt; out.write(bytes) == *told, "{told:?}");

@@ -21,7 +21,7 @@ fn with_lasting(alloc: Global, bytes: &[u8]) -> Result<FileDevice, DeviceFault> 
     Ok(device)
 }
 
-/// The file `A` holds these bytes, and those where the power is cut.
+/// The file `A` holds these bytes, and those after a power cut.
 fn holds_then(rt: &impl Abort, device: &mut FileDevice, now: &[u8], cut: &[u8], what: &str) {
     assert_eq!(rt; device.read(A), Ok(now), "{what}");
     device.power_cut();
@@ -51,7 +51,7 @@ fn perform(device: &mut FileDevice, calls: &[Call<'_>]) -> Result<(), DeviceFaul
     Ok(())
 }
 
-/// Calls; what the file `A` holds then, and what it holds where the power is cut then.
+/// Calls; what the file `A` holds then, and what it holds after a power cut then.
 type Step = (&'static [Call<'static>], &'static [u8], &'static [u8]);
 
 // What is to be seen, what the file holds at first, and the steps, one after the other.

@@ -17,7 +17,7 @@ const BROKEN: Verdict = Verdict::Fail(5);
 const NOTHING: Verdict = Verdict::Unresolved;
 
 // A scenario and how many hits are answered; the verdict, and the points that are asked. Each thing that is put is a pending write, for which the cut
-// asks once. The shelf is broken where it was asked at all.
+// asks once. The shelf is broken if it was asked at all.
 const RUNS: [(&str, u32, Verdict, &[u32]); 13] = [
     ("", 9, BROKEN, &[PUT, PUT, KEEP, KEEP]),
     ("shelf::put=1*return", 9, BROKEN, &[PUT, PUT, KEEP]),
@@ -26,7 +26,7 @@ const RUNS: [(&str, u32, Verdict, &[u32]); 13] = [
     ("shelf::put=1*off->1*panic", 9, BROKEN, &[PUT, PUT, KEEP]),
     ("shelf::put=1*panic", 9, Verdict::Pass, &[PUT]),
     ("power::keep=1*panic", 9, BROKEN, &[PUT, PUT, KEEP, KEEP]),
-    // nothing further is asked of a run that a pause or the limit cut short, by the cut neither, and nothing is known of it: also where the target
+    // nothing more is asked, not even by the cut, in a run that a pause or the limit cut short, and nothing is known of it, even if the target
     // panicked before
     ("shelf::put=1*pause", 9, NOTHING, &[PUT]),
     ("power::keep=1*pause", 9, NOTHING, &[PUT, PUT, KEEP]),
@@ -52,7 +52,7 @@ fn the_cut_asks_for_each_pending_write_of_a_whole_run(rt: HostRuntime) -> Result
     Ok(())
 }
 
-// A return keeps the write that it was asked for, all else loses it.
+// A return keeps the write for which it was asked; every other answer loses it.
 #[test]
 fn a_return_keeps_a_write(rt: HostRuntime) -> Result<(), Fail> {
     let scenario = parse(

@@ -56,7 +56,7 @@ each_set asks cut point own keep h over long =
     (le-ltb (length (map answer_to keep)) (cut.pending own) (omega (arith, as_long keep, long)))
     ∙ ap (λ (l : List Bool). Done (cut.judge own l)) (kept_again keep)
 
--- where nothing is pending, what is asked is what the target asks
+-- If nothing is pending, what is asked is what the target asks.
 same_end : (m : Move) → by_own m m (Done (judgement_of m)) ≡ m
 same_end (Ask p) = refl
 same_end (Done j) = refl

@@ -65,7 +65,7 @@ ends_so : (b : Bool) (move : Move) (j : Judgement) → (b ≡ false → move ≡
 ends_so true move j e = tt
 ends_so false move j e = e refl
 
--- the judgement is that of the writes that are kept, where the run wasn't cut short
+-- The judgement is that of the writes that are kept, if the run wasn't cut short.
 abbrev pub IsJudged : Cut → List Reply → Option (List Bool) → Judgement → Type 0
 IsJudged cut own None j = Unit {0}
 IsJudged cut own (Some kept) j = j ≡ cut.judge own kept

@@ -9,7 +9,7 @@ use Rattle.target_trait.specs.declared.judgement.Verdict.TheVariants as verdict
 use Rattle.target_trait.specs.Play.{Move, Ask, Done, Unknown, IsPlay, move_by}
 use Rattle.target_trait.specs.Outcomes.{judged, verdict_of, play, outcome}
 
--- where this asks nothing more, it judges that all was kept
+-- If this asks nothing more, it judges that all was kept.
 abbrev pub IsKept : Move → Type 0
 IsKept move = (j : Judgement) → move ≡ Done j → j ≡ Kept
 

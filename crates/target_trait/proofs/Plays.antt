@@ -1,4 +1,4 @@
--- A whole run in which just the points that were asked were hit is the play.
+-- A whole run in which exactly the points that were asked were hit is the play.
 use Rattle.std.proofs.Common.{◌≡◌, ℕ, zero, suc, ◌+◌, ◌-◌, ◌≤◌, Bool, true, false, cond, List, [], ◌∷◌, ◌++◌, length, refl, ap, sym, ◌∙◌, arith, zero-add, append_assoc, Option, Some, None}
 use Rattle.std.proofs.lemmas.List.{append-nil}
 use Rattle.scenario_values.specs.Scenario.{Entries}
@@ -63,7 +63,7 @@ judged_by (Some stop.Limit) move j e = refl
 pub judged_so : (asks : List Reply → Move) (r : Run) (j : Judgement) → IsCutPlay asks r j → verdict_of (stopped r) (Done j) ≡ verdict_of (stopped r) (asks (replies r))
 judged_so asks r j is = judged_by (stopped r) (asks (replies r)) j is.ended
 
--- what is told of such a run is the outcome
+-- What such a run returns is the outcome.
 pub told_is : (asks : List Reply → Move) (r : Run) (j : Judgement) (g : Given) → r.given ≡ g → IsCutPlay asks r j → length r.hits ≤ r.given.limit + 1 → told asks r ≡ outcome asks g
 told_is asks r j g same is few =
     ap (told asks) (sym (play_is asks r j (suc r.given.limit) is (omega arith))) ∙ ap (outcome asks) same
@@ -84,7 +84,7 @@ given_is x s scenario catalogue names seed stream limit kept new same =
 pub given_with : (x given : Given) (names : List (List ℕ)) → x ≡ given → given.catalogue ≡ names → x ≡ given_of given.scenario names given.seed given.stream given.limit
 given_with x given names kept same = kept ∙ ap (λ (c : List (List ℕ)). given_of given.scenario c given.seed given.stream given.limit) same
 
--- what is told of a run, part by part
+-- What a run returns, part by part.
 parts_told : (asks : List Reply → Move) (r : Run) (j : Judgement) → IsCutPlay asks r j → (v : Verdict) (points : List ℕ) (notes : List Note) (millis words : ℕ) (stop : Option Stop)
     → v ≡ verdict_of stop (Done j) → stop ≡ stopped r → points ≡ asked r → notes ≡ notes_of (history_of r) → millis ≡ total_millis (history_of r) → words ≡ words_of (history_of r)
     → record { verdict = v; asked = points; notes = notes; millis = millis; words = words } ≡ told asks r
@@ -96,7 +96,7 @@ parts_told asks r j is v points notes millis words stop a b c d e f =
     ∙ ap (λ (x : ℕ). let t : Told = record { verdict = verdict_of (stopped r) (asks (replies r)); asked = asked r; notes = notes_of (history_of r); millis = x; words = words } in t) e
     ∙ ap (λ (x : ℕ). let t : Told = record { verdict = verdict_of (stopped r) (asks (replies r)); asked = asked r; notes = notes_of (history_of r); millis = total_millis (history_of r); words = x } in t) f
 
--- the parts that are told of a whole run are the outcome
+-- The parts of what a whole run returns are the outcome.
 pub parts_outcome : (asks : List Reply → Move) (r : Run) (j : Judgement) (g : Given) → IsCutPlay asks r j → r.given ≡ g → length r.hits ≤ r.given.limit + 1
     → (v : Verdict) (points : List ℕ) (notes : List Note) (millis words : ℕ) (stop : Option Stop)
     → v ≡ verdict_of stop (Done j) → stop ≡ stopped r → points ≡ asked r → notes ≡ notes_of (history_of r) → millis ≡ total_millis (history_of r) → words ≡ words_of (history_of r)

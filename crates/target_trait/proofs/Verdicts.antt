@@ -28,7 +28,7 @@ verdict_told asks names seed limit stream scenario r j stop v given is few judge
     ∙ ap (λ (t : Told). t.verdict) (told_is asks r j (given_of scenario names seed stream limit) given is few)
     ∙ sym (verdict_is asks names seed limit stream scenario)
 
--- what is told of a run, by its meaning
+-- What a run returns, by its meaning.
 told_by : (List Reply → Move) → Meaning → Told
 told_by asks m = record { verdict = verdict_of m.stop (asks m.replies); asked = m.asked; notes = m.notes; millis = m.millis; words = m.words }
 

@@ -1,4 +1,4 @@
--- The law that each question is of a point of the catalogue, for what asks its power cut.
+-- The law that each question is of a point of the catalogue, for targets whose power cut is asked.
 use Rattle.std.specs.Prelude.{codes}
 use Rattle.std.proofs.Common.{◌≡◌, ℕ, suc, ◌+◌, Bool, true, false, cond, List, [], ◌∷◌, ◌++◌, length, sym, ◌∙◌, subst, arith, length-append}
 use Rattle.action_eval.specs.Answers.{Reply}

@@ -1,4 +1,4 @@
--- The two laws of a target, for each machine and for each table.
+-- The two laws of a target, for every machine and for every table.
 use Rattle.std.specs.Prelude.{◌≡◌, ℕ, Bool, true, false, List, [], ◌∷◌, ◌++◌}
 use Rattle.std.proofs.Common.{refl}
 use Rattle.action_eval.specs.Answers.{Reply, Halt}

@@ -1,4 +1,4 @@
--- The outcome of a case: the play of what is asked, and what is told of it.
+-- The outcome of a case: the run that is played by what is asked, and what is reported of it.
 use Rattle.std.specs.Prelude.{◌≡◌, ℕ, zero, suc, List, Option, Some, None}
 use Rattle.scenario_values.specs.Scenario.{Entries}
 use Rattle.action_eval.specs.declared.answer.Stop.{Stop}
@@ -10,47 +10,47 @@ use Rattle.target_trait.specs.declared.judgement.Verdict.{Verdict}
 use Rattle.target_trait.specs.declared.judgement.Verdict.TheVariants as verdict
 use Rattle.target_trait.specs.Play.{Move, Ask, Done, Unknown, move_in}
 
--- the run after a move: what is asked is hit
+-- The run after a move: if a point is asked, it is hit.
 abbrev pub moved : Move → Run → (ℕ → Run) → Run
 moved (Ask p) r further = further p
 moved (Done j) r further = r
 moved Unknown r further = r
 
--- the play from a run on, of at most n more hits: while a point is asked after the answers so far, it is hit, unless a pause or the limit cut the
--- run short
+-- The run played on, with at most n more hits: while a point is asked after the answers up to then, it
+-- is hit, unless a pause or the limit has cut the run short.
 unfoldable pub play : ℕ → (List Reply → Move) → Run → Run
 play zero asks r = r
 play (suc n) asks r = moved (move_in asks r) r (λ p. play n asks (hit r p))
 
--- the verdict of an end: of one that is unknown, as of a run without one, none is known
+-- The verdict of an end. It is unresolved if the end is unknown, or if the run hasn't ended.
 abbrev pub judged : Move → Verdict
 judged (Ask p) = verdict.Unresolved
 judged (Done judgement.Kept) = verdict.Pass
 judged (Done (judgement.Broken code)) = verdict.Fail code
 judged Unknown = verdict.Unresolved
 
--- the verdict is the judgement's, also after a panic; a run that was stopped by a pause or by the limit is unresolved, since it might
--- have come to anything
+-- The verdict is that of the judgement, also after a panic. A run that was stopped by a pause
+-- or by the limit is unresolved, since its result is unknown.
 abbrev pub verdict_of : Option Stop → Move → Verdict
 verdict_of None move = judged move
 verdict_of (Some stop.Panic) move = judged move
 verdict_of (Some stop.Paused) move = verdict.Unresolved
 verdict_of (Some stop.Limit) move = verdict.Unresolved
 
--- the verdict of a run of what asks
+-- The verdict of a run.
 abbrev pub verdict_in : (List Reply → Move) → Run → Verdict
 verdict_in asks r = verdict_of (stopped r) (asks (replies r))
 
--- the whole play of what asks, under what is given. The hit past the limit cuts the run short, so a play has at most limit + 1 hits.
+-- The whole run, as it is played under what is given. The hit past the limit cuts it short, so it has at most limit + 1 hits.
 abbrev pub whole_play : (List Reply → Move) → Given → Run
 whole_play asks g = play (suc g.limit) asks (start g)
 
--- the verdict of a case: of what is asked, the names of the points, the seed, the limit, the stream number and the scenario. All that
--- stands above targets speaks of verdicts by this one word.
+-- The verdict of a case, by what is asked, the names of the points, the seed, the limit, the stream number and the scenario. All definitions above
+-- targets speak of verdicts by this one function.
 unfoldable pub verdict_with : (List Reply → Move) → List (List ℕ) → ℕ → ℕ → ℕ → Entries → Verdict
 verdict_with asks names seed limit stream scenario = verdict_in asks (whole_play asks (given_of scenario names seed stream limit))
 
--- what is told of a run; the hit past the limit isn't among the points asked
+-- What is reported of a run. The hit past the limit isn't among the points asked.
 pub record Told : Type 0 where
   pub verdict : Verdict
   pub asked : List ℕ
@@ -67,11 +67,11 @@ told asks r = record {
   words = words_of (history_of r);
 }
 
--- the outcome: what is told of the whole play
+-- The outcome: what is reported of the whole run.
 abbrev pub outcome : (List Reply → Move) → Given → Told
 outcome asks g = told asks (whole_play asks g)
 
--- two scenarios have the same verdict under everything that asks, every catalogue, seed, limit and stream number
+-- Two scenarios have the same verdict for everything that asks, and for every catalogue, seed, limit and stream number.
 abbrev pub SameVerdicts : Entries → Entries → Type 0
 SameVerdicts s t = (asks : List Reply → Move) (names : List (List ℕ)) (seed limit stream : ℕ)
     → verdict_with asks names seed limit stream s ≡ verdict_with asks names seed limit stream t

@@ -1,4 +1,4 @@
--- Which kind of verdict one is.
+-- Tests for the kind of a verdict.
 use Rattle.std.specs.Prelude.{Bool, true, false}
 use Rattle.target_trait.specs.declared.judgement.Verdict.{Verdict}
 use Rattle.target_trait.specs.declared.judgement.Verdict.TheVariants as verdict
@@ -8,7 +8,7 @@ is_pass verdict.Pass = true
 is_pass (verdict.Fail code) = false
 is_pass verdict.Unresolved = false
 
--- whether a verdict is a failure, with whatever code
+-- Whether a verdict is a failure, with any code.
 abbrev pub is_fail : Verdict → Bool
 is_fail verdict.Pass = false
 is_fail (verdict.Fail code) = true

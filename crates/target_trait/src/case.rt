@@ -1,3 +1,4 @@
+//! A case, and its outcome on a target.
 ghost use Rattle.std.specs.Prelude.{◌≡◌, ◌≤◌, length, IfOk, OnOk, OnErr};
 ghost use Rattle.action_eval.specs.Answers.{asked, given_of, start, texts};
 ghost use Rattle.target_trait.specs.Outcomes.{outcome, verdict_of, judged, verdict_with};
@@ -16,7 +17,7 @@ pub struct Case<'a> {
     pub scenario: &'a Scenario,
     pub seed: u64,
     pub stream: u64,
-    /// A run that hits more often than this is unresolved.
+    /// How many hits are answered. A run with more hits is stopped, and unresolved.
     pub max_hits: u32,
 }
 
@@ -24,7 +25,7 @@ pub struct Case<'a> {
 #[derive(Debug, Drop)]
 pub struct Outcome {
     pub verdict: Verdict,
-    /// The points that were asked, in order; a hit past the limit isn't among them.
+    /// The points that were hit, in order. A hit past the limit isn't among them.
     pub asked: Vec<u32>,
     /// What `print` tasks left, in order.
     pub notes: Vec<Note>,
@@ -48,7 +49,7 @@ impl Model for Outcome {
     } };
 }
 
-/// The verdict of a judgement on a run that this stopped.
+/// The verdict of a run, from the judgement on it and what stopped it, if anything did.
 fn verdict_of(stopped: Option<Stop>, judgement: Judgement) -> Verdict
     ensures { result ≡ verdict_of stopped (Done judgement) }
 {
@@ -108,11 +109,11 @@ pub fn run_case<T: Target>(
     })
 }
 
-/// The verdict of one run on a target, over a session that is there already: that of what the target asks, under what the session is
-/// given. The session has the points that the run asked then.
+/// Runs a target over a session that is there already, and gives the verdict: that of what the target asks, under what the session is given. The
+/// session then has the points that the run hit.
 ///
-/// The session has to be a new one of the target's catalogue. It keeps what it is given and the hits of the run, and may then begin
-/// another one. An error means that memory was refused. The target keeps its setup, and the session what it is given, after an error too.
+/// The session has to be new, and over the target's catalogue. It may begin another run afterwards. An error means that memory was refused. The
+/// target keeps its setup, and the session what it is given, after an error too.
 pub fn run_session<T: Target>(
     target: &mut T,
     workload: &T::Workload,
@@ -127,12 +128,12 @@ pub fn run_session<T: Target>(
     ensures setup { target.new ≡ target.old }
 {
     let judgement = target.run(workload, session)?;
-    // for its clause alone, that at most one hit is past the limit
+    // Called for its contract: at most one hit is past the limit.
     let _ = session.trace();
     Ok(verdict_of(session.stopped(), judgement))
 }
 
-/// The verdict of a case on a target: that of `run_case`, without a copy of the points and of the notes.
+/// The verdict of a case on a target: the same as that of `run_case`, without copies of the points and of the notes.
 ///
 /// An error means that memory was refused. The target keeps its setup, after an error too.
 pub fn run_verdict<T: Target>(

@@ -1,4 +1,4 @@
-//! The power cut at the end of a run, which keeps some of what is pending and loses the rest.
+//! The power cut at the end of a run, which keeps some of the pending writes and loses the others.
 ghost use Rattle.std.specs.Prelude.{◌≡◌, ◌<◌, ◌≤◌, List, Option, length, option_map, IfOk, true};
 ghost use Rattle.action_eval.specs.Answers.{start, texts, reply_of_answer};
 ghost use Rattle.action_eval.specs.Catalogue.{IsCatalogue};
@@ -15,7 +15,7 @@ use action_eval::{Answer, Session};
 use std::alloc::{AllocError, Global};
 use std::marker::Model;
 
-/// Whether an answer of the cut's point keeps the write that it was asked for.
+/// Whether this answer at the cut's point keeps the write for which the point was asked.
 fn keeps(answer: &Answer<'_>) -> bool
     ensures { result ≡ keeps (reply_of_answer answer.now) }
 {
@@ -25,10 +25,10 @@ fn keeps(answer: &Answer<'_>) -> bool
     }
 }
 
-/// Asks the point of a power cut, of this number, once for each pending write, and answers which of them are kept; or none where a pause or the limit
-/// cut the run short: then nothing more is asked, and whatever is judged, the run is unresolved.
+/// Asks the power cut's point, which has this number, once for each pending write, and returns which writes are kept. `None` means that a pause or
+/// the limit cut the run short: then nothing more is asked, and the run is unresolved, whatever is judged.
 ///
-/// It is asked when a target's own run has ended, by itself or by a halt. An error means that memory was refused. The session keeps what it is given,
+/// Call it when a target's own run has ended, by itself or by a halt. An error means that memory was refused. The session keeps what it is given,
 /// after an error too.
 pub fn ask_cut(
     alloc: Global,
@@ -51,10 +51,10 @@ pub fn ask_cut(
     Ok(Some(kept))
 }
 
-/// A target whose runs tell what is pending at their end, so that the power cut there can keep any of it.
+/// A target that says which writes are pending at the end of a run, so that the power cut there can keep any of them.
 ///
 /// A run asks its own points as `run` does. When it has ended, by itself or by a halt, the cut asks `power::keep` for each pending write (`ask_cut`),
-/// and the target is judged over what is left. So a cut is the same run, over a catalogue with one name more: a second call couldn't tell what was
+/// and the target is judged over what is left. So a cut belongs to the run, over a catalogue with one name more. A second call couldn't know what was
 /// pending, since contracts see a target as its setup.
 pub trait CrashTarget: Target {
     // What a run leaves to the cut, for a setup and a workload.
@@ -83,7 +83,7 @@ pub trait CrashTarget: Target {
     ghost lawful_to_cut: { IsCatalogue (with_keep Self.names) };
 }
 
-/// The target whose runs end with their power cut: of each target that tells what is pending, one with crash states. Its setup is the target's.
+/// A target whose runs end with their power cut, made from a target that says what is pending. Its setup is that target's.
 #[derive(Drop)]
 pub struct WithCut<T: CrashTarget> {
     target: T,
@@ -96,7 +96,7 @@ impl<T: CrashTarget> Model for WithCut<T> {
 }
 
 impl<T: CrashTarget> WithCut<T> {
-    /// The target of this one's runs with their cuts.
+    /// Makes each run of this target end with its cut.
     pub fn new(target: T) -> Self
         ensures { result ≡ target }
     {
@@ -149,9 +149,9 @@ impl<T: CrashTarget> Target for WithCut<T> {
     ghost lawful = { T.lawful_to_cut };
 }
 
-/// A protocol that tells what is pending in the state in which a run ends. A protocol that doesn't leaves this out, and each cut loses all.
+/// A protocol that says which writes are pending in the state in which a run ends. A protocol without pending writes leaves this out.
 pub trait CrashProtocol: Protocol {
-    // How many writes are pending in a state, and what is judged where these of them are kept.
+    // How many writes are pending in a state, and what is judged if these of them are kept.
     ghost cut_table: { Self → Self.Workload → CutTable Self.State };
 
     /// The names of the points, and behind them `power::keep`.
@@ -165,7 +165,7 @@ pub trait CrashProtocol: Protocol {
     fn pending(&self, workload: &Self::Workload, state: &Self::State) -> usize
         ensures { result ≡ (cut_table self.now workload.now).pending state.now };
 
-    /// Judges what a power cut leaves that keeps those pending writes for which `kept` says so, in the order in which they were made.
+    /// Judges what is left after a power cut that keeps the pending writes for which `kept` is true, in the order in which they were made.
     fn judge_kept(&self, workload: &Self::Workload, state: Self::State, kept: &[bool]) -> Judgement
         ensures { result ≡ (cut_table self.now workload.now).judge state kept.now };
 

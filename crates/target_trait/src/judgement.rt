@@ -5,7 +5,7 @@
 pub enum Judgement {
     /// What the target promises was kept.
     Kept,
-    /// A promise was broken: the one that the target's code of this number names.
+    /// A promise was broken: the one that the target's code with this number names.
     Broken(u32),
 }
 
@@ -14,8 +14,8 @@ pub enum Judgement {
 pub enum Verdict {
     /// The run came to its end, or to a panic, and the target judged that all was kept.
     Pass,
-    /// The same, and the target judged that what this code names was broken.
+    /// The run came to its end, or to a panic, and the target judged that the promise which this code names was broken.
     Fail(u32),
-    /// The run was stopped by a pause, or by its limit of hits: whatever the target judged, nothing is known.
+    /// The run was stopped by a pause or by its limit of hits, so nothing is known, whatever the target judged.
     Unresolved,
 }

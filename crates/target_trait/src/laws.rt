@@ -19,8 +19,8 @@ pub fn unknown_ends_are_unresolved()
     ensures { (asks : List Reply → Move) (g : Given) → asks (replies (whole_play asks g)) ≡ Unknown → (outcome asks g).verdict ≡ Unresolved }
 {}
 
-/// Two scenarios that mean the same have the same outcome, and hence the same verdict, whatever is asked. For one catalogue, seed, stream
-/// number and limit it is enough that they mean the same under these.
+/// Two scenarios that mean the same have the same outcome, and so the same verdict, whatever is asked. If only one catalogue, seed, stream number and
+/// limit matter, it is enough that they mean the same under these.
 pub fn same_meaning_same_outcome()
     ensures outcome { (asks : List Reply → Move) (names : List (List ℕ)) (seed stream limit : ℕ) (s t : Entries)
         → ((hits : List ℕ) → meaning_of s names seed stream limit hits ≡ meaning_of t names seed stream limit hits)
@@ -28,8 +28,8 @@ pub fn same_meaning_same_outcome()
     ensures verdicts { (s t : Entries) → MeansTheSame s t → SameVerdicts s t }
 {}
 
-/// What the cut adds to what a target asks. After the target's own answers the cut asks, also after a halt; each set of pending writes is judged,
-/// by the answers that keep it; and where nothing is pending, what is asked is what the target asks.
+/// What the cut adds to what a target asks. After the target's own answers the cut asks, after a halt too. Each set of pending writes is judged, by
+/// the answers that keep it. If nothing is pending, nothing is added.
 pub fn cut_asks_after_the_target()
     ensures follows { (asks : List Reply → Move) (cut : Cut) (point : ℕ) (own answers : List Reply) → AsksAll asks [] own → IsDone (asks own)
         → asks_with asks cut point (own ++ answers) ≡ cut_asks cut point own answers }

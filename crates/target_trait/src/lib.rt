@@ -1,4 +1,4 @@
-//! What a target is, the outcome of a case on it, and the sink that a text goes to.
+//! What a target is, the outcome of a case on it, and the sink to which a text is written. How plans and reports are made is no matter of this crate.
 #![tactic(auto)]
 
 mod case;

@@ -1,4 +1,4 @@
-//! Where a text goes.
+//! Sinks, to which texts are written.
 ghost use Rattle.std.specs.Prelude.{◌≡◌, ◌≤◌, ◌||◌, ℕ, Bool, false, List, Option, IfOk, length};
 ghost use Rattle.std.specs.Io.KnownBytes.{WriteAppends};
 ghost use Rattle.target_trait.specs.Output.{fails};
@@ -6,34 +6,34 @@ ghost use Rattle.target_trait.specs.Output.{fails};
 use std::io::Write;
 use std::marker::Model;
 
-/// Where the bytes of a text go, a prefix at a time.
+/// A sink takes the bytes of a text, a prefix at a time.
 ///
-/// A sink remembers that a write failed. Whoever is lent a sink may ask that it hasn't failed before, and may answer a fault of
-/// writing only where it has failed then.
+/// A sink remembers that a write failed. So a function may require of a sink that it hasn't failed before, and promise that it reports a failed write
+/// only if the sink has failed.
 pub trait Sink {
-    // The bytes that the sink has taken, where it tells them.
+    // The bytes that the sink has taken, if they are known.
     ghost told: { Self → Option (List ℕ) };
 
     // Whether a write failed.
     ghost has_failed: { Self → Bool };
 
-    /// Takes a prefix of the bytes and answers its length, at most `bytes.len()`. An error takes nothing.
+    /// Takes a prefix of the bytes and returns its length, at most `bytes.len()`. An error takes nothing.
     ///
-    /// An error, and an answer of 0 where there are bytes, make the sink fail.
+    /// After an error, and after a length of 0 although there are bytes, the sink has failed.
     fn write(&mut self, bytes: &[u8]) -> Result<usize, ()>
         ensures bound { IfOk result (λ count. count ≤ length bytes.now) }
         ensures bytes { WriteAppends (told self.old) (told self.new) result bytes.now }
         ensures failed { has_failed self.new ≡ (has_failed self.old || fails result bytes.now) };
 
-    /// Whether a write failed, or took nothing of a slice that had bytes. A sink that failed stays so.
+    /// Whether a write failed, or took nothing although there were bytes. A sink that has failed stays failed.
     fn failed(&self) -> bool
         ensures { result ≡ has_failed self.now };
 }
 
 /// The sink over a writer: standard output, a file, or a `Vec<u8>`.
 ///
-/// Each write is one write of the writer. An error of any kind counts as a failure, an interrupted write too. Nothing is flushed: give
-/// it a writer without a buffer, as standard output is here, or take the writer back by `into_writer` and flush it.
+/// Each write is one write of the writer. Any error counts as a failure, an interrupted write too. Nothing is flushed: use a writer without a buffer,
+/// as standard output is here, or take the writer back by `into_writer` and flush it.
 #[derive(Drop)]
 pub struct Out<W: Write> {
     writer: W,
@@ -49,7 +49,7 @@ impl<W: Write> Model for Out<W> {
 }
 
 impl<W: Write> Out<W> {
-    /// The sink over a writer. It tells the bytes that the writer holds, and hasn't failed.
+    /// A sink over a writer, which hasn't failed. The bytes that it has taken are those that the writer holds.
     pub fn new(writer: W) -> Self
         ensures told { ⟦<Out<W> as Sink>⟧.told result ≡ W.contents writer }
         ensures sound { ⟦<Out<W> as Sink>⟧.has_failed result ≡ false }

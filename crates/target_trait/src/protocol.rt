@@ -1,4 +1,4 @@
-//! Components that are told by a table of their steps.
+//! Components that are given by a table of their steps.
 ghost use Rattle.std.specs.Prelude.{◌≡◌, ◌+◌, ◌-◌, ◌≤◌, ℕ, List, None, false, length, option_map, IfOk, OnOk};
 ghost use Rattle.std.proofs.Common.{rules};
 ghost use Rattle.action_eval.specs.Answers.{replies, start, texts};
@@ -14,10 +14,11 @@ use action_eval::{Answer, Session};
 use std::alloc::AllocError;
 use std::marker::Model;
 
-/// A component that is told by its steps: the least that a target of one's own has to say. `ByTable` makes a target of it.
+/// A component that is given by its steps: the least that your own target has to say. `ByTable` makes a target of it.
 ///
-/// A run begins with a state, asks the point of the step that comes next, does the step by the answer, and judges at the end, or where it
-/// is halted. Each function does what the table's entry of its name says; so each is proved by itself, and the run once for all.
+/// A run begins with a state, asks the point of the next step, does the step by the answer, and so on. At its end, or when it is halted, it is
+/// judged. Each function does what the table's entry of its name says. So each function is proved by itself, and the run is proved once for all
+/// protocols.
 pub trait Protocol: Sized + Drop {
     /// What a run works on.
     type Workload;
@@ -49,7 +50,7 @@ pub trait Protocol: Sized + Drop {
     fn code_name(code: u32) -> &'static str
         ensures { result.now ≡ code_text code };
 
-    /// Another component of the same setup. One that holds memory keeps the allocator that it was made with, and uses that.
+    /// Another component with the same setup. If it holds memory, it keeps and uses the allocator that it was made with.
     fn twin(&self) -> Result<Self, AllocError>
         ensures { IfOk result (λ twin. twin ≡ self.now) };
 
@@ -57,7 +58,7 @@ pub trait Protocol: Sized + Drop {
     fn begin(&self, workload: &Self::Workload) -> Result<Self::State, AllocError>
         ensures { IfOk result (λ state. state ≡ (table self.now workload.now).first) };
 
-    /// The point of the step that comes next, or none where the run is over.
+    /// The point of the next step, or none if the run is over.
     fn point(&self, workload: &Self::Workload, state: &Self::State) -> Option<u32>
         ensures { result ≡ (table self.now workload.now).point state.now };
 
@@ -65,7 +66,7 @@ pub trait Protocol: Sized + Drop {
     fn go(&self, workload: &Self::Workload, state: &mut Self::State) -> Result<(), AllocError>
         ensures { OnOk result (state.new ≡ (table self.now workload.now).go state.old) };
 
-    /// Does what follows where the step fails, with what the answer says beside that.
+    /// Does what follows if the step fails, with the text of the answer, if it has one.
     fn fail(
         &self,
         workload: &Self::Workload,
@@ -86,8 +87,7 @@ pub trait Protocol: Sized + Drop {
     ghost lawful: { IsCatalogue names };
 }
 
-/// Plays a run by a table, from its first state on, and answers the state in which it is judged. The session's points may be more than those of the
-/// table.
+/// Plays a run by a table, from its first state on, and returns the state in which it is judged. The session may have more points than the table.
 pub fn play_out<P: Protocol>(
     protocol: &P,
     workload: &P::Workload,

@@ -10,34 +10,33 @@ use std::alloc::AllocError;
 
 /// A component that is run under plans of faults.
 ///
-/// A run asks the session, point after point, whether something fails there, does its steps on a simulated device by what is answered,
-/// and judges at its end, as after a power cut, whether what the component promises was kept.
+/// A run asks the session at point after point whether something fails there, and does its steps on a simulated device by the answers. At its end it
+/// judges, as after a power cut, whether the component kept its promises.
 ///
 /// # The setup
 ///
-/// Contracts see a target as its setup: what makes two targets behave alike, as the variant of an algorithm. A type that holds more
-/// than that, such as a device that is cleared for each run, a counter or the allocator, is given an `impl Model` whose `Value` is the
-/// setup. Then `run` leaves the setup as it was, and a twin has the same one, whatever happens to the rest.
+/// Contracts see a target as its setup: everything on which its behaviour depends, such as the variant of an algorithm. A type that holds more than
+/// that, such as a device that is cleared for each run, a counter or the allocator, needs an `impl Model` whose `Value` is the setup. Then `run`
+/// leaves the setup as it was, and a twin has the same setup, whatever happens to the rest.
 ///
 /// # To implement it, in this order
 ///
 /// 1. `names`, `label_of`, `code_text`, with `catalogue`, `label`, `code_name`: constants. A text is a list of bytes, `codes "..."`.
-/// 2. `asks`, in a file of specs: what comes next, for a setup, a workload and the whole list of the answers so far, which is
-///    `Ask p` for the point of number p in the catalogue, or `Done judgement`. It has to say so for every list, and by the list as a
-///    whole, as a reader of the component's documentation would: never as the loop of `run`.
+/// 2. `asks`, in a file of specs: what comes next, for a setup, a workload and the whole list of the answers so far. That is `Ask p` for the point
+///    with number p in the catalogue, or `Done judgement`. Define it for every list, and by the list as a whole, as a reader of the component's
+///    documentation would: never as the loop of `run`.
 /// 3. `run`, first of all as code with tests.
-/// 4. The proof of `run`: each place in the code stands for a state of the machine (`specs/Machine`), and its loops and helpers keep that
-///    the session has come to that state (`Reached`), that nothing has stopped it, and what the device holds by the answers so far.
-///    `reached_more` of this crate's `proofs/Machine` adds a hit, `reached_on` many; the clauses `told` and `goes_on` of `Session::hit`
-///    say what the answers are then. At the end the state has to ask nothing more, with what is returned.
-///    Runs of a few questions in a row are proved without a proof file.
+/// 4. The proof of `run`: each place in the code stands for a state of the machine (`specs/Machine`). Its loops and helpers keep that the session has
+///    come to that state (`Reached`), that nothing has stopped it, and what the device holds after the answers so far. `reached_more` of this crate's
+///    `proofs/Machine` adds a hit, `reached_on` many; the clauses `told` and `goes_on` of `Session::hit` say what the answers are then. At the end
+///    the state has to ask nothing more, with what is returned. Runs of a few questions in a row are proved without a proof file.
 /// 5. The laws below the last `fn`: `within` and `halts` by `within_by` and `halts_by` of `specs/MachineLaws`, `lawful` by computing
 ///    (`Prim.search rules`, with `rules` of `Rattle.std.proofs.Common`).
 ///
-/// With less to prove, and a slower run, a component is told by the table of its steps alone: `Protocol`.
+/// There is less to prove, and a run is slower, if a component is given by the table of its steps alone: `Protocol`.
 ///
-/// A target from a crate of its own is run on workers where it is `Send` and its workload `Sync`. The trait itself doesn't ask for
-/// that, so that one which isn't can still be run on one thread.
+/// Workers run a target if it is `Send` and its workload is `Sync`. The trait itself doesn't require that, so that any other target can still be run
+/// on one thread.
 pub trait Target: Sized + Drop {
     /// What a run works on.
     type Workload;
@@ -54,8 +53,8 @@ pub trait Target: Sized + Drop {
     // What comes next, for a setup and a workload, after these answers.
     ghost asks: { Self → Self.Workload → List Reply → Move };
 
-    // Whether the power cut at the end of a run is among what is asked, also after a halt. A target of one's own leaves this out: `WithCut` makes
-    // one with its cut of it.
+    // Whether the power cut at the end of a run is part of what is asked, after a halt too. Your own target leaves this out: `WithCut` adds the cut
+    // to it.
     ghost has_cut: { Bool } = { false };
 
     /// A text for the setup, which stands in reports.
@@ -70,11 +69,11 @@ pub trait Target: Sized + Drop {
     fn code_name(code: u32) -> &'static str
         ensures { result.now ≡ code_text code };
 
-    /// Another target of the same setup. A target that holds memory keeps the allocator that it was made with, and uses that.
+    /// Another target with the same setup. If it holds memory, it keeps and uses the allocator that it was made with.
     fn twin(&self) -> Result<Self, AllocError>
         ensures { IfOk result (λ twin. twin ≡ self.now) };
 
-    /// One run, over a new session of this catalogue: it hits just what `asks` says, up to a `Done`, and answers the judgement there.
+    /// One run, over a new session of this catalogue. It hits just what `asks` says, up to a `Done`, and returns the judgement there.
     ///
     /// An error means that memory was refused. The setup stays as it was, after an error too, and the target may be run again.
     fn run(

@@ -1,4 +1,4 @@
-//! Components that tell, beside what they are judged, in what state a run left them and why they are judged so.
+//! Components that can say, beside the judgement, in which state a run left them and why they are judged so.
 ghost use Rattle.std.specs.Prelude.{◌≡◌, ◌++◌, ℕ, List, string_bytes, IfOk, OnOk};
 ghost use Rattle.action_eval.specs.Answers.{Given, given_of};
 ghost use Rattle.target_trait.specs.Protocol.{last_state};
@@ -8,7 +8,7 @@ use crate::protocol::{ByTable, Protocol, play_out};
 use crate::target::Target;
 use std::alloc::{AllocError, Global};
 
-/// What is told of the end of a run, in words of the component's own. An empty text says nothing.
+/// What is said about the end of a run, in the component's own words. An empty text says nothing.
 #[derive(Debug, Drop)]
 pub struct Tale {
     /// The state in which the run was judged.
@@ -17,17 +17,17 @@ pub struct Tale {
     pub reason: String,
 }
 
-/// A protocol that tells of the state in which a run ends, and of why it is judged so: what a reader of an explained run would ask next.
+/// A protocol that can describe the state in which a run ends, and why it is judged so: what a reader of an explained run would ask next.
 ///
-/// A protocol that doesn't tell leaves this out. No verdict stands on what is told.
+/// A protocol that can't leaves this out. No verdict depends on these texts.
 pub trait TellingProtocol: Protocol {
-    // What is told of a state, for a setup and a workload.
+    // The text for a state, for a setup and a workload.
     ghost state_text: { Self → Self.Workload → Self.State → List ℕ };
 
-    // What is told of why a state is judged as it is.
+    // The text that says why a state is judged as it is.
     ghost reason_text: { Self → Self.Workload → Self.State → List ℕ };
 
-    /// Appends what is told of the state in which a run ends, before it is judged. An error means that memory was refused.
+    /// Appends the text for the state in which a run ends, before it is judged. An error means that memory was refused.
     fn tell_state(
         &self,
         workload: &Self::Workload,
@@ -36,7 +36,7 @@ pub trait TellingProtocol: Protocol {
     ) -> Result<(), AllocError>
         ensures { OnOk result (string_bytes out.new ≡ string_bytes out.old ++ state_text self.now workload.now state.now) };
 
-    /// Appends why `judge` says of this state what it says. An error means that memory was refused.
+    /// Appends why `judge` judges this state as it does. An error means that memory was refused.
     fn tell_reason(
         &self,
         workload: &Self::Workload,
@@ -46,15 +46,15 @@ pub trait TellingProtocol: Protocol {
         ensures { OnOk result (string_bytes out.new ≡ string_bytes out.old ++ reason_text self.now workload.now state.now) };
 }
 
-/// A target that tells of the end of a run. Of each protocol that tells, `ByTable` is one.
+/// A target that can describe the end of a run: `ByTable` of each protocol that can.
 pub trait TellingTarget: Target {
-    // What is told of the state in which the run of a case is judged, for a setup, a workload and what the run is given.
+    // The text for the state in which the run of a case is judged, for a setup, a workload and what the run is given.
     ghost state_of: { Self → Self.Workload → Given → List ℕ };
 
-    // What is told of why it is judged so.
+    // The text that says why it is judged so.
     ghost reason_of: { Self → Self.Workload → Given → List ℕ };
 
-    /// Plays a case, and tells of its end. The outcome is that of `run_case`; it isn't told here.
+    /// Plays a case, and describes its end. The outcome is that of `run_case`, and isn't given here.
     ///
     /// An error means that memory was refused. The target keeps its setup, after an error too.
     fn tell(
@@ -70,7 +70,7 @@ pub trait TellingTarget: Target {
         ensures setup { self.new ≡ self.old };
 }
 
-/// Plays a case by a table, and answers the state in which it is judged.
+/// Plays a case by a table, and returns the state in which it is judged.
 fn state_of<P: Protocol>(
     alloc: Global,
     protocol: &P,
@@ -82,12 +82,12 @@ fn state_of<P: Protocol>(
 {
     let mut session = session_of(alloc, case, P::catalogue())?;
     let state = play_out(protocol, workload, &mut session)?;
-    // for its clause alone, that at most one hit is past the limit
+    // Called for its contract: at most one hit is past the limit.
     let _ = session.trace();
     Ok(state)
 }
 
-/// What a protocol tells of this state.
+/// What a protocol says about this state.
 fn tale_of<P: TellingProtocol>(
     alloc: Global,
     protocol: &P,

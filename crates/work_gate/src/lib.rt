@@ -1,4 +1,5 @@
-//! Where workers may be held before they begin a piece of work, and where their work may be seen.
+//! The gate at which workers arrive before they begin a piece of work. It may hold them, and may show how far the work is; nothing else depends on
+//! it.
 #![tactic(auto)]
 
 /// What a worker is about to do.
@@ -10,45 +11,47 @@ pub enum Phase {
     Requests,
 }
 
-/// What part of a campaign is about to be run.
+/// A part of a campaign that is about to be run.
 #[derive(Clone, Copy, Debug, PartialEq, Eq)]
 pub enum Stage {
     /// Plans that are listed before one of them is run: those of the census, storms, and scenarios of the settings.
     Listed,
-    /// The plans with so many faults of a list that grows.
+    /// The plans with this many faults, of a list that grows.
     Level(u32),
     /// The plans with a fault from then on, after the last level.
     Onward,
 }
 
-/// What runs of plans have come to that have ended.
+/// What the runs of plans that have ended came to.
 #[derive(Clone, Copy, Debug)]
 pub struct Ended {
     /// How many plans were run.
     pub plans: u32,
     /// How many of these fail.
     pub failing: u32,
-    /// How many plans of the next level grew from them.
+    /// How many plans of the next level grew from these plans.
     pub children: u32,
 }
 
 /// A gate at which each worker arrives before it begins a piece of work.
 ///
-/// It may wait, as a test does that wants its workers in one order, or show how far the work is. It changes nothing else: it is lent, and
-/// no contract names it, so what a campaign comes to is the same at every gate.
+/// A gate may wait, as in a test that wants its workers in one order, or show how far the work is. It changes nothing else: it is lent, and no
+/// contract names it, so a campaign comes to the same with every gate.
 pub trait Gate: Sync {
-    /// A worker is about to begin the plan of this number, or the request that was handed out as this one, both from 0.
+    /// A worker is about to begin the plan with this number, or the request with this number in the order in which requests were handed out. Both
+    /// count from 0.
     fn arrive(&self, phase: Phase, number: u32);
 
-    /// So many plans of this stage are to be run, none of which has begun. How many requests a reduction tests is known when it ends.
+    /// This many plans of this stage are to be run, and none of them has begun. There is no such call for requests: how many a reduction tests is
+    /// only known when it ends.
     fn expect(&self, _stage: Stage, _count: u32) {}
 
-    /// Whether somebody wants to be told what has ended. Where nobody does, a worker need not find it out.
+    /// Whether the gate wants to hear by `ended` what has ended. If not, workers needn't find that out.
     fn is_watched(&self) -> bool {
         false
     }
 
-    /// Plans of the stage that was told last have been run, and came to this.
+    /// Plans of the stage that was expected last have been run, and came to this.
     fn ended(&self, _ended: Ended) {}
 }
 

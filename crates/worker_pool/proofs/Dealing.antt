@@ -1,4 +1,4 @@
--- Where tickets are dealt round, each deque has room for the next.
+-- If tickets are dealt round, each deque has room for the next.
 use Rattle.std.proofs.Common.{◌≡◌, ◌∙◌, ℕ, ◌+◌, ◌*◌, ◌/◌, ◌%◌, ◌<◌, ◌≤◌, cond, add-one, List, [], ◌∷◌, ◌++◌, count_by, length, get_or, set, sym, ap, subst}
 use Rattle.std.proofs.Common.{arith}
 use Rattle.std.proofs.lemmas.Nat.{le-div}

@@ -117,7 +117,7 @@ begins = record {
   thief = refl;
 }
 
--- the rights stay where the seat that changes keeps its own
+-- The rights stay if the seat that changes keeps its own.
 same_right : (right : Seat → ℕ) (views : List Seat) (port : ℕ) (v w : Seat) → get_elem? views port ≡ some v → right w ≡ right v → sum_by right views ≡ 1
     → sum_by right (set views port w) ≡ 1
 same_right right views port v w at same all = let t = total_set right views port v w at in omega arith

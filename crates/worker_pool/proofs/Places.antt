@@ -27,7 +27,7 @@ pub count_all : {A : Type 0} (xs : List A) → sum_by (λ x. 1) xs ≡ length xs
 count_all [] = refl
 count_all (x ∷ xs) = let rest = count_all xs in omega (arith, sum_by-cons (λ x. 1) x xs)
 
--- where each of three lists' places adds up, and the whole fits, the sums add up
+-- If each of three lists' places adds up, and the whole fits, the sums add up.
 pub performed_sum : {H L : Type 0} (c : H → ℕ) (n : L → ℕ) (most : ℕ) (olds news : List H) (ls : List L) → length news ≡ length olds → length ls ≡ length olds
     → ((k : ℕ) (h : H) (l : L) → k < length olds → c (get_or olds k h) + n (get_or ls k l) < most
     → c (get_or news k h) ≡ c (get_or olds k h) + n (get_or ls k l))

@@ -1,4 +1,4 @@
--- A desk stays fresh where its thief's seat is made, and where it gets a seat.
+-- A desk stays fresh when its thief's seat is made, and when it gets a seat.
 use Rattle.std.proofs.Common.{◌≡◌, ℕ, ◌<◌, ◌≤◌, List, [], All, Option, Some, None, count_by, sym, subst, ap, ◌∙◌, arith}
 use Rattle.std.proofs.lemmas.List.Elements.{All-same, All-weaker}
 use Rattle.crossbeam_deque.specs.Handles.{view, worker_view}

@@ -235,7 +235,7 @@ next_is n k within = dite (ℕ_discrete (k + 1) n)
     (λ (e : k + 1 ≡ n). ap (λ (m : ℕ). m % n) e ∙ mod_self n ∙ sym (next_zero n k e))
     (λ (ne : k + 1 ≢ n). mod-eq_of_lt (omega arith) ∙ sym (next_suc n k ne))
 
--- where there is one deque, its owner takes
+-- If there is one deque, its owner takes.
 thief_of : (n k p : ℕ) → k < n → p < n → next_of n p ≡ k → Thief n k p
 thief_of n k p in_k in_p is = dite (ℕ_discrete n 1)
     (λ (one : n ≡ 1).
@@ -346,7 +346,7 @@ module _ (n : ℕ) (ds : List Desk) (d : Desk) (len : length ds ≡ n) where
     all_numbers : (test : ℕ → Bool) → sum_by (pushed_by test) (take n ds) ≡ sum_by (pushed_by test) ds
     all_numbers test = ap (sum_by (pushed_by test)) (take_all n ds (omega arith))
 
-    -- what worker k took, of its own deque and of the next
+    -- what worker k took, from its own deque and from the next one
     all_taken : (u : Upto n) (test : ℕ → Bool) (k : ℕ) → k < n → count_by test (of_worker k (after n u.steps).taken) ≡ popped_at test k + stolen_at test
         (next_of n k)
     all_taken u test k in_k = omega (

@@ -81,7 +81,7 @@ module _ {J A S T : Type 0} (setup : J → T) (limit : T → ℕ) (answers : T �
     kept = subst (λ (h : Worker J A S). KeptBelow (limit (setup h.job)) e) (sym same.0) was.kept;
   }
 
-  -- where the two stations have these desks
+  -- if the two stations have these desks
   pub Worked-from : (s t : Station J A S) (o p : Option Desk) (d e : Desk) → o ≡ Some d → p ≡ Some e → WorkedAt setup limit answers s t o p
       → Worked setup limit answers s t d e
   Worked-from s t o p d e is is' was = subst (λ (x : Option Desk). WorkedAt setup limit answers s t (Some d) x) is'

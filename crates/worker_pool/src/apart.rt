@@ -1,15 +1,15 @@
-//! Calls in threads of their own, while the caller's thread waits.
+//! Calls made in threads of their own, while the caller's thread waits.
 ghost use Rattle.std.specs.Prelude.{◌≡◌};
 ghost use denote.Param.Send.{IsSync, IsSend};
 ghost use Rattle.worker_pool.specs.inside.Apart.{Accepts, AcceptsAll, Changes, ChangesAll};
 
 use std::thread::{Threads, join_mut, yield_now};
 
-/// Calls f with each element, each time in a thread of its own, where one can be made, while the caller's thread waits.
+/// Calls f with each element, each time in a thread of its own, if one can be made, while the caller's thread waits.
 ///
-/// `std::thread::for_each_mut` has the caller's thread make a call too. But Linux may start a thread on the processor of its starter, and
-/// move one of the two only milliseconds later: where both work, each runs at half its speed till then. A thread also gives way to its
-/// starter before its call, so that it doesn't hold up the start of the others.
+/// `std::thread::for_each_mut` would have the caller's thread make a call too. But Linux may start a thread on the processor of its starter, and move
+/// one of the two only milliseconds later. If both work, each runs at half its speed until then. A thread also gives way to its starter before its
+/// call, so that it doesn't hold up the start of the others.
 #[cycle(calls)]
 pub fn for_each_apart<R: Threads + Sync, T: Send, F: Fn(&mut T) + Sync>(
     rt: &R,
@@ -25,7 +25,7 @@ pub fn for_each_apart<R: Threads + Sync, T: Send, F: Fn(&mut T) + Sync>(
     }
 }
 
-// A function of its own, so that what the closures require is what this function is given.
+// It is a function of its own, so that what the closures require is what this function is given.
 #[cycle(calls)]
 fn call_both<R: Threads + Sync, T: Send, F: Fn(&mut T) + Sync>(
     rt: &R,
@@ -52,6 +52,7 @@ fn call_both<R: Threads + Sync, T: Send, F: Fn(&mut T) + Sync>(
     join_mut(rt, &mut one, &mut others);
 }
 
+/// One call.
 fn call<T, F: Fn(&mut T)>(f: &F, item: &mut T)
     requires { Accepts F.Fn f.now item.old }
     ensures { Changes F.Fn f.now item.old item.new }

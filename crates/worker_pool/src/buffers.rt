@@ -1,4 +1,4 @@
-//! What a run takes of memory before its first ticket is performed, and how workers come and go.
+//! The memory that a run takes before its first ticket is performed, and how workers come and go.
 ghost use Rattle.std.specs.Prelude.{◌≡◌, ◌+◌, ◌<◌, [], ◌∷◌, ◌++◌, All, IfOk, map, vec_len, vec_capacity};
 ghost use Rattle.worker_pool.specs.inside.Ring.{AreDealt};
 ghost use Rattle.worker_pool.specs.inside.Buffers.{HasPlaces, AreBuffers};
@@ -20,7 +20,7 @@ pub struct Buffers<J: Job> {
     pub answers: Vec<Vec<(u32, J::Answer)>>,
 }
 
-/// The desks of so many stations, with all tickets dealt and all thieves' seats made.
+/// The desks of `n` stations, with all tickets dealt and all thieves' seats made.
 fn linked_desks(alloc: Global, n: usize, count: u32) -> Result<Vec<Desk>, AllocError>
     requires { 0 < n }
     ensures { IfOk result (AreDealt n count) }
@@ -31,6 +31,7 @@ fn linked_desks(alloc: Global, n: usize, count: u32) -> Result<Vec<Desk>, AllocE
 }
 
 impl<J: Job> Buffers<J> {
+    /// The memory for a run of `count` tickets by `n` workers.
     pub fn new(alloc: Global, n: usize, count: u32) -> Result<Buffers<J>, AllocError>
         requires { 0 < n }
         ensures { IfOk result (AreBuffers n count) }

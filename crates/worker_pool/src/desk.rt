@@ -1,4 +1,4 @@
-//! What a station works at: its own deque, and a seat at the next station's.
+//! The desk of a station: its own deque, and a seat at the next station's.
 ghost use Rattle.std.specs.Prelude.{◌≡◌, ◌<◌};
 ghost use Rattle.crossbeam_deque.specs.Handles.{view, IsPassOf, stealer_deque, worker_flavor, worker_view};
 
@@ -14,8 +14,7 @@ pub struct Next {
     pub ghost right: { 0 < (view seat).steal_right },
 }
 
-/// A station's own deque, the thief's seat at the next station's, if there is one, and the ticket that it kept where memory
-/// was refused.
+/// A station's own deque; the thief's seat at the next station's deque, if there is one; and the ticket that it kept if memory was refused.
 #[derive(Drop)]
 pub struct Desk {
     pub own: Owner,

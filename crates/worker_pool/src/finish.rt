@@ -12,7 +12,7 @@ use crate::ticket::Ticket;
 use std::alloc::AllocError;
 use std::sync::Wait;
 
-/// Performs one ticket, or keeps it for want of memory.
+/// Performs one ticket, or keeps it if memory is refused.
 fn perform_one<J: Job>(
     station: &mut Station<J>,
     desk: &mut Desk,
@@ -53,7 +53,7 @@ fn finish_kept<J: Job>(station: &mut Station<J>, desk: &mut Desk) -> Result<(), 
     perform_one(station, desk, ticket)
 }
 
-/// One ticket of the deque. False where it is empty, and then all that was pushed was taken.
+/// Performs one ticket of the deque. False if the deque is empty; then everything that was pushed was taken.
 fn finish_turn<J: Job>(station: &mut Station<J>, desk: &mut Desk) -> Result<bool, AllocError>
     requires left { IsLeft (J.limit (J.setup station.old.worker.job)) desk.old }
     requires kept { desk.old.kept ≡ None }
@@ -68,6 +68,7 @@ fn finish_turn<J: Job>(station: &mut Station<J>, desk: &mut Desk) -> Result<bool
     Ok(true)
 }
 
+/// Performs the tickets of a desk's deque, until it is empty or memory is refused.
 fn finish_deque<J: Job, R: Wait>(
     rt: &R,
     station: &mut Station<J>,

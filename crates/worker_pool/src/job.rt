@@ -1,15 +1,15 @@
-//! What a worker performs.
+//! The work of a worker.
 ghost use Rattle.std.specs.Prelude.{◌≡◌, ℕ, ◌<◌, IfOk};
 
 use std::alloc::AllocError;
 
 /// Performs the numbers below a limit, which its setup names.
 ///
-/// An answer is one value of setup and number, and the setup stays, so that it does not matter which worker performs a number, nor when.
+/// An answer is a function of the setup and the number, and the setup stays. So it doesn't matter which worker performs a number, nor when.
 pub trait Job: Send + Drop {
     type Answer: Send + Drop;
 
-    /// What the answers depend on. No value of it is made.
+    /// What the answers depend on. It is for contracts alone: no value of it is made.
     type Setup;
 
     ghost setup: { Self → Self.Setup };
@@ -18,11 +18,11 @@ pub trait Job: Send + Drop {
 
     ghost answers: { Self.Setup → ℕ → Self.Answer → Type 0 };
 
-    /// How a job is before one call of `perform`, the number, and how it is after it. Where a job keeps nothing of its calls but its setup,
-    /// that is all to be said.
+    /// Relates a job before a call of `perform`, the number, and the job after it. If a job keeps nothing but its setup, this needs to say nothing
+    /// more.
     ghost becomes: { Self → ℕ → Self → Type 0 };
 
-    /// The answer to a number, or a refusal for want of memory, which leaves the number to be performed again.
+    /// The answer to a number. An error means that memory was refused; the number may then be performed again.
     fn perform(&mut self, number: u32) -> Result<Self::Answer, AllocError>
         requires { number < limit (setup self.old) }
         ensures same { setup self.new ≡ setup self.old }

@@ -3,7 +3,7 @@ ghost use Rattle.std.specs.Prelude.{◌≡◌, ℕ, ◌+◌, Bool, List, All, co
 ghost use Rattle.std.specs.List.{sum_by};
 ghost use Rattle.worker_pool.specs.Tickets.{Step, IsStepOf, after, pushed};
 
-/// Over every list of steps of any number of workers the numbers pushed are, each once, those in the deques and those taken.
+/// After every list of steps of any number of workers, the numbers that were pushed are those in the deques and those that were taken, each once.
 pub fn tickets_are_kept()
     ensures { (n : ℕ) (steps : List Step) → All (IsStepOf n) steps → (test : ℕ → Bool)
         → count_by test (pushed steps) ≡ sum_by (λ l. count_by test l) (after n steps).deques + sum_by (λ l. count_by test l) (after n steps).taken }

@@ -1,4 +1,5 @@
-//! Tickets on stealing workers: each number below a count is performed once, by any number of workers.
+//! Tickets on stealing workers: each number below a count is performed once, by any number of workers. What performing a number does is no matter of
+//! this crate.
 #![tactic(auto)]
 
 mod apart;

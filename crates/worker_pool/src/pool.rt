@@ -26,14 +26,14 @@ pub struct Gathered<J: Job> {
     pub answers: Vec<Vec<(u32, J::Answer)>>,
 }
 
-/// Want of memory. All workers come back, in their order; the answers that they gave are gone.
+/// Memory was refused. All workers come back, in their order; the answers that they gave are gone.
 #[derive(Drop)]
 pub struct PoolFault<J: Job> {
     pub workers: Vec<Worker<J>>,
 }
 
-/// Has the tickets at the desks performed: by each station in a thread of its own, and what they leave by the caller's thread.
-/// All deques and workers together are then in a state that steps of the workers lead to.
+/// Has the tickets at the desks performed: each station works in a thread of its own, and the caller's thread performs what they leave. Then all
+/// deques and workers together are in a state to which steps of the workers lead.
 fn work_all<J: Job, G: Gate, R: Threads + Wait + Sync>(
     rt: &R,
     gate: &G,
@@ -55,18 +55,17 @@ fn work_all<J: Job, G: Gate, R: Threads + Wait + Sync>(
     finished
 }
 
-/// Performs each number below `count` once, and gives the answers.
+/// Performs each number below `count` once, and returns the answers.
 ///
-/// Ticket i is dealt to worker `i mod n`, for n workers. Each worker works in a thread of its own: it takes from the front of its
-/// own deque, and then steals from the front of the next worker's, as the only thief there. It makes room for the answer,
-/// calls `arrive` with `Phase::Plans` and i, and performs ticket i. A thread that can't be started is done without. A worker
-/// that finds no memory keeps its ticket and leaves. After the joins the caller's thread performs what is left, without
-/// `arrive`.
+/// With n workers ticket i is dealt to worker `i mod n`. Each worker works in a thread of its own: it takes from the front of its own deque, and then
+/// steals from the front of the next worker's, as the only thief there. It makes room for the answer, calls `arrive` with `Phase::Plans` and i, and
+/// performs ticket i. If a thread can't be started, the others do its work. A worker that is refused memory keeps its ticket and leaves. After the
+/// joins the caller's thread performs what is left, without `arrive`.
 ///
 /// # Errors
 ///
-/// Want of memory alone: before the first ticket, or where the caller's thread finds none for a ticket that was left. All
-/// workers come back, and have counted what they performed; the answers are gone.
+/// Only that memory was refused: before the first ticket, or to the caller's thread for a ticket that was left. All workers come back, and have
+/// counted what they performed; the answers are gone.
 pub fn run_all<J: Job, G: Gate, R: Threads + Wait + Sync>(
     rt: &R,
     alloc: Global,
@@ -83,17 +82,17 @@ pub fn run_all<J: Job, G: Gate, R: Threads + Wait + Sync>(
         (λ g. setups_of J.setup g.workers.items ≡ setups_of J.setup workers.items)
         (λ e. setups_of J.setup e.workers.items ≡ setups_of J.setup workers.items) }
 
-    // One list for each worker, of numbers with the answers that its setup gives. Over all lists each number below the
-    // count stands once.
+    // There is one list for each worker, of numbers with the answers that its setup gives. In all lists together each number below the count stands
+    // once.
     ensures many { IfOk result (λ g. vec_len g.answers ≡ vec_len workers) }
     ensures right { IfOk result (λ g. AreRight J.setup J.answers (vec_len workers) workers.items g.answers.items) }
     ensures once { IfOk result (λ g. EachOnce g.answers.items count) }
 
-    // After the joins all deques and workers together are where steps of the workers lead: ticket i was pushed by worker `i mod n`,
-    // all deques are empty, and each worker took just what it answered, by pops from its own deque and steals from the next.
+    // After the joins all deques and workers together are in a state to which steps of the workers lead: ticket i was pushed by worker `i mod n`, all
+    // deques are empty, and each worker took just what it answered, by pops from its own deque and steals from the next.
     ensures shared { IfOk result (λ g. SharesAll (vec_len workers) count (map (λ l. l.items) g.answers.items)) }
 
-    // What the workers count, where the counter does not saturate.
+    // What the workers count, if the counter doesn't saturate.
     ensures counted { IfOk result (λ g. AreCounted (vec_len workers) workers.items g.workers.items g.answers.items) }
     ensures performed { IfOk result (λ g. sum_by worker_performed workers.items + count < 2 ^ 64
         → sum_by worker_performed g.workers.items ≡ sum_by worker_performed workers.items + count) }

@@ -17,7 +17,7 @@ fn place_after(n: usize, k: usize) -> usize
     if k + 1 == n { 0 } else { k + 1 }
 }
 
-/// Takes the seat of desk k in at the next desk.
+/// Takes the seat of desk k back into the next desk.
 fn absorb_one(desks: &mut Vec<Desk>, k: usize, next: usize)
     requires within { k < vec_len desks.old }
     requires next { next ≡ next_of (vec_len desks.old) k }
@@ -37,7 +37,7 @@ fn absorb_one(desks: &mut Vec<Desk>, k: usize, next: usize)
     }
 }
 
-/// Takes each thief's seat in, so that each desk knows the whole of its deque.
+/// Takes each thief's seat back, so that each desk knows everything about its deque.
 pub fn absorb_all(desks: &mut Vec<Desk>)
     requires ring { IsRing desks.old.items }
     ensures len { vec_len desks.new ≡ vec_len desks.old }
@@ -107,16 +107,17 @@ pub fn link_all(desks: &mut Vec<Desk>, count: u32) -> Result<(), AllocError>
     Ok(())
 }
 
-/// The bytes left free between the words of two deques, so that no two threads write to the same cache line. Processors fetch lines of 64
+/// How many bytes are left free between the words of two deques, so that no two threads write to the same cache line. Processors fetch lines of 64
 /// bytes in pairs.
 const GAP: usize = 128;
 
+/// Takes memory that nobody uses, so that what is taken next lies apart from what was taken before.
 fn leave_gap(alloc: Global, gaps: &mut Vec<Vec<u8>>) -> Result<(), AllocError> {
     gaps.push(Vec::with_capacity(alloc, GAP)?)?;
     Ok(())
 }
 
-/// So many desks with empty deques, each with room for its part of the tickets.
+/// `n` desks with empty deques, each with room for its part of the tickets.
 fn empty_desks(alloc: Global, n: usize, count: u32) -> Result<Vec<Desk>, AllocError>
     requires { 0 < n }
     ensures { IfOk result (AreDealtBelow n count 0) }

@@ -1,5 +1,5 @@
-//! The rule of one deque, and the kinds of step that keep it: what was pushed is, each once, what its owner popped, what its
-//! thief stole and what it holds.
+//! The rule of one deque, and the kinds of steps that keep it: what was pushed is what its owner popped, what its thief stole and what it holds, each
+//! once.
 ghost use Rattle.std.specs.Prelude.{◌≡◌, ◌<◌};
 ghost use Rattle.worker_pool.specs.inside.Parts.{more_pushed, more_popped, more_stolen, AllTaken, IsAmong, IsWhole};
 
@@ -9,8 +9,8 @@ use crossbeam_deque::{Pass, Stealer, Worker};
 use std::alloc::Global;
 use std::collections::LinkedList;
 
-/// What a seat knows: its rights to pop and to steal, of which each deque has one, what was pushed, and what was popped and
-/// stolen by these rights. No value of it is made.
+/// What a seat knows: its rights to pop and to steal (each deque has one of each), what was pushed, and what was popped and stolen by these rights.
+/// It is for contracts alone: no value of it is made.
 pub struct Seat {
     pub pop_right: u64,
     pub steal_right: u64,
@@ -40,7 +40,7 @@ impl Outcome<Ticket, Seat> for Puts {
     ghost then = { λ v xs w. w ≡ more_pushed xs v };
 }
 
-/// The owner takes what was pushed. Where it has both rights, it finds nothing only where all that was pushed was taken.
+/// The owner takes something that was pushed. If it has both rights, it finds nothing only if everything that was pushed was taken.
 pub struct Pops;
 
 impl Outcome<Ticket, Seat> for Pops {
@@ -49,15 +49,14 @@ impl Outcome<Ticket, Seat> for Pops {
     ghost empty = { λ v. 0 < v.steal_right → AllTaken v };
 }
 
-/// The thief takes what was pushed.
+/// The thief takes something that was pushed.
 pub struct Steals;
 
 impl Outcome<Ticket, Seat> for Steals {
     ghost then = { λ v xs w. (w ≡ more_stolen xs v) × IsAmong xs v };
 }
 
-/// The owner makes the thief's seat, and takes it in. The thief knows from the start what was pushed, and so that what it
-/// steals is among this.
+/// The owner makes the thief's seat, and takes it back. The thief knows from the start what was pushed, and so that what it steals was pushed.
 pub struct Shared;
 
 impl Split<Seat> for Shared {
@@ -77,7 +76,7 @@ impl Join<Seat> for Shared {
     ghost spent = { seat 0 0 [] [] [] };
 }
 
-/// What the seat with both rights learns: some moves lead to all that it knows, and to what the deque holds.
+/// What the seat with both rights learns: some moves lead to everything that it knows, and to what the deque holds.
 pub struct Total;
 
 impl Lesson<Ticket, Seat> for Total {

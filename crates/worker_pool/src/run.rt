@@ -15,7 +15,7 @@ use std::sync::Wait;
 use std::thread::Threads;
 use work_gate::Gate;
 
-/// Each station works in a thread of its own, where one can be made: a single one in the caller's.
+/// Has each station work in a thread of its own, if one can be made. A single station works in the caller's thread.
 #[tactic(auto, unfolding(crate::specs::inside::Apart::ChangesAll))]
 pub fn run_workers<J: Job, G: Gate, R: Threads + Wait + Sync>(
     rt: &R,
@@ -38,7 +38,7 @@ pub fn run_workers<J: Job, G: Gate, R: Threads + Wait + Sync>(
     );
 }
 
-/// The same at a `Vec`.
+/// The same for a `Vec`.
 pub fn run_vec<J: Job, G: Gate, R: Threads + Wait + Sync>(
     rt: &R,
     gate: &G,
@@ -51,6 +51,7 @@ pub fn run_vec<J: Job, G: Gate, R: Threads + Wait + Sync>(
     run_workers(rt, gate, stations.as_mut_slice());
 }
 
+/// Lends a station its desk.
 fn lend_one<J: Job>(station: &mut Station<J>, desk: Desk)
     ensures desk { station.new.desk ≡ Some desk }
     ensures same { SameWork station.old station.new }
@@ -72,6 +73,7 @@ pub fn lend<J: Job>(stations: &mut Vec<Station<J>>, mut desks: Vec<Desk>)
     }
 }
 
+/// Takes back a station's desk.
 fn take_one<J: Job>(station: &mut Station<J>) -> Desk
     requires { IsSome station.old.desk }
     ensures desk { station.old.desk ≡ Some result }
@@ -83,7 +85,7 @@ fn take_one<J: Job>(station: &mut Station<J>) -> Desk
     desk
 }
 
-/// Takes each station's desk back.
+/// Takes back each station's desk.
 pub fn take_back<J: Job>(stations: &mut Vec<Station<J>>, mut desks: Vec<Desk>) -> Vec<Desk>
     requires room { HasPlaces (vec_len stations.old) desks }
     requires lent { All (λ s. IsSome s.desk) stations.old.items }
@@ -98,7 +100,7 @@ pub fn take_back<J: Job>(stations: &mut Vec<Station<J>>, mut desks: Vec<Desk>) -
     desks
 }
 
-/// Lends each station its desk, has all at work, and takes the desks back.
+/// Lends each station its desk, has all of them work, and takes the desks back.
 pub fn round<J: Job, G: Gate, R: Threads + Wait + Sync>(
     rt: &R,
     gate: &G,

@@ -9,7 +9,7 @@ use crate::ticket::Ticket;
 use crate::worker::Worker;
 use std::alloc::{AllocError, Global};
 
-/// A worker, the desk that it works at, and the answers that it gave in this run.
+/// A worker, the desk at which it works, and the answers that it gave in this run.
 #[derive(Drop)]
 pub struct Station<J: Job> {
     pub worker: Worker<J>,
@@ -18,6 +18,7 @@ pub struct Station<J: Job> {
 }
 
 impl<J: Job> Station<J> {
+    /// A station for this worker, without a desk and without an answer. It takes no memory.
     pub fn new(alloc: Global, worker: Worker<J>) -> Station<J>
         ensures worker { result.worker ≡ worker }
         ensures rest { (result.answers.items ≡ []) × (result.desk ≡ None) }
@@ -37,7 +38,7 @@ impl<J: Job> Station<J> {
         self.answers.reserve(1)
     }
 
-    /// Performs a ticket and keeps its answer. Where the job refuses, the ticket comes back, and nothing changed but the job, whose setup stays.
+    /// Performs a ticket and keeps its answer. If the job refuses, the ticket comes back, and nothing has changed but the job, which keeps its setup.
     pub fn perform(&mut self, ticket: Ticket) -> Result<(), Ticket>
         requires limit { ticket < J.limit (J.setup (worker_job self.old.worker)) }
         requires room { vec_len self.old.answers < vec_capacity self.old.answers }

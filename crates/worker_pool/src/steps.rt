@@ -14,7 +14,7 @@ use std::sync::Wait;
 use std::thread;
 
 impl Desk {
-    /// A desk with an empty deque, which has room for so many tickets.
+    /// A desk with an empty deque that has room for this many tickets.
     pub fn new(alloc: Global, room: usize) -> Result<Desk, AllocError>
         ensures view { IfOk result (λ d. worker_view d.own ≡ seat_of 1 1 [] [] []) }
         ensures next { IfOk result (λ d. d.next ≡ None) }
@@ -55,7 +55,7 @@ impl Desk {
         Ok(Next { from, seat })
     }
 
-    /// Takes the thief's seat in.
+    /// Takes back the thief's seat.
     pub fn take_in(&mut self, next: Next)
         requires { stealer_deque next.from ≡ worker_deque self.old.own }
         ensures same { SameButOwn self.old self.new }
@@ -66,7 +66,7 @@ impl Desk {
         drop(from);
     }
 
-    /// Learns what the deque holds: some moves lead to it, and to all that the desk knows.
+    /// Learns what the deque holds: some moves lead to that, and to everything that the desk knows.
     pub fn settle(&mut self)
         requires { TakenIn self.old }
         ensures { IsSettled self.old }
@@ -106,7 +106,7 @@ impl Desk {
     }
 }
 
-/// Takes the front of the deque, and tries again where another was first.
+/// Takes the front of the deque, and tries again if another was first.
 fn steal<R: Wait>(rt: &R, from: &Thief, seat: &mut SeatPass) -> Option<Ticket>
     requires table { IsPassOf (stealer_deque from.now) seat.old }
     requires right { 0 < (view seat.old).steal_right }

@@ -3,7 +3,7 @@ ghost use Rattle.std.specs.Prelude.{◌≡◌};
 
 use std::marker::Model;
 
-/// A number to perform. It is spent once a worker's job has performed it, and kept where the job refuses.
+/// A number to perform. It is spent once a worker's job has performed it, and kept if the job refuses.
 ///
 /// A ticket is neither copied nor cloned.
 #[derive(Drop, Debug)]

@@ -9,7 +9,7 @@ use crate::station::Station;
 use std::sync::Wait;
 use work_gate::{Gate, Phase};
 
-/// Performs what the station's desk gives it. Where memory is refused, the ticket stays at the desk, and the station leaves.
+/// Performs what the station's desk gives it. If memory is refused, the ticket stays at the desk, and the station leaves.
 pub fn work<J: Job, G: Gate, R: Wait>(rt: &R, gate: &G, station: &mut Station<J>)
     requires { IsReadyAt (J.limit (J.setup station.old.worker.job)) station.old.desk }
     ensures { WorkedAt J.setup J.limit J.answers station.old station.new station.old.desk station.new.desk }
@@ -21,7 +21,7 @@ pub fn work<J: Job, G: Gate, R: Wait>(rt: &R, gate: &G, station: &mut Station<J>
     station.desk = Some(desk);
 }
 
-// A function of its own, since a loop over a local desk loses its ghost fields.
+// It is a function of its own, since a loop over a local desk loses the desk's ghost fields.
 fn work_at<J: Job, G: Gate, R: Wait>(rt: &R, gate: &G, station: &mut Station<J>, desk: &mut Desk)
     requires { IsReady (J.limit (J.setup station.old.worker.job)) desk.old }
     ensures { Worked J.setup J.limit J.answers station.old station.new desk.old desk.new }
@@ -33,7 +33,7 @@ fn work_at<J: Job, G: Gate, R: Wait>(rt: &R, gate: &G, station: &mut Station<J>,
     }
 }
 
-// One ticket. False where there is none, or memory is refused: then the ticket stays at the desk.
+// Performs one ticket. False if there is none, or if memory is refused: then the ticket stays at the desk.
 fn turn<J: Job, G: Gate, R: Wait>(
     rt: &R,
     gate: &G,

@@ -21,15 +21,15 @@ impl<J: Job> Worker<J> {
         Worker { job, performed: 0 }
     }
 
-    /// How many tickets the worker has performed, or 2^64 - 1 where they are more.
+    /// How many tickets the worker has performed, or 2^64 - 1 if there are more.
     pub fn performed(&self) -> u64
         ensures { result ≡ worker_performed self.now }
     {
         self.performed
     }
 
-    /// Performs a ticket, by one call of the job. The ticket is spent. Where the job refuses, it comes back, and nothing changed but the job,
-    /// whose setup stays.
+    /// Performs a ticket, by one call of the job. The ticket is spent. If the job refuses, the ticket comes back, and nothing has changed but the
+    /// job, which keeps its setup.
     pub(crate) fn perform(&mut self, ticket: Ticket) -> Result<J::Answer, Ticket>
         requires { ticket < J.limit (J.setup (worker_job self.old)) }
         ensures setup { J.setup (worker_job self.new) ≡ J.setup (worker_job self.old) }

@@ -10,7 +10,7 @@ use std::thread::Threads;
 use work_gate::Gate;
 use worker_pool::{Gathered, Job, PoolFault, Worker, run_all};
 
-/// Nothing: what is added is always 7.
+/// The setup is nothing: what is added is always 7.
 pub struct Setup;
 
 /// Adds 7, counts its calls, and refuses the first few.
@@ -43,7 +43,7 @@ impl<'a> Job for Adder<'a> {
     }
 }
 
-/// So many workers, each of which refuses so often at first.
+/// This many workers, each of which refuses this often at first.
 pub fn adders<'a>(
     alloc: Global,
     calls: &'a AtomicU64,
@@ -97,7 +97,7 @@ pub fn performed<J: Job>(workers: &[Worker<J>]) -> u64 {
     all
 }
 
-/// Over all their runs the workers performed so many tickets, and their jobs did.
+/// Over all their runs the workers and their jobs performed this many tickets.
 pub fn have_performed<J: Job>(
     rt: &impl Abort,
     workers: &[Worker<J>],

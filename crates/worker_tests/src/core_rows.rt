@@ -5,7 +5,7 @@ use ddmin_parallel::{Board, Core, Event, FaultSet, Probe, RequestFault, TestRequ
 use std::alloc::{AllocError, Global};
 use std::process::Abort;
 
-/// The next request of a core, which is of this set.
+/// The next request of a core, which has to be for this set.
 fn taken(
     rt: &impl Abort,
     alloc: Global,
@@ -18,7 +18,7 @@ fn taken(
     Ok(request)
 }
 
-/// Puts an answer, which a core takes.
+/// Puts an answer, which a core has to take.
 fn put(rt: &impl Abort, alloc: Global, core: &mut Core, request: TestRequest, fails: bool) {
     assert!(rt; core.put(alloc, request, fails).is_ok());
 }
@@ -52,7 +52,7 @@ fn requests_of<P: Probe>(alloc: Global, probe: &mut P, core: &mut Core) -> Resul
     Ok(requests)
 }
 
-/// A core hands out so many requests until it is finished, and has counted so many tests.
+/// A core hands out this many requests until it is finished, and has counted this many tests.
 fn has_requests(rt: &impl Abort, alloc: Global, row: &Found) -> Result<(), AllocError>
     requires { row.now.faults ≤ 4096 }
 {
@@ -143,7 +143,7 @@ fn the_second_is_answered_first(rt: HostRuntime) -> Result<(), AllocError> {
     Ok(())
 }
 
-/// The next request of a board, which is of this set.
+/// The next request of a board, which has to be for this set.
 fn taken_of(
     rt: &impl Abort,
     alloc: Global,
@@ -158,7 +158,7 @@ fn taken_of(
     Ok(request)
 }
 
-/// The board has no request now, also ahead, and so many events.
+/// The board has no request now, not even ahead, and this many events.
 fn has_no_request(
     rt: &impl Abort,
     alloc: Global,
@@ -183,7 +183,7 @@ fn halves_ahead(
     Ok(empty)
 }
 
-/// Takes the round one further than the halves.
+/// Takes the requests of the round after the halves.
 fn quarters_ahead(rt: &impl Abort, alloc: Global, board: &mut Board) -> Result<(), AllocError> {
     let quarters: [&[u32]; 8] = [
         &[0, 1],
@@ -209,7 +209,7 @@ fn requests_ahead(rt: HostRuntime) -> Result<(), AllocError> {
     quarters_ahead(&rt, rt.alloc(), &mut board)
 }
 
-/// Takes the two halves ahead of the empty set, which fails then.
+/// Takes the two halves ahead of the empty set; then the empty set fails.
 fn ends_before_halves(
     rt: &impl Abort,
     alloc: Global,
@@ -223,7 +223,7 @@ fn ends_before_halves(
     Ok((first, second))
 }
 
-/// The requests ahead are of use to nobody, and still end.
+/// The requests ahead are of no use, and still end.
 #[test]
 fn requests_ahead_of_a_failing_empty_set(rt: HostRuntime) -> Result<(), AllocError> {
     let mut core = Core::start(rt.alloc(), 8);
@@ -278,7 +278,7 @@ fn are_its_events(events: &[Event]) -> bool {
     }
 }
 
-/// One worker, which was told of the empty set alone.
+/// The pairs of one worker, which answered the empty set alone.
 fn told_of_the_empty_set(
     alloc: Global,
     fails: bool,

@@ -10,7 +10,7 @@ use std::thread::Threads;
 use work_gate::FreeGate;
 use worker_pool::Worker;
 
-/// One run of three workers that isn't refused, after which they have performed so many tickets over all their runs.
+/// One run of three workers that isn't refused. After it they have performed this many tickets over all their runs.
 pub fn ran<'a, R: Abort + Threads + Wait + Sync>(
     rt: &R,
     alloc: Global,

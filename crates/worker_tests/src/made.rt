@@ -33,8 +33,8 @@ impl Twin for Culprits {
     }
 }
 
-/// A set fails just if the number of its members with some remainder has some remainder itself. So a set
-/// that fails has smaller and larger ones that do not.
+/// A set fails exactly if the number of its members with some remainder has some remainder itself. So a failing set has smaller and larger ones that
+/// pass.
 #[derive(Drop)]
 pub struct Counts {
     pub step: u32,

@@ -43,7 +43,7 @@ impl<'a, C: Clock + Sync> Gate for Meeting<'a, C> {
     }
 }
 
-/// Both came once, and neither waited in vain.
+/// Checks that both came once, and that neither waited in vain.
 fn have_met(rt: &impl Abort, one: &AtomicU64, two: &AtomicU64, limits: &AtomicU64) {
     assert_eq!(rt; one.load(Ordering::SeqCst), 1);
     assert_eq!(rt; two.load(Ordering::SeqCst), 1);
@@ -138,7 +138,7 @@ fn run_meeters<'a, R: Threads + Wait + Clock + Sync>(
     }
 }
 
-// What the bodies all_work_on_one_thread and every_worker_leaves_at_once fail, also where they go round the gate.
+// What the bodies all_work_on_one_thread and every_worker_leaves_at_once fail, also if they go round the gate.
 #[test]
 fn two_jobs_meet_inside_perform(rt: HostRuntime) -> Result<(), Fail> {
     let left = AtomicU64::new(0);

@@ -43,7 +43,7 @@ fn is_by_core<P: Probe>(
     Ok(is_found(&reduce_by_core(alloc, probe, faults)?, kept, tests))
 }
 
-/// What is found of two culprits, or of one that is named twice.
+/// What is found if there are two culprits, or one that is named twice.
 #[derive(Clone, Copy)]
 pub(crate) struct Found {
     pub(crate) faults: u32,
@@ -55,7 +55,7 @@ pub(crate) struct Found {
     pub(crate) asked_by_core: u64,
 }
 
-/// Of the 29 tests 17 are of sets not met before.
+/// 17 of the 29 tests are of sets that weren't met before.
 pub(crate) const OF_EIGHT: Found = Found {
     faults: 8,
     culprits: [2, 6],
@@ -72,7 +72,7 @@ pub(crate) const OF_THREE: Found = Found {
     asked_by_core: 6,
 };
 
-/// This is found by the recursion and by a core, which ask so often.
+/// The recursion and a core find this, and ask this often.
 fn finds(rt: &impl Abort, alloc: Global, row: &Found) -> Result<(), AllocError>
     requires { row.now.faults ≤ 4096 }
 {
@@ -93,7 +93,7 @@ fn two_culprits(rt: HostRuntime) -> Result<(), AllocError> {
     finds(&rt, rt.alloc(), &OF_THREE)
 }
 
-/// The recursion and a core find this where every set fails.
+/// The recursion and a core find this if every set fails.
 fn finds_nothing(rt: &impl Abort, alloc: Global, faults: u32, tests: u64) -> Result<(), AllocError>
     requires { faults ≤ 4096 }
 {

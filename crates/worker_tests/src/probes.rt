@@ -67,8 +67,7 @@ impl Probe for Always {
     }
 }
 
-/// A set fails just if it holds a fault and has an odd number of members. So a set that fails has
-/// larger ones that do not.
+/// A set fails exactly if it holds a fault and has an odd number of members. So a failing set has larger ones that pass.
 #[derive(Drop)]
 pub struct OddWith {
     pub fault: u32,

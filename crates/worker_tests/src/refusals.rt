@@ -1,4 +1,4 @@
-//! What is left where memory is refused.
+//! What is left if memory is refused.
 
 use crate::adding::{Adder, adders, have_performed, is_each_once, performed, run};
 use crate::counts::ran;
@@ -32,7 +32,7 @@ fn all_performs_refused(rt: HostRuntime) -> Result<(), Fail> {
     Ok(())
 }
 
-/// The workers after a run of 19 tickets, also where it is refused.
+/// The workers after a run of 19 tickets, whether or not it was refused.
 fn after_a_run<'a, R: Abort + Threads + Wait + Sync>(
     rt: &R,
     alloc: Global,

@@ -126,7 +126,7 @@ fn passes_each_once(lists: &[Vec<(u32, Verdict)>], count: u32) -> bool {
     answers == count as usize && (0..count).all(|number| times_passed(lists, number) == 1)
 }
 
-/// One run of three workers, after which they have performed so many tickets over all their runs.
+/// One run of three workers. After it they have performed this many tickets over all their runs.
 fn ran<'a, R: Threads + Wait + Abort + Sync>(
     rt: &R,
     alloc: Global,

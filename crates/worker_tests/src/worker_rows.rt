@@ -23,8 +23,7 @@ const TWO: Size = Size {
     faults: 8,
 };
 
-/// Two that wait for each other, each for so many turns of a millisecond at most, and what is left of each
-/// that was late.
+/// Two that wait for each other, each for at most this many turns of a millisecond; and how many turns each had left.
 #[derive(Drop)]
 struct Meeting {
     first: AtomicU64,
@@ -275,7 +274,7 @@ impl Numbers {
     }
 }
 
-/// Of the faults about one in eight is a culprit.
+/// Draws the culprits: about one in eight faults.
 fn made_culprits(
     alloc: Global,
     numbers: &mut Numbers,

@@ -32,7 +32,7 @@ pub struct Size {
     pub faults: u32,
 }
 
-/// Reduces the faults with so many twins of a probe.
+/// Reduces the faults with this many twins of a probe.
 pub fn reduced_by<R: Threads + Wait + Sync, P: Twin, G: Gate>(
     rt: &R,
     alloc: Global,

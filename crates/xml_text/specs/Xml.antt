@@ -4,12 +4,13 @@ use Rattle.std.specs.Prelude.{ℕ, Bool, ◌==◌, ◌||◌, nat_lt, if◌then�
 use Rattle.std.specs.Str.{chars}
 use Rattle.std.specs.Char.{encode_utf8}
 
--- the characters that no XML may have, whether as they are or by a reference. Tabs and ends of lines, which are below 32 too, it may
+-- Whether XML may not have a character, not even by a reference. It may have tabs and ends of lines, but they are below 32 too, so `escape` takes
+-- them first.
 abbrev pub is_forbidden : ℕ → Bool
 is_forbidden c = nat_lt c 32 || (c == 65534 || c == 65535)
 
--- how a character stands in content and between quotes: `&`, `<`, `>`, `"` and `'` by their names; tabs and ends of lines by their numbers,
--- since a reader takes them for blanks where they stand as they are; U+FFFD in place of one that is forbidden; each other as it is
+-- How a character is written in content and between quotes: `&`, `<`, `>`, `"` and `'` by their names; tabs and ends of lines by their numbers, since
+-- a reader would take them for blanks as they are; a forbidden character as U+FFFD; and any other as it is.
 abbrev pub escape : ℕ → List ℕ
 escape c =
     if c == 38 then codes "&amp;"
@@ -23,6 +24,6 @@ escape c =
     else if is_forbidden c then encode_utf8 65533
     else encode_utf8 c
 
--- a text inside XML
+-- A text as it is written inside XML.
 abbrev pub escaped : List ℕ → List ℕ
 escaped text = flat_map escape (chars text)

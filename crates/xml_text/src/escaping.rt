@@ -5,7 +5,7 @@ ghost use Rattle.xml_text.specs.Xml.{is_forbidden, escape, escaped};
 
 use std::alloc::AllocError;
 
-/// Of the characters below a blank, tabs and ends of lines have been dealt with.
+/// Whether XML can't have this character. Tabs and ends of lines, which it can have, are dealt with before.
 fn is_forbidden(character: char) -> bool
     ensures { result ≡ is_forbidden character }
 {
@@ -30,11 +30,11 @@ fn write_character(out: &mut String, character: char) -> Result<(), AllocError>
     }
 }
 
-/// Appends a text as XML says it, in content and between quotes: `&`, `<`, `>`, `"` and `'` by their names, tabs and ends of lines by their
-/// numbers, and each other character as it is. Characters that XML 1.0 can't have at all, those below a blank and U+FFFE and U+FFFF, are
-/// lost: U+FFFD stands in place of each.
+/// Appends a text as XML has it, in content and between quotes: `&`, `<`, `>`, `"` and `'` by their names, tabs and ends of lines by their numbers,
+/// and each other character as it is. Characters that XML 1.0 can't have at all (those below a blank, U+FFFE and U+FFFF) are lost: U+FFFD stands in
+/// place of each.
 ///
-/// An error means that memory was refused; what stood there is still the beginning then, and some of the bytes may stand behind it.
+/// An error means that memory was refused. Then some of the bytes may have been appended.
 pub fn write_escaped(out: &mut String, text: &str) -> Result<(), AllocError>
     ensures text { OnOk result (string_bytes out.new ≡ string_bytes out.old ++ escaped text.now) }
     ensures kept { OnErr result (StartsWith (string_bytes out.new) (string_bytes out.old)) }

@@ -1,4 +1,4 @@
-//! Texts inside XML.
+//! Texts as they stand inside XML, escaped.
 #![tactic(auto)]
 
 mod escaping;

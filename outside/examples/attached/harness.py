@@ -1,16 +1,17 @@
-"""SQLite commits one transaction over two files, one attached to the other. By the environment:
-    SYNC    PRAGMA synchronous of both: EXTRA (where it isn't set), FULL, NORMAL or OFF
-    ORDER   which file is opened first after the power cut: a b
+"""SQLite commits one transaction over two files, one of which is attached to the other. It promises that after a power cut both files have the transaction
+or neither has it, and that both have it once it was acknowledged. Variables of the environment change the run:
+    SYNC    PRAGMA synchronous of both files: EXTRA (the default), FULL, NORMAL or OFF
+    ORDER   the order in which the judge opens the files after the power cut. Default: a b
 
-corrupt: the integrity check finds something. half: one file has the transaction and the other doesn't. lost: a transaction that was acknowledged, or
-what was there before, isn't there.
+The judge says corrupt if the integrity check finds an error, half if one file has the transaction and the other doesn't, and lost if a transaction that was
+acknowledged, or what was there before, is missing.
 
 Promised by SQLite's page of ATTACH: "Transactions involving multiple attached databases are atomic", but for a main database in memory or a WAL; and
 by that of PRAGMA synchronous, of EXTRA: "the directory containing a rollback journal is synced after that journal is unlinked to commit a transaction".
 
 Found in SQLite 3.40.1, plans of one fault: lost, `sys::open=6*off->return`. SQLite opens the folder and syncs it once the journal is deleted. If it can't
-be opened nobody is told: the commit is acknowledged, and after a power cut the journal may be there again and roll it back. Over two files one such failure
-passes, since the folder is synced again; it takes all from one on. ../sqlite shows the same by strace alone."""
+be opened no error is reported: the commit is acknowledged, and after a power cut the journal may be there again and roll it back. Over two files one such
+failure passes, since the folder is synced again; it is lost only if all opens from one on fail. ../sqlite shows the same with strace alone."""
 
 import os
 import sqlite3

@@ -1,14 +1,14 @@
-"""commit.py TRANSACTIONS: two-phase commit with presumed abort, by a coordinator and two participants, each a process with a log in the folder in which it is
-started. Writes `done N` or `aborted N` for each transaction as its client is told.
+"""commit.py TRANSACTIONS: two-phase commit with presumed abort, by a coordinator and two participants. Each is a process with a log in the current folder. It
+prints `done N` or `aborted N` for each transaction when its client gets that result.
 
-Messages are points of its own (`commit::send_..`): one that fails is lost. What is lost comes as an empty line, in place of a wait.
-Logs are files, so their writes and syncs are points of the supervisor. FLAW:
-  sound            where it isn't set
-  lazy_prepare     a prepare record is written, and not synced before the vote
-  early_end        the coordinator forgets a transaction whatever was acknowledged
-  abort_on_doubt   a coordinator whose commit record failed tells the participants to abort, though the record may last
-With TOGETHER the participants are asked at once, and keep one log, which each opens for a record of its own:
-  looks_for_end    it looks for the log's end and writes there, and not by O_APPEND"""
+Messages are points of its own (`commit::send_..`), and a message that fails is lost. The receiver then gets an empty line, and doesn't wait.
+Logs are files, so their writes and syncs are points of the supervisor. FLAW names one of these:
+  sound            the default: there is no flaw
+  lazy_prepare     a prepare record is written, but not synced before the vote
+  early_end        the coordinator forgets a transaction even if not all participants have acknowledged it
+  abort_on_doubt   a coordinator whose commit record failed sends an abort to the participants, though the record may be on the disk
+With TOGETHER the participants are asked at once, and have one log, which each of them opens for each of its records:
+  looks_for_end    a participant looks for the log's end and writes there, without O_APPEND"""
 import os
 import socket
 import sys

@@ -1,19 +1,20 @@
-"""Two-phase commit by three processes, of commit.py. Its settings name messages (`commit::send_..`, points of its own, by the Python client of ../../points) beside calls
-on the logs (`sys::..`, by the supervisor); so no hits are told, and there is no depth. By the environment:
-    FLAW            sound (where it isn't set), lazy_prepare, early_end or abort_on_doubt
-    TRANSACTIONS    how many, one after the other: 1
-    TOGETHER        with order.toml: the participants are asked at once and keep one log; order::next is a point, by which one goes before the other, and
-                    messages are none. FLAW is sound or looks_for_end then
+"""Three processes run commit.py, a two-phase commit. It promises that both participants commit a transaction or neither does, and that its client gets that result. Its
+settings list messages (`commit::send_..`, points of its own, by the Python client of ../../points) beside calls on the logs (`sys::..`, by the supervisor), so
+answers have no hits, and there is no depth. Variables of the environment change the run:
+    FLAW            sound (the default), lazy_prepare, early_end or abort_on_doubt
+    TRANSACTIONS    how many transactions there are, one after the other. Default: 1
+    TOGETHER        with order.toml: the participants are asked at once and have one log. order::next is a point, at which faults decide who goes first, and
+                    messages are no points. FLAW is sound or looks_for_end then
 
-split: one participant commits and the other doesn't. lost: the client was told `done`, and none commits. phantom: it was told `aborted`, and all commit.
-crashed: a signal, or an exception.
+The judge says split if one participant commits and the other doesn't, lost if the client got `done` and none commits, phantom if it got `aborted` and all
+commit, and crashed after a signal or an exception.
 
-Found, of FLAW.report (docs/FOUND.md): the sound one passes all 69 plans. lazy_prepare (the vote goes out before the record is synced) loses or
-splits at most faults after the decision. early_end (the coordinator forgets before all acknowledge) splits where one outcome is lost. abort_on_doubt takes
-a commit record whose sync failed for one that isn't there: no single fault shows it, and
+Found, as FLAW.report shows (docs/FOUND.md): sound passes all 69 plans. lazy_prepare (the vote goes out before the record is synced) loses or splits at
+most faults after the decision. early_end (the coordinator forgets before all acknowledge) splits if one outcome is lost. abort_on_doubt takes a commit
+record whose sync failed for one that isn't there: no single fault shows it, and
 `sys::fsync=2*off->1*return;commit::send_outcome=1*return` splits.
-With TOGETHER and order.toml (FLAW.order.report): the sound one passes. looks_for_end (who writes to the log of both looks for its end first) splits
-where one is overtaken between the look and the write, and by no other fault alone."""
+With TOGETHER and order.toml (FLAW.order.report) sound passes. looks_for_end (a participant looks for the end of the common log before it writes) splits
+if another one overtakes it between the look and the write, and by no other fault alone."""
 
 import os
 import sys

@@ -1,5 +1,5 @@
-# What the programs of this harness share: sourced. `deliver NUMBER` has dovecot-lda deliver that message to `mail` in this folder. It refuses to do so as root,
-# so root has nobody do it, to whom what is named from this folder is open, and no path that leads to it. Its settings are none of the data.
+# The programs of this harness source this file. `deliver NUMBER` lets dovecot-lda deliver that message to `mail` in the current folder. dovecot-lda refuses to do
+# so as root, so root runs it as the user nobody, who can open names below this folder but no path that leads to it. Its settings aren't part of the data.
 . "$HARNESS/mail.sh"
 messages
 printf '%s\n' 'mail_location = maildir:~/mail' 'log_path = /dev/stderr' 'postmaster_address = postmaster@example.org' \

@@ -1,5 +1,5 @@
-"""More of the programs beside this file: points have their file's name, since a thread of etcd's own syncs `snap/db` by the clock, so that among all files no two
-runs have the same hits, and among those of the log they do. An order would change nothing of that."""
+"""Settings for the programs beside this file, which test etcd. Points have their file's name: a thread of etcd syncs `snap/db` by the clock, so no two runs have
+the same hits on all files, but they have the same hits on the files of the log. A fixed order of threads would change nothing about that."""
 
 environment = {"FAULTS_POINTS": "file"}
 order, pin = "arrival", False

@@ -1,5 +1,5 @@
-# What the programs of this harness share: sourced. `start` starts an etcd of one member that keeps its files in this folder and waits until it answers. It has
-# sockets, which are none of the data, and no port.
+# The programs of this harness source this file. `start` starts an etcd of one member that has its files in the current folder, and waits until it responds. It
+# uses sockets, which aren't part of the data, and no port.
 export ETCDCTL_API=3
 data=$PWD
 

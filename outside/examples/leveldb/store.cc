@@ -1,8 +1,8 @@
-// store write FOLDER FROM UPTO: opens a LevelDB, or with ROCKSDB defined a RocksDB, and commits the batches FROM to UPTO, each of two
-// keys, each synced; writes `done N` when batch N was acknowledged.
-// store check FOLDER UPTO DONE..: opens it and writes what became of the batches: ok, or the first promise that is broken.
-// THREADS says by how many threads at once, each of which takes the next batch of its own turn: 1.
-// SIZE is how long a value is, 100 bytes and a number behind them. PARANOID, where it is set, opens for writing with the store's
+// store write FOLDER FROM UPTO: opens a LevelDB, or a RocksDB if ROCKSDB is defined, and commits the batches FROM to UPTO, each of two
+// keys, each synced. It prints `done N` when batch N was acknowledged.
+// store check FOLDER UPTO DONE..: opens the store and prints ok if it has the batches, or the code of the first promise that is broken.
+// THREADS is how many threads commit at once, each of which takes the next batch of its own turn. Default: 1.
+// SIZE is how long a value is, with a number behind it. Default: 100 bytes. If PARANOID is set, the store is opened for writing with its
 // `paranoid_checks`.
 #ifdef ROCKSDB
 #include <rocksdb/db.h>

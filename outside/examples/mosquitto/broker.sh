@@ -1,5 +1,5 @@
-# What the programs of this harness share: sourced. `start` starts a broker that keeps its store in this folder, `stop` ends it in good order, and
-# `publish` has it retain a message. The socket is none of the data.
+# The programs of this harness source this file. `start` starts a broker that has its store in the current folder, `stop` ends it in good order, and
+# `publish` makes it retain a message. The socket isn't part of the data.
 socket=$TMPDIR/socket
 
 start() {
@@ -14,7 +14,7 @@ start() {
     done
 }
 
-# Its status
+# Its status is the broker's.
 stop() {
     kill "$broker" 2>> "$TMPDIR/log"
     wait "$broker" 2>> "$TMPDIR/log"

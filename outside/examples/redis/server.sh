@@ -1,5 +1,5 @@
-# What the programs of this harness share: sourced. `start` starts a server that keeps its files in this folder and waits until it answers. The socket is none
-# of the data.
+# The programs of this harness source this file. `start` starts a server that has its files in the current folder, and waits until it responds. The socket isn't
+# part of the data.
 socket=$TMPDIR/socket
 
 client() { timeout 10 redis-cli -s "$socket" "$@" 2>> "$TMPDIR/log"; }

@@ -1,13 +1,15 @@
-"""replace.c replaces a file as the bundled file replacement does, and says which replacement it has begun and done. By the environment:
-    FLAW            sound (where it isn't set), late_sync, ignore_sync, retry_write, rename_first or in_place
-    OLD             what the file holds before: old
-    REPLACEMENTS    lists of chunks without blanks, a comma between two lists: ne w
-    STATES          which states are judged where settings lack power::keep: lasting
+"""replace.c replaces a file as the bundled file replacement does, and prints which replacements it has begun and done. It promises that after a power cut
+the file has the replacement that is done, or one that was begun later, whole. Variables of the environment change the run:
+    FLAW            sound (the default), late_sync, ignore_sync, retry_write, rename_first or in_place
+    OLD             what the file holds before. Default: old
+    REPLACEMENTS    lists of chunks without blanks, with a comma between two lists. Default: ne w
+    STATES          which states are judged if the settings don't list power::keep. Default: lasting
 
-torn: the file holds neither what was there before nor a replacement that was begun. stale: it holds an older one than that which was acknowledged.
+The judge says torn if the file holds neither what was there before nor a replacement that was begun, and stale if it holds an older one than the last that was
+acknowledged.
 
-With keep.toml a campaign grows over what a power cut may keep: two faults deep FLAW=rename_first has 4 causes, the first
-`sys::fsync=1*return;power::keep=3*off->1*return` (the name, and none of its bytes), FLAW=in_place 23, the first
+With keep.toml the pending changes that a power cut keeps are planned as faults are. Two faults deep FLAW=rename_first has 4 causes, the first of them
+`sys::fsync=1*return;power::keep=3*off->1*return` (the name is kept, and none of its bytes). FLAW=in_place has 23, the first of them
 `sys::open=1*off->1*return;power::keep=1*return` (the old name is gone). In `lasting` both pass every plan."""
 
 import os

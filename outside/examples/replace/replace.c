@@ -1,10 +1,10 @@
-/* replace FLAW CHUNK.. [, CHUNK..]..: replaces the file `target` of this folder, once for each list of chunks, as the
-   bundled file replacement does: write `tmp`, sync it, rename it over `target`, sync the folder. It writes `begun N` and
-   `done N` on standard output, so that whoever judges knows what was promised.
+/* replace FLAW CHUNK.. [, CHUNK..]..: replaces the file `target` of the current folder, once for each list of chunks, as the
+   bundled file replacement does: it writes `tmp`, syncs it, renames it over `target`, and syncs the folder. It prints `begun N`
+   and `done N` on standard output, so that the judge knows what was promised.
 
-   FLAW is `sound`, `late_sync` (the file is synced after the folder, and acknowledged then), `ignore_sync` (goes on where
+   FLAW is `sound`, `late_sync` (the file is synced after the folder, and acknowledged then), `ignore_sync` (it goes on if
    the file's sync failed), `retry_write` (a chunk whose write failed is written once more), `rename_first` (the file is
-   synced under its new name) or `in_place` (no `tmp`: the old file is unlinked and its name made anew). */
+   synced under its new name) or `in_place` (there is no `tmp`: the old file is unlinked and its name made anew). */
 #include <fcntl.h>
 #include <stdbool.h>
 #include <stdio.h>

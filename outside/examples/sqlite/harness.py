@@ -1,18 +1,20 @@
-"""SQLite commits transactions of two rows each; what it acknowledged has to be there after a power cut, whole. By the environment:
-    JOURNAL        the journal mode: DELETE (where it isn't set) or WAL
-    SYNC           PRAGMA synchronous: EXTRA (where it isn't set), FULL, NORMAL or OFF
-    TRANSACTIONS   how many are committed: 1
-    RECOVER        yes: after the power cut it commits one more, under the same scenario, and the power is cut again
-    STATES         which states are judged where settings lack power::keep: lasting names contents live
+"""SQLite commits transactions of two rows each. It promises that each acknowledged transaction is there after a power cut, whole. Variables of the environment
+change the run:
+    JOURNAL        the journal mode: DELETE (the default) or WAL
+    SYNC           PRAGMA synchronous: EXTRA (the default), FULL, NORMAL or OFF
+    TRANSACTIONS   how many transactions are committed. Default: 1
+    RECOVER        yes: after the power cut SQLite commits one more, under the same scenario, and the power is cut again
+    STATES         which states are judged if the settings don't list power::keep. Default: lasting names contents live
 
-corrupt: the integrity check finds something. half: a transaction has one of its rows. lost: a transaction that was acknowledged isn't there.
+The judge says corrupt if the integrity check finds an error, half if a transaction has only one of its rows, and lost if a transaction that was acknowledged
+is missing.
 
 Promised by SQLite's page of PRAGMA synchronous: of FULL, that it "will use the xSync method of the VFS to ensure that all content is safely written to the disk
 surface prior to continuing"; of EXTRA also "that the directory containing a rollback journal is synced after that journal is unlinked to commit a transaction".
 
 Found in SQLite 3.40.1:
-- lost, `sys::open=3*off->1*return`, the one loss by one fault: the folder that is to be synced can't be opened, and nobody is told. The commit is acknowledged, and
-  after a power cut the journal may be there again and roll it back. By strace alone, in an empty folder:
+- lost, `sys::open=3*off->1*return`, the one loss by one fault: the folder that is to be synced can't be opened, and no error is reported. The commit is acknowledged,
+  and after a power cut the journal may be there again and roll it back. With strace alone, in an empty folder:
     sqlite3 db 'CREATE TABLE t(n)'
     strace -o calls -P "$PWD" -e trace=openat,fdatasync -e inject=openat:error=EIO:when=2 \\
         sqlite3 db "PRAGMA synchronous=EXTRA; INSERT INTO t VALUES(1); SELECT 'done'"

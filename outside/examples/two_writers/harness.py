@@ -1,17 +1,18 @@
-"""Two processes commit to one SQLite database in WAL mode, in one order; with order.toml, where `order::next` is a point, one goes before the other as faults say.
-By the environment:
-    SYNC            PRAGMA synchronous of both: FULL (where it isn't set), NORMAL or OFF
-    TRANSACTIONS    how many each of them commits, of two rows each: 1
+"""Two processes commit to one SQLite database in WAL mode. SQLite promises that each acknowledged transaction is there after a power cut, whole. The order of
+their calls is fixed; with order.toml `order::next` is a point, and faults decide which process goes first. Variables of the environment change the run:
+    SYNC            PRAGMA synchronous of both processes: FULL (the default), NORMAL or OFF
+    TRANSACTIONS    how many transactions of two rows each process commits. Default: 1
 
-corrupt: the integrity check finds something. half: a transaction has one of its rows. lost: a transaction that was acknowledged isn't there.
-crashed: a signal. Who finds the database locked sleeps and tries again, for ten seconds by the lengths of its sleeps.
+The judge says corrupt if the integrity check finds an error, half if a transaction has only one of its rows, lost if a transaction that was acknowledged is
+missing, and crashed if a signal ended a process. A process that finds the database locked sleeps and tries again, until its sleeps come to ten seconds.
 
 Promised by SQLite's page of write-ahead logging: "Writers sync the WAL on every transaction commit if PRAGMA synchronous is set to FULL".
 
 Found in SQLite 3.40.1, plans of one fault: `sys::open=7*off->1*return` and `sys::fsync=6*off->1*return`. The second writer makes its log
-anew, and opens the folder and syncs it; that neither fails is looked at. Its transaction is acknowledged, and copied into the database as it leaves. But that the
-first writer took its own log away lasts by no sync now: after a power cut that log may be there again, and is laid over the pages of the second's transaction, which
-is gone. With FAULTS_SYNC=journal both pass. With order.toml the same two are lost, of 468 plans. By strace alone that nobody is told, in an empty folder:
+anew, opens the folder and syncs it, but doesn't check whether either of these fails. Its transaction is acknowledged, and copied into the database as it ends. But
+no sync has put the first writer's removal of its own log on the disk: after a power cut that log may be there again, and is laid over the pages of the second's
+transaction, which is gone. With FAULTS_SYNC=journal both pass. With order.toml the same two are lost, of 468 plans. With strace alone, in an empty folder, you see
+that no error is reported:
     sqlite3 db 'PRAGMA journal_mode=WAL; CREATE TABLE t(n)'
     strace -o calls -P "$PWD" -e trace=openat,fsync,fdatasync -e inject=fsync,fdatasync:error=EIO:when=1 \\
         sqlite3 db "INSERT INTO t VALUES(1); SELECT 'done'"

@@ -1,4 +1,4 @@
-"""Builds what pip installs from this folder, by the standard library alone: an install needs no network, and writes nothing here."""
+"""Builds what pip installs from this folder. It uses only the standard library, so that an install needs no network and writes nothing here."""
 import base64
 import hashlib
 import os
@@ -12,7 +12,7 @@ WHEEL = "Wheel-Version: 1.0\nGenerator: paklour\nRoot-Is-Purelib: true\nTag: py3
 
 
 def _files():
-    """Each file of the wheel, by its name."""
+    """The files of the wheel by their names."""
     package = os.path.join(HERE, "src", NAME)
     for name in sorted(os.listdir(package)):
         if name.endswith(".py"):

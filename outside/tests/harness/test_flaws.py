@@ -47,7 +47,7 @@ class Flaws(Campaigns):
 
     def test_rename_before_the_sync(self):
         self.assertEqual(self.found(NOTE, "rename_first"), "")
-        found = r"fail lost: the 1st sys::fsync \(note\) (fails|ends the run), of what is pending 3 \(rename new -> note\) is kept"
+        found = r"fail lost: the 1st sys::fsync \(note\) (fails|ends the run), pending change 3 \(rename new -> note\) is kept"
         self.each(found, NOTE, "rename_first", "--depth", 2)
 
     def test_a_folder_that_is_never_synced(self):
@@ -56,7 +56,7 @@ class Flaws(Campaigns):
     def test_a_torn_record(self):
         """The second record has 23 bytes with its sum, a blank and its end; the third, of 22, is never synced. Both flaws lose by one plan: one campaign
         comes to it, and the rest is tried by it alone."""
-        torn = "fail lost: of what is pending 1 (write log 22 at 23) is kept by half"
+        torn = "fail lost: pending change 1 (write log 22 at 23) is torn"
         for flaw in ("torn_taken", "torn_appended"):
             self.assertEqual(self.found(LOG, flaw), "")
         self.assertEqual(self.found(LOG, "torn_taken", "--depth", 2), torn)

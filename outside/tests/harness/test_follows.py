@@ -104,7 +104,7 @@ class Follows(Campaigns):
         self.assertEqual(self.loop(*words).status, 0)
         done = self.loop("--every-run", *words)
         self.assertEqual((done.status, done.out), (2, ""))
-        told = f"loop: {self.here}/answers: some of these may follow from other runs: take them away, and begin anew with --every-run\n"
+        told = f"loop: {self.here}/answers may have answers that were derived from other runs: delete it, and start again with --every-run\n"
         self.assertEqual(done.told, told)
         (self.here / "answers").unlink()
         for _ in range(2):
@@ -153,15 +153,15 @@ class Torn(Campaigns):
         done = self.loop("-j", 1, "--settings", settings, "--into", self.here / "into", *options, folder)
         answers = sorted(self.answers(self.here / "into"))
         shutil.rmtree(self.here / "into")
-        counts = re.search(r"(\d+) runs and \d+ judgements; (\d+) plans by what follows, (\d+) of them tried", done.told)
+        counts = re.search(r"(\d+) runs and \d+ judgements; (\d+) plans were derived from other runs, (\d+) of them were run", done.told)
         return done, answers, [int(count) for count in counts.groups()]
 
     def test_it_is_found(self):
         done, answers, _ = self.campaign(self.harness(**self.steps, judge=WHOLE), '"power::keep", "power::tear"')
         self.assertEqual(done.status, 1, done.told)
         self.assertEqual([line for line in done.told.splitlines() if line.startswith("fail ")],
-            ["fail torn: of what is pending 1 (write a 4 at 7) is kept by half"])
-        self.assertIn("1 of: torn: is kept by half: a\n", done.told)
+            ["fail torn: pending change 1 (write a 4 at 7) is torn"])
+        self.assertIn("1 failure: torn: a is torn\n", done.told)
         self.assertIn("fail torn\tpower::keep=1*return;power::tear=1*return\tsys::open;sys::write;sys::fsync;sys::write;power::keep;power::tear", answers)
 
     def test_it_takes_no_run(self):
@@ -182,7 +182,7 @@ class Torn(Campaigns):
         done, known, _ = self.campaign(folder, points)
         self.assertEqual(known, self.campaign(folder, points, "--every-run")[1])
         self.assertEqual(sorted(line for line in done.told.splitlines() if line.startswith("fail ")),
-            [f"fail torn: of what is pending 1 (write a {length} at 7) is kept by half" for length in (2, 4)])
+            [f"fail torn: pending change 1 (write a {length} at 7) is torn" for length in (2, 4)])
 
     def test_settings_that_do_not_name_it(self):
         done, answers, _ = self.campaign(self.harness(**self.steps, judge=WHOLE), '"power::keep"')

@@ -104,7 +104,7 @@ class Resumed(Campaigns):
         (self.folder / "saving.sh").write_text(SAVING + "# another\n")
         done = self.loop("-j", 2, self.folder)
         self.assertEqual((done.status, done.told),
-            (2, f"loop: {self.folder}/answers are those of another harness, with another saving.sh: take them away, and begin anew\n"))
+            (2, f"loop: {self.folder}/answers belongs to a harness with another saving.sh: delete it, and start again\n"))
 
     def test_a_note_that_no_campaign_left(self):
         self.assertEqual(self.loop("-j", 2, self.folder).status, 0)
@@ -113,7 +113,7 @@ class Resumed(Campaigns):
             note.write_text(said)
             done = self.loop("-j", 2, self.folder)
             self.assertEqual((done.status, done.told),
-                (2, f"loop: {note} isn't as a campaign leaves it: take it and answers away, and begin anew\n"), said)
+                (2, f"loop: {note} can't be read as the note of a campaign: delete it and answers, and start again\n"), said)
 
     def test_campaigns_in_its_own_folder(self):
         for _ in range(2):
@@ -129,7 +129,7 @@ class Resumed(Campaigns):
         (other / "saving.sh").write_text(SAVING + "# another\n")
         done = self.loop("--join", parts, "--into", self.here / "joined", other)
         self.assertEqual((done.status, done.told),
-            (2, f"loop: {parts}/1/answers are those of another harness, with another saving.sh: take them away, and begin anew\n"))
+            (2, f"loop: {parts}/1/answers belongs to a harness with another saving.sh: delete it, and start again\n"))
 
 
 if __name__ == "__main__":

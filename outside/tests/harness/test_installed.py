@@ -1,4 +1,4 @@
-"""Installed somewhere, and used from an empty folder: with no checkout and no variable, as the tutorial of docs/HARNESS.md begins."""
+"""Installed somewhere, and used from an empty folder: with no checkout and no variable, as docs/TUTORIAL.md begins."""
 
 import os
 import re
@@ -21,8 +21,8 @@ COMMANDS = ["paklour-census", "paklour-faults", "paklour-loop", "paklour-new", "
 
 def steps() -> list[tuple[str, str]]:
     """The first two steps of the tutorial: languages and texts of their blocks."""
-    page = (TOP / "docs" / "HARNESS.md").read_text("utf-8")
-    return re.findall(r"^```(\w*)\n(.*?)^```", re.search(r"^\*\*1\. .*?(?=^\*\*3\. )", page, re.M | re.S)[0], re.M | re.S)
+    page = (TOP / "docs" / "TUTORIAL.md").read_text("utf-8")
+    return re.findall(r"^```(\w*)\n(.*?)^```", re.search(r"^## 1\. .*?(?=^## 3\. )", page, re.M | re.S)[0], re.M | re.S)
 
 
 class Installed(unittest.TestCase):

@@ -64,7 +64,7 @@ class Machines(Campaigns):
     def joined(self, parts):
         done = self.loop(*WORDS, "--join", parts, "--into", self.here / "joined", NOTE)
         self.assertEqual(done.status, 1, done.told)
-        self.assertIn("0 plans by what follows", done.told)
+        self.assertIn("; 0 plans were derived", done.told)
         return set(self.answers(self.here / "joined")), (self.here / "joined" / "report").read_bytes()
 
     def test_three_shares(self):
@@ -85,7 +85,7 @@ class Machines(Campaigns):
         self.loop(*WORDS, "--shard", "2/2", "--into", parts / "2", NOTE)
         done = self.loop(*WORDS, "--join", parts, "--into", self.here / "joined", NOTE)
         self.assertEqual((set(self.answers(self.here / "joined")), (self.here / "joined" / "report").read_bytes()), self.whole())
-        self.assertNotIn(" 0 plans by what follows", done.told)
+        self.assertNotIn("; 0 plans were derived", done.told)
 
     def test_a_run_without_faults_that_fails(self):
         """Each machine says so, and who joins them."""
@@ -103,17 +103,17 @@ class Machines(Campaigns):
         (parts / "1" / "answers").write_text("pass\tnone\tsys::open\n")
         (parts / "1" / "campaign.json").write_text('{"harness": "another"}\n')
         done = self.loop("--join", parts, "--into", self.here, NOTE)
-        self.assertEqual((done.status, done.told), (2, f"loop: {parts}/1/answers are those of another harness: take them away, and begin anew\n"))
+        self.assertEqual((done.status, done.told), (2, f"loop: {parts}/1/answers belongs to another harness: delete it, and start again\n"))
 
     def test_a_folder_without_answers(self):
         done = self.loop("--join", self.here / "parts", "--into", self.here, NOTE)
-        self.assertEqual((done.status, done.told), (2, f"loop: {self.here}/parts: no folder in it has answers\n"))
+        self.assertEqual((done.status, done.told), (2, f"loop: no folder in {self.here}/parts has a file answers\n"))
 
     def test_a_line_that_is_no_answer_of_a_harness(self):
         self.whole()
         parts = self.here / "parts"
         shutil.copytree(self.here / "whole", parts / "1")
-        for line, told in (("pass", "loop: no answer of a harness: pass\n"), ("pass\tnone", "answers: line 1: no hits\n")):
+        for line, told in (("pass", "loop: this line of the answers has no scenario: pass\n"), ("pass\tnone", "answers: line 1: no hits\n")):
             (parts / "1" / "answers").write_text(f"{line}\n")
             done = self.loop(*WORDS, "--join", parts, "--into", self.here / "joined", NOTE)
             self.assertEqual(done.status, 2)
@@ -127,7 +127,7 @@ class Machines(Campaigns):
         (parts / "1" / "answers").write_text(text.replace("fail lost\tsys::fsync=1*return;", "pass\tsys::fsync=1*return;"))
         done = self.loop(*WORDS, "--join", parts, "--into", self.here / "whole", NOTE)
         self.assertEqual(done.status, 5)
-        self.assertIn("loop: told otherwise: fail lost, then pass: sys::fsync=1*return;power::keep=2*off->1*return\n", done.told)
+        self.assertIn(f"loop: {self.here}/parts/1/answers: the verdict changed from fail lost to pass: sys::fsync=1*return;power::keep=2*off->1*return\n", done.told)
 
     @unittest.skipUnless(shutil.which("parallel"), "GNU parallel is not installed")
     def test_by_gnu_parallel(self):

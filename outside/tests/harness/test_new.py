@@ -1,5 +1,6 @@
 """What `new` writes runs as it is."""
 
+import os
 import shutil
 import subprocess
 import unittest
@@ -55,13 +56,31 @@ class New(Campaigns):
         self.assertEqual(done.status, 1)
         self.assertRegex(done.told, "fail (lost|torn): ")
 
+    def test_a_program_that_is_changed(self):
+        """It is linked into the harness, so its old answers are refused."""
+        self.assertEqual(self.made(SAFE).status, 0)
+        self.assertEqual(os.readlink(self.here / "made" / "program"), "../program")
+        (self.here / "program").write_text(SAFE + "# changed\n")
+        done = self.loop(self.here / "made")
+        self.assertEqual((done.status, done.told), (2, f"loop: {self.here}/made/answers belongs to a harness with another program: delete it, and start again\n"))
+
+    def test_a_program_that_is_not_linked(self):
+        """Its name has a meaning in a harness, or it is found by the PATH."""
+        again = self.here / "again"
+        again.write_text(SAFE)
+        again.chmod(0o755)
+        for number, words in enumerate(([again], ["touch", "note"])):
+            folder = self.here / f"made{number}"
+            subprocess.run([OUTSIDE / "new", folder, *words], capture_output=True, check=True)
+            self.assertEqual(sorted(os.listdir(folder)), ["expected", "judge", "prepare", "run"])
+
     def test_a_folder_that_is_there(self):
         made = subprocess.run([OUTSIDE / "new", self.here, "true"], capture_output=True, text=True, check=False)
-        self.assertEqual((made.returncode, made.stderr), (1, f"new: {self.here} is there\n"))
+        self.assertEqual((made.returncode, made.stderr), (1, f"new: {self.here} exists already: delete it, or give another name\n"))
 
     def test_a_program_that_is_not(self):
         made = subprocess.run([OUTSIDE / "new", self.here / "made", self.here / "none"], capture_output=True, text=True, check=False)
-        self.assertEqual((made.returncode, made.stderr), (1, f"new: no such program: {self.here}/none\n"))
+        self.assertEqual((made.returncode, made.stderr), (1, f"new: there is no such program: {self.here}/none\n"))
         self.assertFalse((self.here / "made").exists())
 
 

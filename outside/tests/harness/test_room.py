@@ -25,6 +25,14 @@ SAVES = "#!/bin/sh\ndd if=/dev/zero of=new bs=2000000 count=1 status=none && syn
 # Where the sync fails, it takes a hundred.
 SWELLS = SAVES.replace("sync new", '{ sync new || { head -c 100000000 /dev/zero > "$TMPDIR/more"; sleep 1; exit 1; }; }')
 JUDGES = '#!/bin/sh\n[ ! -s "$SAID" ] || [ "$(wc -c < note)" = 2000000 ] || { echo lost; exit 1; }\n'
+# The same, except that only the first judgement ends by itself, that of the run without faults. Each later one makes the file `held`, and waits until there
+# is a file `freed`. So a campaign can't end before the test makes that file.
+HOLDS = JUDGES + """
+[ -e "$HARNESS/../begun" ] || { : > "$HARNESS/../begun"; exit 0; }
+: > "$HARNESS/../held"
+until [ -e "$HARNESS/../freed" ]; do sleep 0.05; done
+"""
+STOPS_WITHIN = 50  # seconds: less than the 60 after which a judge that waits is ended in any case
 
 
 class Large(Campaigns):
@@ -64,7 +72,7 @@ class Taken(Large):
         self.assertEqual(done.status, 0, done.told)
         said = [line for line in done.told.splitlines() if line.startswith("unresolved: ")]
         self.assertEqual(len(said), 1, done.told)
-        self.assertRegex(said[0], r"^unresolved: it takes more than the \d+ bytes that runs have: sys::fsync=1\*return$")
+        self.assertRegex(said[0], r"^unresolved: it took more than the \d+ bytes that all runs together may take \(--room\): sys::fsync=1\*return$")
         unresolved = {answer.split("\t")[1] for answer in self.answers(folder) if not answer.startswith("pass")}
         # Where its first open fails, `sync` tries another.
         self.assertEqual(unresolved, {"sys::fsync=1*return", "sys::open=1*off->return"})
@@ -82,19 +90,33 @@ class Full(Large):
         self.addCleanup(subprocess.run, ["umount", self.memory], check=True)
         self.environment["TMPDIR"] = str(self.memory)
 
+    def await_hold(self, process):
+        """Waits until a judge waits, and so the campaign."""
+        while not (self.here / "held").exists():
+            self.assertIsNone(process.poll(), "the campaign ended before its second judgement")
+            time.sleep(0.01)
+
+    def end_of(self, process):
+        """What the loop printed on standard error until it stopped."""
+        try:
+            return process.communicate(timeout=STOPS_WITHIN)[1]
+        except subprocess.TimeoutExpired:
+            process.terminate()
+            self.fail(f"the campaign goes on, though no room is left: {process.communicate()[1]}")
+
     def test_by_others(self):
         """It stops and says so, and goes on where it was once there is room again."""
-        folder = self.harness(run=SAVES, judge=JUDGES)
+        folder = self.harness(run=SAVES, judge=HOLDS)
         with self.start("-j", 2, folder) as process:
-            while process.poll() is None and not ((folder / "answers").exists() and self.answers(folder)):
-                time.sleep(0.01)
+            self.await_hold(process)
             with open(self.memory / "others", "wb") as others:
                 os.posix_fallocate(others.fileno(), 0, 50 * MEGABYTE)
-            _, told = process.communicate()
+            told = self.end_of(process)
         self.assertEqual(process.returncode, 2, told)
-        self.assertRegex(told, rf"loop: runs have 16777216 bytes of {self.memory}, where 67108864 are free\n")
-        self.assertRegex(told, rf"loop: {self.memory}: \d+ bytes are free, too few for a run that took \d+: go on with another TMPDIR\n")
+        self.assertRegex(told, rf"loop: all runs together may take 16777216 bytes in {self.memory}, where 67108864 are free\n")
+        self.assertRegex(told, rf"loop: {self.memory}: \d+ bytes are free, which is too few: one run took \d+. Free some, or set TMPDIR to another folder\n")
         (self.memory / "others").unlink()
+        (self.here / "freed").touch()
         answered = set(self.answers(folder))
         self.assertTrue(all(answer.startswith("pass") for answer in answered), "what met a full disk is no answer")
         self.assertEqual(self.loop("-j", 2, folder).status, 0)

@@ -99,30 +99,30 @@ class TornInWords(unittest.TestCase):
 
     def test_one_by_half(self):
         told = self.outcome(("power::keep", "go"), ("power::keep", "return"), ("power::tear", "return"), ("power::keep", "go"))
-        self.assertEqual(faults_in_words(told), "of what is pending 2 (write a 7 at 0) is kept by half")
-        self.assertEqual(group_of(told), "torn: is kept by half: a")
+        self.assertEqual(faults_in_words(told), "pending change 2 (write a 7 at 0) is torn")
+        self.assertEqual(group_of(told), "torn: a is torn")
 
     def test_one_whole_and_one_by_half(self):
         told = self.outcome(("power::keep", "go"), ("power::keep", "return"), ("power::tear", "go"), ("power::keep", "return"), ("power::tear", "return"))
-        self.assertEqual(faults_in_words(told), "of what is pending 2 (write a) is kept, of what is pending 3 (write a 4 at 7) is kept by half")
-        self.assertEqual(group_of(told), "torn: is kept: a, is kept by half: a")
+        self.assertEqual(faults_in_words(told), "pending change 2 (write a) is kept, pending change 3 (write a 4 at 7) is torn")
+        self.assertEqual(group_of(told), "torn: a is kept, a is torn")
 
     def test_all_from_then_on(self):
         hits = ("power::keep", "go"), ("power::keep", "return"), ("power::tear", "return"), ("power::keep", "return"), ("power::tear", "return")
         told = self.outcome(*hits, scenario="power::keep=1*off->return;power::tear=2*return")
-        self.assertEqual(faults_in_words(told), "of what is pending 2 (write a) and each later one is kept, "
-            "of what is pending 2 (write a 7 at 0) is kept by half, of what is pending 3 (write a 4 at 7) is kept by half")
+        self.assertEqual(faults_in_words(told), "pending change 2 (write a) and each later one is kept, "
+            "pending change 2 (write a 7 at 0) is torn, pending change 3 (write a 4 at 7) is torn")
         told = self.outcome(*hits, scenario="power::keep=1*off->2*return;power::tear=return")
         self.assertEqual(faults_in_words(told),
-            "of what is pending 2 (write a 7 at 0) and each later one is kept by half, of what is pending 3 (write a) is kept")
+            "pending change 2 (write a 7 at 0) and each later one is torn, pending change 3 (write a) is kept")
 
     def test_where_nobody_knows_what_was_pending(self):
         self.assertEqual(faults_in_words(self.outcome(("power::keep", "return"), ("power::tear", "return"), pending=[])),
-            "of what is pending (a) is kept by half")
+            "pending change (a) is torn")
 
     def test_what_a_cut_takes_for_nothing(self):
         told = self.outcome(("power::keep", "panic"), ("power::keep", "return"), ("power::tear", "panic"))
-        self.assertEqual(faults_in_words(told), "of what is pending 2 (write a) is kept")
+        self.assertEqual(faults_in_words(told), "pending change 2 (write a) is kept")
         self.assertEqual(hit_line(told.trace[3]), "    4 power::tear 1 (a) - [panic]")
 
 
@@ -134,13 +134,13 @@ class Made(Campaigns):
             return Settings(Harness(name, self.here, {}), self.here, Answers(str(self.here / "answers")), None, None, None)
 
     def test_a_long_name(self):
-        self.assertEqual(self.settings("x" * 250).table["outside"]["label"], "x" * 185 + ", settings made")
+        self.assertEqual(self.settings("x" * 250).table["outside"]["label"], "x" * 174 + ", settings by paklour-loop")
 
     def test_too_many_codes(self):
         settings = self.settings("x")
         for number in range(64):
             settings.take_code(f"fail lost {number}\tnone")
-        with self.assertRaisesRegex(Stopped, "^judge says lost 64, and settings may have 64 codes: "):
+        with self.assertRaisesRegex(Stopped, "^the judge printed the code lost 64, but settings have at most 64 codes: "):
             settings.take_code("fail lost 64\tnone")
 
 

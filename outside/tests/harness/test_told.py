@@ -2,8 +2,10 @@
 
 import json
 import os
+import re
 import signal
 import subprocess
+import sys
 import time
 import unittest
 import xml.etree.ElementTree
@@ -29,19 +31,19 @@ class Refused(Campaigns):
 
     def test_a_harness_without_judge(self):
         folder = self.harness(run=SAVES)
-        self.refused("a harness without `judge` says nothing", folder)
+        self.refused(": `judge` is missing: a harness has a program of this name, or a file of Python that defines it\n", folder)
 
     def test_a_step_that_can_not_be_run(self):
         folder = self.harness(run=SAVES, judge=JUDGES)
         (folder / "judge").chmod(0o644)
-        self.refused("judge can't be run: chmod +x", folder)
+        self.refused(f"judge isn't executable: call chmod +x {folder}/judge\n", folder)
 
     def test_words_of_the_other_kind(self):
         folder = self.harness(run=SAVES, judge=JUDGES)
         for words in (["--engine", "parallel"], ["--brief"], ["--hits"], ["--no-recheck"]):
-            self.refused(f"loop: {words[0]} is an option of a script\n", *words, folder)
+            self.refused(f"loop: {words[0]} can be used only with a script\n", *words, folder)
         for words in (["--shard", "1/2"], ["--join", "parts"], ["--try", "none"], ["-x"]):
-            self.refused(f"loop: {words[0]} is an option of a harness\n", *words, "--script", "./try", "settings.toml", "answers")
+            self.refused(f"loop: {words[0]} can be used only with a harness\n", *words, "--script", "./try", "settings.toml", "answers")
 
     def test_settings_that_are_not_there(self):
         folder, settings = self.harness(run=SAVES, judge=JUDGES), self.here / "none.toml"
@@ -67,7 +69,7 @@ class Refused(Campaigns):
         """However often it is asked."""
         folder = self.harness(run="#!/bin/sh\ntrue\n", judge=JUDGES)
         for _ in range(2):
-            self.refused("the run without faults says nothing", folder)
+            self.refused("the run without faults is unresolved", folder)
         self.assertEqual(self.answers(folder), [])
 
     def test_a_file_that_changes_unseen(self):
@@ -84,31 +86,31 @@ class Refused(Campaigns):
         folder = self.harness(run="#!/bin/sh\n: > here\n", judge="#!/bin/sh\ntrue\n")
         self.assertEqual(self.loop("-j", 2, folder).status, 0)
         (folder / "judge").write_text("#!/bin/sh\ntrue # changed\n")
-        self.refused("are those of another harness", folder)
+        self.refused("belongs to a harness with another judge: delete it, and start again\n", folder)
 
     def test_two_campaigns_in_one_folder(self):
         folder = self.harness(run="#!/bin/sh\nsleep 1; : > here\n", judge="#!/bin/sh\ntrue\n")
         with self.start(folder) as first:
             while not (folder / "answers").exists():
                 time.sleep(0.01)
-            self.refused("another loop writes to", folder)
+            self.refused("another loop is writing to", folder)
             first.terminate()
             first.communicate()
 
     def test_a_point_that_no_program_has(self):
         folder = self.harness(run=SAVES, judge=JUDGES)
         (folder / "settings.toml").write_text(SETTINGS.format('"sys::open", "libc::write"'))
-        self.refused("no program hits libc::write", folder)
+        self.refused(": libc::write: there is no such point; ", folder)
 
     def test_a_torn_write_where_none_is_kept(self):
         folder = self.harness(run=SAVES, judge=JUDGES)
         (folder / "settings.toml").write_text(SETTINGS.format('"sys::open", "power::tear"'))
-        self.refused("no program hits power::tear", folder)
+        self.refused(": power::tear: no program hits it unless power::keep is among the points too; ", folder)
 
     def test_a_code_that_settings_lack(self):
         folder = self.harness(run=SAVES, judge="#!/bin/sh\necho torn\nexit 1\n")
         (folder / "settings.toml").write_text(SETTINGS.format('"sys::open"'))
-        self.refused("judge says torn: add it to the codes of", folder)
+        self.refused("the judge printed the code torn: add it to the codes of", folder)
 
 
 class Unresolved(Campaigns):
@@ -122,20 +124,50 @@ class Unresolved(Campaigns):
         self.assertIn("unresolved: judge ended with 3: why not: none", self.first_line(run=SAVES, judge="#!/bin/sh\necho why not >&2\nexit 3\n"))
 
     def test_a_run_that_takes_too_long(self):
-        self.assertEqual("unresolved: ended after 1 seconds: none", self.first_line(run="#!/bin/sh\n: > here; sleep 30\n", judge=JUDGES))
+        self.assertEqual("unresolved: it was ended after 1 seconds (--seconds): none", self.first_line(run="#!/bin/sh\n: > here; sleep 30\n", judge=JUDGES))
 
     def test_a_run_that_writes_too_much(self):
         line = self.first_line(run="#!/bin/sh\nhead -c 3000000 /dev/zero > here\n", judge=JUDGES)
-        self.assertEqual("unresolved: it wrote more than 1048576 bytes: none", line)
+        self.assertEqual("unresolved: it wrote more than 1048576 bytes (--bytes): none", line)
 
     def test_a_run_that_says_too_much(self):
         line = self.first_line(run="#!/bin/sh\n: > here; yes | head -c 3000000\n", judge=JUDGES)
-        self.assertEqual("unresolved: it wrote more than 1048576 bytes: none", line)
+        self.assertEqual("unresolved: it wrote more than 1048576 bytes (--bytes): none", line)
+
+    def test_a_recovery_that_hits_too_often(self):
+        """Half of one byte is none, so it writes again for ever, and ends long before its time is up."""
+        again = f"#!{sys.executable} -S\nimport os\nfile = os.open('more', os.O_WRONLY)\nwhile not os.write(file, b'x'):\n    pass\n"
+        folder = self.harness(prepare="#!/bin/sh\n: > more\n", run="#!/bin/sh\nprintf a > note\n", again=again, judge="#!/bin/sh\ntrue\n")
+        done = self.loop(folder, "--try", "sys::write=1*off->return(HALF)")
+        last = "unresolved: it hit more than 65536 points: the 2nd sys::write (more) and each later sys::write does half"
+        self.assertEqual((done.status, done.out.splitlines()[-1]), (0, last), done.told)
+
+    def test_a_recovery_that_writes_too_much(self):
+        """Each write takes the place of the one before, and all are noted."""
+        again = f"#!{sys.executable} -S\nimport os\nfile = os.open('more', os.O_WRONLY | os.O_CREAT)\nwhile True:\n    os.pwrite(file, bytes(100000), 0)\n"
+        folder = self.harness(run="#!/bin/sh\nprintf a > note\n", again=again, judge="#!/bin/sh\ntrue\n")
+        done = self.loop("--bytes", "10M", folder, "--try", "none")
+        self.assertEqual(done.out.splitlines()[-1], "unresolved: it wrote more than 10485760 bytes (--bytes): without any fault", done.told)
+
+    def test_how_many_for_the_same_reason(self):
+        """The judge ends with 3 for what ended early, and with 4 for what ended later."""
+        run = "#!/bin/sh\n: > begun && sync . && echo begun && " + SAVES.removeprefix("#!/bin/sh\n")
+        judge = '#!/bin/sh\ncase "$(tail -n 1 "$SAID")" in saved) ;; begun) echo later >&2; exit 4 ;; *) echo early >&2; exit 3 ;; esac\n'
+        folder = self.harness(run=run, judge=judge)
+        done = self.loop("-j", 1, "--no-kinds", folder)
+        self.assertEqual(done.status, 0, done.told)
+        lines = done.told.splitlines()
+        for why in ("judge ended with 3: early", "judge ended with 4: later"):
+            self.assertEqual(sum(line.startswith(f"unresolved: {why}: ") for line in lines), 1, done.told)
+        more = [re.fullmatch(r"loop: (\d+) more plans are unresolved for this reason: judge ended with (3: early|4: later)", line) for line in lines[-3:-1]]
+        self.assertTrue(all(more), done.told)
+        unresolved = sum(answer.startswith("unresolved\t") for answer in self.answers(folder))
+        self.assertEqual(sum(int(found[1]) + 1 for found in more), unresolved)
 
     def test_one_that_is_shown(self):
         folder = self.harness(run="#!/bin/sh\nhead -c 3000000 /dev/zero > here\n", judge=JUDGES)
         done = self.loop("--bytes", "1M", folder, "--try", "none")
-        self.assertEqual((done.status, done.out.splitlines()[-1]), (0, "unresolved: it wrote more than 1048576 bytes: without any fault"), done.told)
+        self.assertEqual((done.status, done.out.splitlines()[-1]), (0, "unresolved: it wrote more than 1048576 bytes (--bytes): without any fault"), done.told)
 
     def test_what_it_began_is_ended(self):
         folder = self.harness(run=f"#!/bin/sh\n: > here; setsid sleep 77 & echo $! > {self.here}/pid; sleep 30\n", judge=JUDGES)
@@ -149,7 +181,7 @@ class NotTheSame(Campaigns):
         count = '#!/bin/sh\necho >> "$HARNESS/count"\n[ $(($(wc -l < "$HARNESS/count") % 2)) -eq 1 ] || { echo even; exit 1; }\n'
         done = self.loop("-j", 1, self.harness(run=SAVES, judge=count))
         self.assertEqual(done.status, 5, done.told)
-        self.assertRegex(done.told, "loop: told otherwise: (pass, then fail even|fail even, then pass): ")
+        self.assertRegex(done.told, "loop: the verdict changed from (pass to fail even|fail even to pass): ")
         self.assertIn("--every-run", done.told)
 
     def test_what_follows_is_tried(self):
@@ -162,7 +194,7 @@ echo $what >> "$HARNESS/seen"
         folder = self.harness(run=SAVES, judge=judge)
         done = self.loop("-j", 1, "--depth", 2, folder)
         self.assertEqual(done.status, 5, done.told)
-        self.assertIn("loop: told otherwise: pass, then fail again: ", done.told)
+        self.assertIn("loop: the verdict changed from pass to fail again: ", done.told)
         self.assertFalse((folder / "report").exists())
 
     def test_a_first_failure_that_does_not_fail_again(self):
@@ -170,7 +202,7 @@ echo $what >> "$HARNESS/seen"
         judge = '#!/bin/sh\n[ -s "$SAID" ] || ! mkdir "$HARNESS/seen" 2> "$TMPDIR/said" || { echo once; exit 1; }\n'
         done = self.loop("-j", 2, "-x", "--depth", 2, self.harness(run=SAVES, judge=judge))
         self.assertEqual(done.status, 5, done.told)
-        self.assertRegex(done.told, r"\nfail once: .*\n(.*\n)*loop: told otherwise: fail once, then pass: ")
+        self.assertRegex(done.told, r"\nfail once: .*\n(.*\n)*loop: the verdict changed from fail once to pass: ")
 
     def test_a_judge_by_the_clock(self):
         """It says otherwise from a second after its first judgement on."""
@@ -181,20 +213,20 @@ sleep 0.3
 '''
         done = self.loop("-j", 1, "--depth", 2, self.harness(run=SAVES, judge=judge))
         self.assertEqual(done.status, 5, done.told)
-        self.assertIn("told otherwise: ", done.told)
+        self.assertIn("loop: the verdict changed from ", done.told)
 
     def test_a_program_that_does_more_each_time(self):
         run = '#!/bin/sh\necho >> "$HARNESS/count"\nfor each in $(seq $(wc -l < "$HARNESS/count")); do : > "file$each"; done\n'
         done = self.loop("-j", 1, self.harness(run=run, judge=JUDGES))
         self.assertIn(done.status, (2, 5), done.told)
-        self.assertRegex(done.told, "hits differ|other hits|told otherwise|not met")
+        self.assertRegex(done.told, "hits differ|the hits changed|the verdict changed|not met")
 
     def test_a_program_that_goes_another_way_the_second_time(self):
         """Two plans are answered by what follows from its first run, and then the third by a run."""
         run = '#!/bin/sh\nmkdir "$HARNESS/begun" 2> "$TMPDIR/said" || mkdir here\n: > file\n'
         done = self.loop("-j", 1, self.harness(run=run, judge="#!/bin/sh\ntrue\n"))
         self.assertEqual(done.status, 2, done.told)
-        self.assertRegex(done.told, r"answers: line 4: hits differ from line 1 at hit 1\nloop: line 4 is of sys::open=1\*return: runs don't go alike each time, ")
+        self.assertRegex(done.told, r"answers: line 4: hits differ from line 1 at hit 1\nloop: line 4 is the run of sys::open=1\*return, which doesn't repeat an earlier run: ")
 
 
 class Shown(Campaigns):
@@ -211,7 +243,7 @@ class Shown(Campaigns):
         done = self.loop("-j", 2, "--no-kinds", folder)
         self.assertEqual(done.status, 1, done.told)
         lines = (folder / "report").read_text().splitlines()
-        self.assertEqual(lines[0], 'target a \U0001f600 "?, settings made')
+        self.assertEqual(lines[0], 'target a \U0001f600 "?, settings by paklour-loop')
         self.assertIn('first 1 lost \U0001f600 "\\', lines)
 
     def test_what_a_judge_says_with_control_bytes(self):
@@ -221,15 +253,42 @@ class Shown(Campaigns):
     def test_what_a_person_reads(self):
         done = self.loop("-j", 2, "--into", self.here, NOTE, FLAW="unchecked_sync")
         lines = done.told.splitlines()
-        self.assertEqual(lines[:2], [f"loop: settings made, {self.here}/settings.toml: depth 1, all points of files, what a power cut keeps and tears, full disks and \
-half writes; codes as they are found", "loop: 14 plans with one fault"], "six hits in two ways, and the write in four")
-        self.assertEqual((self.here / "report").read_text().splitlines()[0], "target note, settings made")
+        self.assertEqual(lines[:2], [f"loop: wrote the settings {self.here}/settings.toml: depth 1, all points of files, what a power cut keeps and tears, full disks and \
+half writes; codes are added as the judge prints them", "loop: 14 plans with one fault"], "six hits in two ways, and the write in four")
+        self.assertEqual((self.here / "report").read_text().splitlines()[0], "target note, settings by paklour-loop")
         self.assertIn("fail lost: the 1st sys::fsync (new) fails", lines)
-        self.assertIn("1 of: lost: sys::fsync (new) fails", lines)
+        self.assertIn("1 failure: lost: sys::fsync (new) fails", lines)
         again = next(line for line in lines if line.startswith("again: "))
         self.assertTrue(again.endswith(f"{NOTE} --into {self.here} --try 'sys::fsync=1*return'"), again)
         self.assertEqual((self.here / "report").read_text().splitlines()[-1], "cause 9 lost sys::fsync=1*return")
         self.assertIn("<html", (self.here / "page.html").read_text())
+
+    def test_kinds_that_a_greater_depth_leaves_out(self):
+        """Unless an option says which are tried."""
+        folder = self.harness(run=SAVES, judge=JUDGES)
+        left_out = "loop: full disks and half writes are left out at depth {}; --kinds tries them"
+        for words, line in ((["--depth", 2], left_out.format(2)), (["--depth", 3], left_out.format(3)), (["--depth", 2, "--kinds"], None),
+                (["--depth", 2, "--no-kinds"], None), ([], None)):
+            into = self.here / "into"
+            done = self.loop("-x", *words, "--into", into, folder)
+            lines = done.told.splitlines()
+            self.assertEqual([text for text in lines if "left out" in text], [line] if line else [], done.told)
+            self.assertTrue(lines[0].startswith(f"loop: wrote the settings {into}/settings.toml: ") and (not line or lines[1] == line), done.told)
+            (into / "answers").unlink()
+
+    def test_one_run_leaves_the_settings_as_they_are(self):
+        """Those of a campaign. If there are none yet, it makes them."""
+        words = ("--into", self.here, NOTE)
+        self.assertIn("loop: wrote the settings ", self.loop(*words, "--try", "none").told)
+        self.assertEqual(self.loop("-j", 2, "--depth", 2, *words, FLAW="rename_first").status, 1)
+        before = (self.here / "settings.toml").read_text()
+        done = self.loop(*words, "--try", "sys::fsync=1*return", FLAW="rename_first")
+        self.assertNotIn("loop: ", done.told)
+        self.assertIn("power::keep 3", done.out)
+        self.assertEqual((self.here / "settings.toml").read_text(), before)
+        with open(self.here / "answers", "rb") as answers:
+            report = subprocess.run(["paklour", "report", self.here / "settings.toml"], env=self.environment, stdin=answers, capture_output=True, check=False)
+        self.assertEqual(report.stdout, (self.here / "report").read_bytes())
 
     def test_how_it_is_run_again(self):
         settings = self.here / "own.toml"
@@ -259,8 +318,8 @@ half writes; codes as they are found", "loop: 14 plans with one fault"], "six hi
         done = self.loop("--into", self.here, LOG, "--try", "power::keep=1*return;power::tear=1*return", FLAW="torn_taken")
         self.assertEqual(done.status, 1)
         lines = [" ".join(line.split()[1:]) for line in done.out.splitlines() if " power::" in line]
-        self.assertEqual(lines, ["power::keep 1 (log) is kept [return]", "power::tear 1 (log) is kept by half [return]"])
-        self.assertEqual(done.out.splitlines()[-1], "fail lost: of what is pending 1 (write log 22 at 23) is kept by half")
+        self.assertEqual(lines, ["power::keep 1 (log) is kept [return]", "power::tear 1 (log) is torn [return]"])
+        self.assertEqual(done.out.splitlines()[-1], "fail lost: pending change 1 (write log 22 at 23) is torn")
 
     def test_it_stops_at_the_second(self):
         done = self.loop("-j", 1, "--failures", 2, "--depth", 2, "--into", self.here, NOTE, FLAW="rename_first")
@@ -277,15 +336,15 @@ half writes; codes as they are found", "loop: 14 plans with one fault"], "six hi
         suite = xml.etree.ElementTree.parse(self.here / "junit.xml").getroot()[0]
         self.assertEqual((suite.get("tests"), suite.get("failures")), ("17", "1"))
         self.assertIn("<html", (self.here / "page.html").read_text())
-        self.assertRegex(done.told, r"loop: answered 1, asked 14, failing 0, time left (unknown|0:00:\d\d)\n")
+        self.assertRegex(done.told, r"loop: 1 answered, 14 still to answer, 0 failing, time left (unknown|0:00:\d\d)\n")
 
     def test_which_file_system_a_run_without_faults_trusts(self):
         """A new file is synced, and its folder isn't; or a name comes after each sync."""
         folder = self.harness(run="#!/bin/sh\nprintf new > note && sync note && echo saved\n", judge=JUDGES)
         told = self.loop("--into", self.here, folder).told
-        self.assertIn("loop: it passes with FAULTS_SYNC=names in the environment of the loop: a file's own sync makes its name last too\n", told)
+        self.assertIn("loop: the run without faults passes if you set FAULTS_SYNC=names: a file's own sync makes its name last too\n", told)
         told = self.loop("--into", self.here / "other", NOTE, FLAW="no_folder_sync").told
-        self.assertIn("loop: it fails with FAULTS_SYNC=journal and names too: ", told)
+        self.assertIn("loop: the run without faults fails with FAULTS_SYNC=journal and FAULTS_SYNC=names too: ", told)
         told = self.loop("--into", self.here / "named", NOTE, FLAW="no_folder_sync", FAULTS_SYNC="names").told
         self.assertNotIn("FAULTS_SYNC", told)
 

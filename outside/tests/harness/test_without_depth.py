@@ -36,12 +36,12 @@ class WithoutDepth(Campaigns):
         self.assertEqual(sorted(self.answers(self.here)), sorted(["pass\tnone", "fail lost\tsys::fsync=1*return", "fail lost\tsys::fsync=return",
             "pass\tsys::fsync=1*panic", "pass\tsys::fsync=1*off->1*return", "pass\tsys::fsync=1*off->return", "pass\tsys::fsync=1*off->1*panic"]))
         self.assertIn("loop: 7 plans\n", done.told)
-        self.assertIn("0 plans by what follows", done.told)
+        self.assertIn("; 0 plans were derived", done.told)
 
     def test_a_fault_that_is_not_met_was_not_tried(self):
         done = self.loop("--settings", self.settings('"sys::rmdir"', [0], '"sys::rmdir=1*return"'), "--into", self.here, NOTE)
         self.assertEqual(sorted(self.answers(self.here)), ["pass\tnone", "unresolved\tsys::rmdir=1*return"])
-        self.assertIn("unresolved: no fault of it was met: sys::rmdir=1*return\n", done.told)
+        self.assertIn("unresolved: the run met none of its faults: sys::rmdir=1*return\n", done.told)
 
     def test_a_run_without_faults_that_fails_among_others(self):
         """All are asked at once, and this one takes longer."""
@@ -69,7 +69,7 @@ class WithoutDepth(Campaigns):
         settings.write_text("depth = 1\n" + settings.read_text().replace("hits = [1, 2]\n", "").replace("scenarios = []\n", ""))
         done = self.loop("--settings", settings, self.harness(run=SAVES, judge=JUDGES))
         self.assertEqual((done.status, done.out), (2, ""))
-        self.assertIn(f"loop: {settings}: with a depth there is no place for a program's own store::put\n", done.told)
+        self.assertIn(f"loop: {settings}: store::put: a point of the program's own can't be in settings with a depth; remove it, or remove the depth\n", done.told)
 
 
 class Described(Campaigns):
@@ -85,7 +85,7 @@ class Described(Campaigns):
     def test_an_order_that_settings_say(self):
         folder = self.harness(run=SAVES, judge=JUDGES)
         (folder / "harness.py").write_text('order = "next"\n')
-        self.assertIn("harness.py: no such order: next\n", self.loop(folder).told)
+        self.assertIn("harness.py: no such order: next; the orders are settled, arrival\n", self.loop(folder).told)
 
 
 if __name__ == "__main__":

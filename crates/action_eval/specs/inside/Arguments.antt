@@ -1,4 +1,4 @@
--- How a text or none is kept: zeros stand behind the text.
+-- How an optional text is stored: its bytes, followed by zeros.
 use Rattle.std.specs.Prelude.{◌≡◌, ℕ, zero, suc, ◌-◌, ◌≤◌, Bool, true, false, List, [], ◌∷◌, ◌++◌, Option, Some, None, length, take, replicate, IsUtf8, refl}
 use Rattle.scenario_values.specs.Scenario.{is_argument}
 use Rattle.std.proofs.Common.{ap, sym, ◌∙◌, arith, length-take-le}
@@ -6,7 +6,7 @@ use Rattle.std.proofs.Common.{ap, sym, ◌∙◌, arith, length-take-le}
 abbrev pub zeros : ℕ → List ℕ
 zeros n = replicate n 0
 
--- the text of so many bytes, if there is one
+-- The text of this many bytes, if there is one.
 abbrev pub seen : Bool → ℕ → List ℕ → Option (List ℕ)
 seen true len bytes = Some (take len bytes)
 seen false len bytes = None
@@ -27,7 +27,7 @@ pub record IsKept (is_some : Bool) (len : ℕ) (bytes : List ℕ) : Type 0 where
   pub lawful : is_argument (take len bytes) ≡ true
   pub none : is_some ≡ false → len ≡ 0
 
--- what is seen tells what is kept
+-- The text determines all that is stored: whether there is a text, its length, and the bytes with their zeros.
 pub seen_there : (b : Bool) (len : ℕ) (bytes : List ℕ) → is_there (seen b len bytes) ≡ b
 seen_there true len bytes = refl
 seen_there false len bytes = refl

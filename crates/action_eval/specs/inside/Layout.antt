@@ -8,19 +8,19 @@ use Rattle.action_eval.specs.Words.{Drawn}
 use Rattle.action_eval.specs.Answers.{Run}
 use Rattle.action_eval.specs.inside.Session.{AreSpans, found_of, head_of, left_counts, seen_in}
 
--- the scenario that a session's hits are answered by
+-- The scenario by which a session's hits are answered.
 abbrev pub faults_of : Faults → Entries
 faults_of (Written scenario) = scenario.now
 faults_of (Rigged table) = table.now.scenario
 
--- the run that a session stands for, of what it holds
+-- The run that a session stands for, given what it holds.
 abbrev pub run_of : Faults → List (List ℕ) → Drawn → ℕ → List ℕ → Run
 run_of faults names draws limit hits = record {
   given = record { scenario = faults_of faults; catalogue = names; seed = draws.seed; stream = draws.stream; limit = limit };
   hits = hits;
 }
 
--- where the chains of points stand, what the next hit of each meets, and the counts of all terms
+-- The layout has the place where each point's chain is stored, what the first hit of each point meets, and the counts of all terms.
 pub record IsLayout (scenario : Entries) (names : List (List ℕ)) (layout : Layout) : Type 0 where
   pub limits : IsScenario scenario
   pub are_spans : AreSpans scenario layout.spans.items

@@ -1,9 +1,9 @@
--- How names are looked up; the private contracts cite it.
+-- How names are looked up. Private contracts cite it.
 use Rattle.std.specs.Prelude.{◌≡◌, ℕ, List, position}
 use Rattle.std.specs.Borrow.{Bor}
 use Rattle.std.specs.Map.{lookup}
 use Rattle.std.specs.Str.{bytes_eq}
 
--- the entries have the first place of each name
+-- The entries have the first place of each name.
 abbrev pub IsIndexOf : List (Bor (List ℕ) × ℕ) → List (List ℕ) → Type 0
 IsIndexOf entries names = (name : List ℕ) → lookup (λ k. bytes_eq name k.now) entries ≡ position (bytes_eq name) names

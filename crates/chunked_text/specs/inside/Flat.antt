@@ -1,19 +1,19 @@
--- How chunks are kept: the bytes of all of them, and the places among these where chunks begin and where the last one ends.
+-- How chunks are kept: the bytes of all of them, and the places among these bytes where each chunk begins and where the last one ends.
 use Rattle.std.specs.Prelude.{◌≡◌, ℕ, ◌+◌, ◌-◌, List, [], ◌∷◌, length, take, drop}
 use Rattle.chunked_text.specs.Chunks.{IsChunks, joined}
 
--- the places of chunks of which the first begins at n
+-- The places of chunks, the first of which begins at n.
 abbrev pub places_of : ℕ → List (List ℕ) → List ℕ
 places_of n [] = n ∷ []
 places_of n (c ∷ cs) = n ∷ places_of (n + length c) cs
 
--- the bytes from one place to the next
+-- The bytes from one place to the next.
 abbrev pub pieces : List ℕ → List ℕ → List (List ℕ)
 pieces bytes [] = []
 pieces bytes (from ∷ []) = []
 pieces bytes (from ∷ to ∷ more) = take (to - from) (drop from bytes) ∷ pieces bytes (to ∷ more)
 
--- these bytes and places keep these chunks
+-- These bytes and places keep these chunks.
 pub record IsFlat (bytes places : List ℕ) (chunks : List (List ℕ)) : Type 0 where
   pub lawful : IsChunks chunks
   pub bytes_are : bytes ≡ joined chunks

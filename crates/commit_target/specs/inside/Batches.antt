@@ -1,4 +1,4 @@
--- Many at once: writes of participants in a row, and their votes.
+-- Many log writes at once: writes of several participants in a row, and their votes.
 use Rattle.std.specs.Prelude.{◌≡◌, ℕ, zero, suc, ◌+◌, ◌-◌, ◌<◌, ◌≤◌, List, [], ◌∷◌, ◌++◌, length, slice_index_or}
 use Rattle.sim_device.specs.LogEffects.{LogEffect, Log, AddsLogEffect}
 use Rattle.sim_device.specs.LogEffects as effect
@@ -14,7 +14,7 @@ use Rattle.commit_target.specs.declared.variant.Variant.{Variant}
 use Rattle.commit_target.specs.Writes.{Event, Written, AllLogs, LogsStandFor, log_at}
 use Rattle.commit_target.specs.Steps.{Tally, with_yes, entry, prepare_write}
 
--- what adding a record in this manner does to a log, and the write of a party that adds it so
+-- What adding a record in this manner does to a log, and the write with which a party adds it.
 abbrev pub effect_of : Manner → Record → LogEffect Record
 effect_of manner.Append r = effect.Append r
 effect_of manner.Force r = effect.Force r
@@ -23,16 +23,16 @@ abbrev pub write_of : Manner → Party → Record → Write
 write_of manner.Append party r = Append party r
 write_of manner.Force party r = Force party r
 
--- these writes, of so many numbers in a row, from one on
+-- The events after n of these writes in a row, the first of them with number i.
 abbrev pub all_written : (ℕ → Write) → ℕ → ℕ → List Event → List Event
 all_written write i zero es = es
 all_written write i (suc n) es = all_written write (i + 1) n (Written (write i) ∷ es)
 
--- from each list of events that the logs stood for they go to that list with these writes added
+-- Whatever list of events the logs stood for before, they now stand for that list with these n writes added.
 abbrev pub AddsAll : AllLogs → AllLogs → (ℕ → Write) → ℕ → ℕ → Type 0
 AddsAll old new write i n = (count : ℕ) (es : List Event) → LogsStandFor count old es → LogsStandFor count new (all_written write i n es)
 
--- some of these writes are added, and so many are left, from this one on
+-- Some of these writes are added, and `left` of them, from number i on, are still to come.
 pub record Adding (count : ℕ) (logs : AllLogs) (write : ℕ → Write) (i left : ℕ) (all : List Event) : Type 0 where
   pub events : List Event
   pub written : LogsStandFor count logs events
@@ -41,27 +41,27 @@ pub record Adding (count : ℕ) (logs : AllLogs) (write : ℕ → Write) (i left
 abbrev pub AddsUpTo : AllLogs → AllLogs → (ℕ → Write) → ℕ → ℕ → ℕ → Type 0
 AddsUpTo old new write i n j = (count : ℕ) (es : List Event) → LogsStandFor count old es → Adding count new write j (i + n - j) (all_written write i n es)
 
--- what the participant at a place among those whose yes arrived writes at an abort
+-- What an abort makes one participant write, given its place among the participants whose yes arrived.
 abbrev pub abort_write : Tally → ℕ → Write
 abort_write t place = Append (Participant (slice_index_or t.yes place 0)) (entry t kind.Abort)
 
--- what each participant writes that wishes yes
+-- What each participant that wishes yes writes.
 abbrev pub prepares : Variant → Tally → ℕ → Write
 prepares v t = λ i. prepare_write v t i
 
--- a yes of each of so many participants arrived, from one on
+-- The tally after the yes of each of n participants in a row arrived, from participant i on.
 abbrev pub with_all_yes : Tally → ℕ → ℕ → Tally
 with_all_yes t i zero = t
 with_all_yes t i (suc n) = with_all_yes (with_yes t i) (i + 1) n
 
--- each log from one on, up to another, has this effect more, and the others are as they were
+-- Each log from `first` to before `end` has this effect added, and the other logs are unchanged.
 pub record AddsRow (old new : List (Log Record)) (effect : LogEffect Record) (first end : ℕ) : Type 0 where
   pub same : length new ≡ length old
   pub written : (n : ℕ) → first ≤ n → n < end → AddsLogEffect (log_at old n) (log_at new n) effect
   pub below : (n : ℕ) → n < first → log_at new n ≡ log_at old n
   pub above : (n : ℕ) → first ≤ n → end ≤ n → log_at new n ≡ log_at old n
 
--- the numbers of so many participants, the first ones
+-- The numbers of the first n participants.
 abbrev pub first_ones : ℕ → List ℕ
 first_ones zero = []
 first_ones (suc n) = first_ones n ++ n ∷ []

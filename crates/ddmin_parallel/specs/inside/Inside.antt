@@ -8,7 +8,7 @@ use Rattle.ddmin_parallel.specs.declared.reducer_core.Core.TheInside.{Inside}
 abbrev pub state_of : Inside → State
 state_of c = record { faults = c.faults; known = c.known; out = c.out.items }
 
--- the stage is where the known answers lead, no set that is out is known, and the cursor is no further than they say
+-- The stage is where the known answers lead, no set that is out is known, and the cursor is no further than the answers allow.
 pub record IsCore (c : Inside) : Type 0 where
   pub few : c.faults ≤ 4096
   pub stands : position_of c.stage ≡ position (state_of c)

@@ -1,4 +1,4 @@
--- What a step finds on the device.
+-- What a step needs to find on the device.
 use Rattle.std.specs.Prelude.{◌≡◌, ℕ, false, List, Option, is_some, is_none}
 use Rattle.sim_device.specs.FileEffects.{Effect, Live, leads}
 use Rattle.sim_device.specs.Disk.{entry_at}
@@ -7,7 +7,7 @@ use Rattle.file_replace.specs.Words.{target, tmp, written_name}
 use Rattle.file_replace.specs.declared.variant.Variant.{Variant}
 use Rattle.file_replace.specs.Steps.{Step, Clearing, Creating, Writing, WritingAgain, Syncing, Renaming, SyncingRenamed, SyncingDir, SyncingLate, Cleaning, Over}
 
--- the names that the step needs are there, by the files that `target`, `tmp`, and what is written lead to
+-- The names that the step needs exist, given the files to which `target`, `tmp` and the written name lead. To create a file, its name must be free.
 abbrev pub IsReady : Step → Option ℕ → Option ℕ → Option ℕ → Type 0
 IsReady (Clearing chunks) old new mine = is_none mine ≡ false
 IsReady (Creating chunks) old new mine = is_some mine ≡ false

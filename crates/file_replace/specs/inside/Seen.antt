@@ -1,4 +1,4 @@
--- What the values of a run say.
+-- What the values in the code say of a run.
 use Rattle.std.specs.Prelude.{◌≡◌, ℕ, ◌+◌, List, ◌∷◌, map, take, drop}
 use Rattle.sim_device.specs.FileEffects.{Effect}
 use Rattle.action_eval.specs.Answers.{Run}
@@ -27,24 +27,24 @@ step_of stage.SyncingLate = SyncingLate
 step_of stage.Cleaning = Cleaning
 step_of stage.Over = Over
 
--- the old contents, and then those of each replacement
+-- The old contents, followed by those of each replacement.
 abbrev pub all_contents : List ℕ → List (List (List ℕ)) → List (List ℕ)
 all_contents old replacements = old ∷ map joined replacements
 
--- the contents from one number to another, in that order
+-- The contents with the numbers `from` to `to`, in order.
 abbrev pub contents_between : ℕ → ℕ → List (List ℕ) → List (List ℕ)
 contents_between from to contents = drop from (take (to + 1) contents)
 
--- with so many replacements begun, and these contents, by their number, the last that were acknowledged
+-- The past when this many replacements were begun, and the contents with number `acknowledged` were the last that were acknowledged.
 abbrev pub past_of : List (List ℕ) → ℕ → ℕ → Past
 past_of contents acknowledged begun = record { allowed = contents_between acknowledged begun contents; known = contents_between 0 begun contents }
 
--- the code has come this far
+-- The code has come this far.
 pub record Shows {D : Type 0} (stands : D → List Effect → Type 0) (s : State) (t : Tally) (d : D) : Type 0 where
   pub tally : t ≡ s.tally
   pub device : stands d s.effects
 
--- a run has come this far, with a device that holds what the protocol says
+-- A run has come this far, with a device that holds what the protocol says.
 pub record Played {D : Type 0} (stands : D → List Effect → Type 0) (v : Variant) (w : Work) (r : Run) (t : Tally) (d : D) : Type 0 where
   pub effects : List Effect
   pub reached : Reached (machine v w) r (state t effects)

@@ -1,14 +1,14 @@
--- A break, found hit by hit; the private contracts cite it.
+-- How a break is found, hit by hit. Private contracts cite it.
 use Rattle.std.specs.Prelude.{ℕ, ◌+◌, ◌==◌, ◌&&◌, if◌then◌else◌, List, [], ◌∷◌, Option, None, Some}
 use Rattle.action_eval.specs.declared.rig.Site.{Site}
 use Rattle.known_runs.specs.declared.breaks.Break.{Break}
 use Rattle.known_runs.specs.declared.breaks.Break.TheVariants.{Differs, NotMet}
 
--- how often the point was met, with one hit more
+-- How often the fault's point was met, after one more hit.
 abbrev pub met_more : Site → ℕ → ℕ → ℕ
 met_more s met p = if p == s.point then met + 1 else met
 
--- the break of further hits, after so many, where the fault's point was met so often
+-- The break of the hits that follow the first n, among which the fault's point was met this often.
 abbrev pub break_from : Site → ℕ → ℕ → List ℕ → List ℕ → Option Break
 break_from s met n [] hits = None
 break_from s met n (p ∷ ps) [] = Some NotMet

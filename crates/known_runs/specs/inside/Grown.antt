@@ -1,4 +1,4 @@
--- Plans as a list keeps them, grown from what is told of runs; the private contracts cite it.
+-- How a list keeps the plans that grow from recorded runs. Private contracts cite it.
 use Rattle.std.specs.Prelude.{ℕ, zero, suc, ◌+◌, Bool, false, List, [], ◌++◌, Option, None, Some, slice_index_or}
 use Rattle.action_eval.specs.declared.rig.Rig.{Rig}
 use Rattle.action_eval.specs.declared.rig.Kind.{Kind}
@@ -14,7 +14,7 @@ kept_told kinds n plan (Some hits) = kept_children kinds n plan hits
 abbrev pub kept_known : (ℕ → List Kind) → KnownRuns → List (List Rig) → ℕ → List Grew
 kept_known kinds known plans n = kept_told kinds n (slice_index_or plans n []) (hits_of known (slice_index_or plans n []))
 
--- whether a plan's hits, where they are told, have the last fault's point once more after that fault
+-- Whether a plan's hits are recorded and have the last fault's point once more after that fault.
 abbrev pub again_told : List Rig → Option (List ℕ) → Bool
 again_told plan None = false
 again_told plan (Some hits) = is_asked_again plan hits
@@ -22,12 +22,12 @@ again_told plan (Some hits) = is_asked_again plan hits
 abbrev pub again_known : KnownRuns → List (List Rig) → ℕ → Bool
 again_known known plans n = again_told (slice_index_or plans n []) (hits_of known (slice_index_or plans n []))
 
--- the children of so many plans, from a number on
+-- The children of `count` plans, from this number on.
 abbrev pub kept_over : (ℕ → List Kind) → KnownRuns → List (List Rig) → ℕ → ℕ → List Grew
 kept_over kinds known plans first zero = []
 kept_over kinds known plans first (suc count) = kept_known kinds known plans first ++ kept_over kinds known plans (first + 1) count
 
--- and those of the plans that go onward, as plans
+-- The plans with their last fault sticky that come from the plan of this number.
 abbrev pub onward_known : KnownRuns → List (List Rig) → ℕ → List (List Rig)
 onward_known known plans n = onward_told (slice_index_or plans n []) (hits_of known (slice_index_or plans n []))
 

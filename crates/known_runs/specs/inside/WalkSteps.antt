@@ -1,4 +1,4 @@
--- One step of a walk; the private contracts cite it.
+-- One step of a walk. Private contracts cite it.
 use Rattle.std.specs.Prelude.{◌≡◌, Bool, true, false, List, [], ◌∷◌, Option, Some, map}
 use Rattle.action_eval.specs.declared.rig.Rig.{Rig}
 use Rattle.action_eval.specs.declared.rig.Site.{Site}
@@ -9,21 +9,21 @@ use Rattle.known_runs.specs.Walks.{Unknown, Nothing, Acts, next_told, verdict_at
 use Rattle.known_runs.specs.declared.walking.Step.{Step}
 use Rattle.known_runs.specs.declared.walking.Step.TheVariants as step
 
--- the hits at which children grew
+-- The hits at which children grew.
 abbrev pub grew_at : List Grew → List Site
 grew_at gs = map (λ g. g.fault.site) gs
 
--- what follows a plan
+-- What follows a plan in a walk.
 abbrev pub IsStep : KnownRuns → List Rig → List Rig → Step → Type 0
 IsStep known rigs plan step.Unknown = next_told rigs plan (hits_of known plan) ≡ Unknown
 IsStep known rigs plan (step.Ends verdict) = (next_told rigs plan (hits_of known plan) ≡ Nothing) × (verdict_told (known plan) ≡ Some verdict)
 IsStep known rigs plan (step.Acts fault) = next_told rigs plan (hits_of known plan) ≡ Acts fault
 
--- the verdict where a walk ends that can go on with no more faults
+-- The verdict that a walk ends with if the plans that it comes to may have no more faults.
 abbrev pub verdict_ended : KnownRuns → List Rig → List Rig → Option Verdict
 verdict_ended known rigs plan = verdict_at known (walk_from known rigs 0 plan)
 
--- whether there is a plan from then on, and then its faults are these
+-- Whether there is a plan with its last fault sticky, and if so, its faults are these.
 abbrev pub IsOnward : List (List Rig) → List Rig → Bool → Type 0
 IsOnward plans faults true = plans ≡ faults ∷ []
 IsOnward plans faults false = plans ≡ []

@@ -13,7 +13,7 @@ use Rattle.maildir_target.specs.declared.ended.Ended.TheVariants.{Failed, Halted
 use Rattle.maildir_target.specs.Words.{written_name, new_name}
 use Rattle.maildir_target.specs.Steps.{Step, Over, Tally, state, named_by, begun, failed, point_at, machine}
 
--- a run has come this far in the steps, and the device holds what they did. The session's points may be more than those of the delivery
+-- A run has come this far in the steps, and the device holds what they did. The session may have more points than the delivery.
 pub record Played {D : Type 0} (stands : D → List Effect → Type 0) (v : Variant) (messages : List (List (List ℕ))) (r : Run) (t : Tally) (d : D) : Type 0 where
   pub effects : List Effect
   pub reached : Reached (machine v messages) r (state t effects)
@@ -21,7 +21,7 @@ pub record Played {D : Type 0} (stands : D → List Effect → Type 0) (v : Vari
   pub running : IsRunning (point_at t.step) r
   pub points : 7 ≤ length r.given.catalogue
 
--- a step of a delivery
+-- The tally at a step of a delivery.
 abbrev pub tally_at : {D : Type 0} → Delivery → Mailbox D → Step → Tally
 tally_at a box step = record {
   step = step;
@@ -32,18 +32,18 @@ tally_at a box step = record {
   acknowledged = box.acknowledged.items;
 }
 
--- its names
+-- The names that the delivery uses.
 abbrev pub written_of_delivery : Delivery → ℕ
 written_of_delivery a = written_name a.variant a.message (named_by a.variant a.attempt)
 
 abbrev pub new_of_delivery : Delivery → ℕ
 new_of_delivery a = new_name a.message (named_by a.variant a.attempt)
 
--- it keeps the number of the name that it writes
+-- The delivery stores the number of the name that it writes.
 abbrev pub IsNamed : Delivery → Type 0
 IsNamed a = a.written ≡ written_of_delivery a
 
--- a file can be created, by the file that its name leads to: append_tmp needs nothing
+-- A file can be created, given the file that its name leads to: there must be none, except for `append_tmp`, which accepts one.
 abbrev pub CanCreate : Variant → Option ℕ → Type 0
 CanCreate Sound file = is_some file ≡ false
 CanCreate LinkFirst file = is_some file ≡ false
@@ -51,29 +51,29 @@ CanCreate IgnoreWrite file = is_some file ≡ false
 CanCreate AppendTmp file = Unit {0}
 CanCreate DeliverInNew file = is_some file ≡ false
 
--- the run has come to this tally of the delivery's run
+-- The run has reached this tally of the delivery.
 abbrev pub IsAtTally : {D : Type 0} → (D → List Effect → Type 0) → Delivery → Run → Mailbox D → Tally → Type 0
 IsAtTally stands a r box t = Played stands a.variant a.messages.now r t box.device
 
--- the step of the delivery is the next
+-- This step of the delivery is the next.
 abbrev pub IsAt : {D : Type 0} → (D → List Effect → Type 0) → Delivery → Run → Mailbox D → Step → Type 0
 IsAt stands a r box step = IsAtTally stands a r box (tally_at a box step)
 
--- the attempt has ended before its last step
+-- What holds after an attempt has ended before its last step.
 abbrev pub HasEnded : {D : Type 0} → (D → List Effect → Type 0) → Delivery → Run → Mailbox D → Ended → Type 0
 HasEnded stands a r box Failed = IsAtTally stands a r box (failed a.variant (tally_at a box Over))
 HasEnded stands a r box Halted = IsAt stands a r box Over
 HasEnded stands a r box Memory = Unit {0}
 
--- a part of an attempt leads to a step, or else ends the attempt
+-- A part of an attempt leads to a step, or else ends the attempt.
 abbrev pub Leads : {D T : Type 0} → (D → List Effect → Type 0) → Delivery → Run → Mailbox D → Step → Result T Ended → Type 0
 Leads stands a r box step result = MatchResult result (λ _. IsAt stands a r box step) (λ e. HasEnded stands a r box e)
 
--- the whole of an attempt leads to the next message
+-- A whole attempt leads to the next message, or else has ended before its last step.
 abbrev pub Delivers : {D T : Type 0} → (D → List Effect → Type 0) → Delivery → Run → Mailbox D → Result T Ended → Type 0
 Delivers stands a r box result = MatchResult result (λ _. IsAtTally stands a r box (begun a.variant (tally_at a box Over))) (λ e. HasEnded stands a r box e)
 
--- the message of this number is left behind, delivered or given up, and these are the messages after it
+-- The message with this number was delivered or given up, and these are the messages after it.
 pub record IsBetween {D : Type 0} (stands : D → List Effect → Type 0) (v : Variant) (messages : List (List (List ℕ))) (r : Run) (box : Mailbox D)
     (number : ℕ) (more : List (List (List ℕ))) : Type 0 where
   pub last : Tally
@@ -82,14 +82,14 @@ pub record IsBetween {D : Type 0} (stands : D → List Effect → Type 0) (v : V
   pub acknowledged : last.acknowledged ≡ box.acknowledged.items
   pub played : Played stands v messages r (begun v last) box.device
 
--- nothing more is asked
+-- Nothing more is asked.
 pub record IsOver {D : Type 0} (stands : D → List Effect → Type 0) (v : Variant) (messages : List (List (List ℕ))) (r : Run) (box : Mailbox D) : Type 0 where
   pub last : Tally
   pub over : last.step ≡ Over
   pub acknowledged : last.acknowledged ≡ box.acknowledged.items
   pub played : Played stands v messages r last box.device
 
--- a message is left by its last attempt
+-- What holds after the last attempt at a message has ended without delivering it.
 abbrev pub HasLeft : {D : Type 0} → (D → List Effect → Type 0) → Delivery → Run → Mailbox D → Ended → Type 0
 HasLeft stands a r box Failed = IsBetween stands a.variant a.messages.now r box a.message a.rest.now
 HasLeft stands a r box Halted = IsOver stands a.variant a.messages.now r box

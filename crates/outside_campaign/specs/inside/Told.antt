@@ -1,4 +1,4 @@
--- What is told of the failures of a list of plans, by what is known; the contracts cite it.
+-- The findings of a list of plans, by what is known. Private contracts cite it.
 use Rattle.std.specs.Prelude.{◌≡◌, ℕ, ◌<◌, List, [], ◌∷◌, ◌++◌, length}
 use Rattle.scenario_values.specs.Scenario.{Entries}
 use Rattle.report.specs.Reports.{FindingFacts}
@@ -9,7 +9,7 @@ use Rattle.outside_campaign.specs.Reached.{open_candidates}
 use Rattle.outside_campaign.specs.declared.findings.Look.{Look}
 use Rattle.outside_campaign.specs.declared.findings.Look.TheVariants as look
 
--- what is told of a scenario that is plan `number` and fails with this code
+-- The finding of a scenario that is plan `number` and fails with this code.
 abbrev pub told_of : Components → ℕ → ℕ → Entries → FindingFacts
 told_of components number code s = record {
   number = number;
@@ -19,14 +19,15 @@ told_of components number code s = record {
   tests = (reduction (say_each components) number code s).tests;
 }
 
--- the same of each family of components that agrees with what is known, which leaves nothing open; or the open candidates of its reduction
+-- Nothing is open, and this is the finding for each family of components that agrees with what is known. Or else these are the open candidates of its
+-- reduction.
 abbrev pub IsLook : KnownVerdicts → ℕ → ℕ → Entries → Look → Type 0
 IsLook known number code s (look.Told f) =
     (open_candidates known code s ≡ [])
     × ((components : Components) → EachAgrees components known → f ≡ told_of components number code s)
 IsLook known number code s (look.Open requests) = (0 < length requests.items) × (requests.items ≡ open_candidates known code s)
 
--- what a look adds to what was gathered
+-- What a look adds to what was gathered: a finding, or scenarios that are to be tried.
 abbrev pub IsGathered : List FindingFacts → List FindingFacts → List Entries → List Entries → Look → Type 0
 IsGathered before after requests requests' (look.Told f) = (after ≡ before ++ f ∷ []) × (requests' ≡ requests)
 IsGathered before after requests requests' (look.Open more) = (after ≡ before) × (requests' ≡ requests ++ more.items)

@@ -1,4 +1,4 @@
--- What a list of plans keeps: what all share, for each plan its rigged hits or its storm's number, and the listed scenarios.
+-- How a list of plans is kept: what all plans share, for each plan its rigged hits or its storm's number, and the listed scenarios.
 use Rattle.std.specs.Prelude.{ℕ, if◌then◌else◌, None, List, [], ◌∷◌, ◌++◌, map, flat_map}
 use Rattle.std.specs.List.{range_with_len}
 use Rattle.scenario_values.specs.Scenario.{Entries}
@@ -12,38 +12,38 @@ use Rattle.plan_gen.specs.declared.drawing.Source.{Source}
 use Rattle.plan_gen.specs.declared.drawing.Source.TheVariants.{Empty, One, Two, Storm}
 use Rattle.plan_gen.specs.PlanList.{Asked, pairs_of, storm}
 
--- what all plans share: the points' names, their sites, and the seed and rate of storms
+-- What all plans share: the points' names, their sites, and the seed and the rate of storms.
 pub record Shared : Type 0 where
   pub names : List (List ℕ)
   pub sites : List Site
   pub seed : ℕ
   pub rate : ℕ
 
--- a kind of fault that has no text
+-- A kind of fault without a text.
 abbrev pub kind_of : PlainKind → Kind
 kind_of OnceReturn = kind.OnceReturn None
 kind_of OnwardReturn = kind.OnwardReturn None
 kind_of OncePanic = kind.OncePanic
 
--- the scenario of a plan
+-- The scenario of a plan.
 abbrev pub drawn : Shared → Source → Entries
 drawn shared Empty = []
 drawn shared (One site plain) = rigged_scenario shared.names (rig site (kind_of plain) ∷ [])
 drawn shared (Two first second plain) = rigged_scenario shared.names (rig first (kind.OnceReturn None) ∷ rig second (kind_of plain) ∷ [])
 drawn shared (Storm number) = rigged_scenario shared.names (storm shared.seed shared.rate shared.sites number)
 
--- the plans of a list
+-- The plans of a list.
 abbrev pub plans_of : Shared → List Source → List Entries → List Entries
 plans_of shared sources listed = map (drawn shared) sources ++ listed
 
--- what is kept of the plans of a site, and of two sites
+-- What is kept of the plans of a site, and of two sites.
 abbrev pub site_sources : Site → List Source
 site_sources s = map (λ plain. One s plain) (OnceReturn ∷ OnwardReturn ∷ OncePanic ∷ [])
 
 abbrev pub pair_sources : Site × Site → List Source
 pair_sources p = map (λ plain. Two p.0 p.1 plain) (OnceReturn ∷ OncePanic ∷ [])
 
--- and of all plans that aren't listed scenarios
+-- What is kept of all plans that aren't listed scenarios.
 abbrev pub sources_of : Asked → List Site → List Source
 sources_of asked sites =
     (Empty ∷ []) ++ flat_map site_sources sites ++ (if asked.pairs then flat_map pair_sources (pairs_of sites) else [])

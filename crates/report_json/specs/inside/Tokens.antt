@@ -7,20 +7,20 @@ use Rattle.run_explained.specs.Told.{RunFacts}
 use Rattle.report_json.specs.Runs.{run_value}
 use Rattle.report_json.specs.Values.{whole}
 
--- a member of an object
+-- A member of an object.
 abbrev pub member_tokens : List ℕ → Json → List Token
 member_tokens name value = key name ∷ json_tokens value
 
--- a member that is a count, where it isn't 0
+-- A member for a count, if the count isn't 0.
 abbrev pub nonzero_tokens : List ℕ → ℕ → List Token
 nonzero_tokens name zero = []
 nonzero_tokens name (suc n) = member_tokens name (whole (suc n))
 
--- values one after the other, as they stand in an array
+-- Values one after the other, as they are in an array.
 abbrev pub all_tokens : List Json → List Token
 all_tokens values = flat_map json_tokens values
 
--- a member that is the run of the plan that a plan grew from, where it is told
+-- A member for the run of the plan that a plan grew from, if that run is known.
 abbrev pub parent_tokens : Option RunFacts → List Token
 parent_tokens None = []
 parent_tokens (Some parent) = member_tokens (codes "parent") (run_value parent)

@@ -1,21 +1,21 @@
--- How a book keeps its places, and how first failures are gathered from place to place.
+-- How a book keeps its places, and how it finds first failures place by place.
 use Rattle.std.specs.Prelude.{ℕ, Bool, true, false, List, [], ◌∷◌, ◌++◌, Option, Some, None, ◌==◌, if◌then◌else◌}
 use Rattle.std.specs.List.{list_any}
 use Rattle.target_trait.specs.declared.judgement.Verdict.{Verdict}
 use Rattle.target_trait.specs.declared.judgement.Verdict.TheVariants as verdict
 
--- a place: its verdict, where one was put
+-- A place has its verdict, if one was put there.
 abbrev pub place : Bool → Verdict → Option Verdict
 place true v = Some v
 place false v = None
 
--- the places, by which of them have their verdict, and the verdicts
+-- The places, given which of them have a verdict, and the verdicts.
 abbrev pub places : List Bool → List Verdict → List (Option Verdict)
 places [] vs = []
 places (b ∷ bs) [] = []
 places (b ∷ bs) (v ∷ vs) = place b v ∷ places bs vs
 
--- first failures, and that of the place that comes next, unless one with its code is there
+-- The first failures with that of the next place, unless there is one with the same code.
 abbrev pub with_first : List (ℕ × ℕ) → ℕ → Option Verdict → List (ℕ × ℕ)
 with_first found n None = found
 with_first found n (Some verdict.Pass) = found

@@ -1,11 +1,11 @@
--- What runs of a proved target come to.
+-- What the runs of a proved target come to.
 use Rattle.std.specs.Prelude.{◌≡◌, ℕ, Bool, false, List}
 use Rattle.action_eval.specs.Answers.{given_of}
 use Rattle.target_trait.specs.Outcomes.{outcome}
 use Rattle.target_trait.specs.declared.target.Target.{Ghosts}
 use Rattle.target_laws.specs.Candidates.{Look}
 
--- a run comes to what the target asks
+-- A run came to what the target's definition gives, and asked nothing more.
 pub record IsMadeOf {T W : Type 0} (target : Ghosts T W) (setup : T) (workload : W) (run : Look) : Type 0 where
   pub verdict : run.verdict ≡ (outcome (target.asks setup workload) (given_of run.scenario target.names run.seed run.stream run.limit)).verdict
   pub asked : run.asked ≡ (outcome (target.asks setup workload) (given_of run.scenario target.names run.seed run.stream run.limit)).asked

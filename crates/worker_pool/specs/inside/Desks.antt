@@ -1,4 +1,4 @@
--- What a desk's two seats took, and which deques they are of.
+-- What a desk's two seats took, and at which deques they are.
 use Rattle.std.specs.Prelude.{◌≡◌, ℕ, ◌+◌, ◌<◌, Bool, count_by, Option, Some, None, All, IfSome, option_to_list}
 use Rattle.crossbeam_deque.specs.Handles.{view, stealer_deque, worker_deque, worker_view}
 use Rattle.worker_pool.specs.declared.desk.Next.{Next}
@@ -8,15 +8,15 @@ abbrev pub taken_next : (ℕ → Bool) → Option Next → ℕ
 taken_next test None = 0
 taken_next test (Some n) = count_by test (view n.seat).stolen
 
--- what a desk's worker took: by pops from its own deque, and by steals from the next
+-- What a desk's worker took: by pops from its own deque, and by steals from the next one.
 abbrev pub took : (ℕ → Bool) → Desk → ℕ
 took test d = count_by test (worker_view d.own).popped + taken_next test d.next
 
--- the ticket that was kept
+-- The ticket that was kept, if there is one.
 abbrev pub kept_by : (ℕ → Bool) → Desk → ℕ
 kept_by test d = count_by test (option_to_list d.kept)
 
--- all that was pushed where the desk takes is below the count
+-- All numbers that were pushed at the next deque, if the desk has a seat there, are below the count; and below, those at its own deque too.
 abbrev pub NextBelow : ℕ → Option Next → Type 0
 NextBelow count None = Unit {0}
 NextBelow count (Some n) = All (λ x. x < count) (view n.seat).pushed
@@ -24,11 +24,11 @@ NextBelow count (Some n) = All (λ x. x < count) (view n.seat).pushed
 abbrev pub Below : ℕ → Desk → Type 0
 Below count d = All (λ x. x < count) (worker_view d.own).pushed × NextBelow count d.next
 
--- .. and so is the ticket that was kept
+-- The ticket that was kept, if there is one, is below the count.
 abbrev pub KeptBelow : ℕ → Desk → Type 0
 KeptBelow count d = IfSome d.kept (λ x. x < count)
 
--- a desk at which the work may begin
+-- The work may begin at this desk.
 abbrev pub IsReady : ℕ → Desk → Type 0
 IsReady count d = Below count d × (d.kept ≡ None)
 
@@ -37,15 +37,15 @@ SameNext None m = m ≡ None
 SameNext (Some n) None = ⊥
 SameNext (Some n) (Some m) = (stealer_deque m.from ≡ stealer_deque n.from) × ((view m.seat).pushed ≡ (view n.seat).pushed)
 
--- but for its own seat the desk is what it was
+-- The desk is unchanged except for its own seat.
 abbrev pub SameButOwn : Desk → Desk → Type 0
 SameButOwn old new = (new.next ≡ old.next) × (new.kept ≡ old.kept) × (worker_deque new.own ≡ worker_deque old.own)
 
--- but for the ticket that it keeps the desk is what it was
+-- The desk is unchanged except for the ticket that it keeps.
 abbrev pub SameButKept : Desk → Desk → Type 0
 SameButKept old new = (new.own ≡ old.own) × (new.next ≡ old.next)
 
--- the desk is at the same deques, with the same rights; what was pushed there is the same, and what it knows to be stolen
+-- The desk is at the same deques, with the same right to steal. What was pushed there is the same, and so is what it knows to be stolen.
 pub record SameDesk (old new : Desk) : Type 0 where
   pub deque : worker_deque new.own ≡ worker_deque old.own
   pub right : (worker_view new.own).steal_right ≡ (worker_view old.own).steal_right

@@ -1,12 +1,12 @@
--- One deque's part of the tickets, and its rule. Its owner pushes at the back before the work begins, and pops from the
--- front; its one thief steals from the front too.
+-- One deque's part of the tickets, and its rule. Its owner pushes at the back before the work begins and pops
+-- from the front. Its only thief steals from the front too.
 use Rattle.std.specs.Prelude.{◌≡◌, ℕ, ◌+◌, ◌<◌, Bool, List, [], ◌∷◌, ◌++◌, count_by}
 use Rattle.std.specs.List.{sum_by}
 use mathlib.Core.Option.{some}
 use lib.ListN.{get_elem?}
 use Rattle.worker_pool.specs.declared.rule.Seat.{Seat}
 
--- who takes: the owner by a pop, the thief by a steal
+-- Who takes: the owner by a pop, or the thief by a steal.
 pub data Taker : Type 0 where
   owner : Taker
   thief : Taker
@@ -15,7 +15,7 @@ pub data Move : Type 0 where
   add : ℕ → Move
   take : Taker → Move
 
--- what was pushed, what stands in the deque, its front first, and what each of the two took
+-- What was pushed, what is in the deque, from front to back, and what each of the two took.
 pub record Part : Type 0 where
   pub pushed : List ℕ
   pub held : List ℕ
@@ -26,7 +26,7 @@ abbrev pub taken : Taker → ℕ → List ℕ → Part → Part
 taken owner x rest p = record { pushed = p.pushed; held = rest; popped = p.popped ++ x ∷ []; stolen = p.stolen }
 taken thief x rest p = record { pushed = p.pushed; held = rest; popped = p.popped; stolen = p.stolen ++ x ∷ [] }
 
--- the front leaves; at an empty deque nothing happens
+-- The front is taken. At an empty deque nothing happens.
 abbrev pub front_taken : Taker → List ℕ → Part → Part
 front_taken who [] p = p
 front_taken who (x ∷ rest) p = taken who x rest p
@@ -35,17 +35,17 @@ abbrev pub moved : Move → Part → Part
 moved (add x) p = record { pushed = p.pushed ++ x ∷ []; held = p.held ++ x ∷ []; popped = p.popped; stolen = p.stolen }
 moved (take who) p = front_taken who p.held p
 
--- after a list of moves, of which the latest stands first
+-- The part after a list of moves, the latest of which comes first.
 abbrev pub part_after : List Move → Part
 part_after [] = record { pushed = []; held = []; popped = []; stolen = [] }
 part_after (move ∷ earlier) = moved move (part_after earlier)
 
--- what a seat at a deque knows
+-- What a seat at a deque knows.
 abbrev pub seat : ℕ → ℕ → List ℕ → List ℕ → List ℕ → Seat
 seat pop_right steal_right pushed popped stolen =
     record { pop_right = pop_right; steal_right = steal_right; pushed = pushed; popped = popped; stolen = stolen }
 
--- a seat that knows of more numbers pushed, popped or stolen
+-- The seat after it learns of more numbers pushed, popped or stolen.
 abbrev pub more_pushed : List ℕ → Seat → Seat
 more_pushed xs v = seat v.pop_right v.steal_right (v.pushed ++ xs) v.popped v.stolen
 
@@ -55,7 +55,7 @@ more_popped xs v = seat v.pop_right v.steal_right v.pushed (v.popped ++ xs) v.st
 abbrev pub more_stolen : List ℕ → Seat → Seat
 more_stolen xs v = seat v.pop_right v.steal_right v.pushed v.popped (v.stolen ++ xs)
 
--- a seat with both rights is cut into an owner's and a thief's, and an owner's and a thief's are joined to one
+-- A seat with both rights is split into an owner's and a thief's, and these two are joined into one again.
 abbrev pub owner_of : Seat → Seat
 owner_of v = seat v.pop_right 0 v.pushed v.popped []
 
@@ -65,23 +65,23 @@ thief_of v = seat 0 v.steal_right v.pushed [] v.stolen
 abbrev pub joined : Seat → Seat → Seat
 joined v w = seat v.pop_right w.steal_right v.pushed v.popped w.stolen
 
--- the numbers are among those pushed: where none of these passes a test, none of them does
+-- The numbers are among those pushed: if none of those passes a test, none of these does.
 abbrev pub IsAmong : List ℕ → Seat → Type 0
 IsAmong xs v = (test : ℕ → Bool) → count_by test v.pushed ≡ 0 → count_by test xs ≡ 0
 
--- all that was pushed was taken
+-- Everything that was pushed was taken.
 abbrev pub AllTaken : Seat → Type 0
 AllTaken v = (test : ℕ → Bool) → count_by test v.pushed ≡ count_by test v.popped + count_by test v.stolen
 
--- The owner's seat has the right to pop and knows all that was popped, the thief's has the right to steal and knows all
--- that was stolen, and each of the two knows what was pushed. Another seat knows nothing.
+-- The owner's seat has the right to pop and knows all that was popped. The thief's seat has the right to steal and knows all that was stolen. Both
+-- know what was pushed. A seat without rights knows nothing.
 pub record Knows (p : Part) (v : Seat) : Type 0 where
   pub pushed : 0 < v.pop_right + v.steal_right → v.pushed ≡ p.pushed
   pub popped : 0 < v.pop_right → v.popped ≡ p.popped
   pub stolen : 0 < v.steal_right → v.stolen ≡ p.stolen
 
--- The rule of one deque: some list of moves leads to what it holds and to what its seats know, of which one has the right
--- to pop, and one the right to steal.
+-- The rule of one deque: some list of moves leads to what it holds and to what its seats know. One
+-- seat has the right to pop, and one has the right to steal.
 pub record Dealt (items : List ℕ) (views : List Seat) : Type 0 where
   pub moves : List Move
   pub held : (part_after moves).held ≡ items
@@ -89,7 +89,7 @@ pub record Dealt (items : List ℕ) (views : List Seat) : Type 0 where
   pub owner : sum_by (λ (v : Seat). v.pop_right) views ≡ 1
   pub thief : sum_by (λ (v : Seat). v.steal_right) views ≡ 1
 
--- some list of moves leads to what a seat knows, with these numbers in the deque
+-- Some list of moves leads to what a seat knows, with these numbers in the deque.
 pub record IsWhole (v : Seat) (items : List ℕ) : Type 0 where
   pub moves : List Move
   pub pushed : (part_after moves).pushed ≡ v.pushed

@@ -1,26 +1,35 @@
-use Rattle.std.proofs.Common.{◌≡◌, ◌∙◌, Bor, List, Option, Some, ap, string_bytes, sym}
+use Rattle.std.proofs.Common.{◌∙◌, Bor, Option, ap, sym}
 use Rattle.std.specs.Prelude.{option_map}
 use Rattle.scenario_values.specs.Scenario.{Entries}
 use Rattle.scenario_values.specs.Tidied.{tidied}
 use Rattle.answer_text.specs.Runs.{KnownRuns}
 use Rattle.answer_text.specs.declared.runs.ToldRun.{ToldRun}
-use Rattle.answered_campaigns.proofs.Answered.{explained, hidden}
+use Rattle.answered_campaigns.specs.Explained.{RefusesText}
+use Rattle.answered_campaigns.proofs.Answered.{hidden_why}
+use Rattle.answered_campaigns.proofs.Asking.{err_is}
 use Rattle.answered_campaigns.proofs.explaining.explained_text.Goals as goal
 
 pub returns-in-Some-clause-shown : goal.returns-in-Some-clause-shown
 returns-in-Some-clause-shown c =
     let s : Entries = c.in_ok-scenario.scenario in
-    let told = ap (λ (known : KnownRuns). known (tidied s)) (sym c.in_ok-told.ensures.known) ∙ sym c.in_ok-run.ensures
-    ∙ ap (λ (o : Option (Bor ToldRun)). option_map (λ r. r.now) o) c.in-Some.is in
-    explained c.args.text.now c.args.campaign.now.outside.now c.args.campaign.now.settings.now c.args.answers.now s c.in_ok-scenario.ensures c.in-Some.run'.now told (λ r. string_bytes r.0) (λ r. r.1)
-    c.run_text.result c.run_text.ensures.shown
+    record {
+      scenario = s;
+      spells = c.in_ok-scenario.ensures;
+      run = c.in-Some.run'.now;
+      told = ap (λ (known : KnownRuns). known (tidied s)) (sym c.in_ok-told.ensures.known) ∙ sym c.in_ok-run.ensures
+          ∙ ap (λ (o : Option (Bor ToldRun)). option_map (λ r. r.now) o) c.in-Some.is;
+      shown = c.in_ok-lines-in-Some.ensures.shown;
+    }
 
-pub returns-in-Some-clause-fault : goal.returns-in-Some-clause-fault
-returns-in-Some-clause-fault c =
+pub returns-in_err-lines-in-Some-clause-fault : goal.returns-in_err-lines-in-Some-clause-fault
+returns-in_err-lines-in-Some-clause-fault c =
     let s : Entries = c.in_ok-scenario.scenario in
+    let outside = c.args.campaign.now.outside.now in
+    let given = c.args.campaign.now.settings.now in
     let told = ap (λ (known : KnownRuns). known (tidied s)) (sym c.in_ok-told.ensures.known) ∙ sym c.in_ok-run.ensures
     ∙ ap (λ (o : Option (Bor ToldRun)). option_map (λ r. r.now) o) c.in-Some.is in
-    hidden c.args.text.now c.args.campaign.now.outside.now c.args.campaign.now.settings.now c.args.answers.now s c.in_ok-scenario.ensures c.in-Some.run'.now told c.run_text.result c.run_text.ensures.fault
+    err_is c.from_residual-in_err-lines-in-Some.result c.in_err-lines-in-Some.field-0.0 (RefusesText c.args.text.now outside given c.args.answers.now) c.from_residual-in_err-lines-in-Some.ensures.1
+    (hidden_why c.args.text.now outside given c.args.answers.now s c.in_ok-scenario.ensures c.in-Some.run'.now told c.in_err-lines-in-Some.field-0.0 c.in_err-lines-in-Some.ensures.fault)
 
 pub returns-clause-fault : goal.returns-clause-fault
 returns-clause-fault c =

@@ -48,7 +48,7 @@ returns-in-Err-clause-end g c =
 pub returns-in-Err-clause-cause : goal.returns-in-Err-clause-cause
 returns-in-Err-clause-cause g c =
     λ refused.
-    answers-read-fault-cause _ _ _ c.in-Err.fault c.end_unreadable_answers.result _ (λ e. c.in-Err.ensures.too_long (ap (λ f. Err f) e)) c.end_unreadable_answers.ensures.end c.end_unreadable_answers.ensures.memory refused
+    answers-read-fault-cause c.args.question.now (c.args.campaign.now.settings.now, c.args.campaign.now.outside.now) _ c.in-Err.fault c.end_unreadable_answers.result _ (λ e. c.in-Err.ensures.too_long (ap (λ f. Err f) e)) c.end_unreadable_answers.ensures.end c.end_unreadable_answers.ensures.memory refused
 
 pub returns-in-Err-clause-told : goal.returns-in-Err-clause-told
 returns-in-Err-clause-told g c = answers-read-fault-tells c.end_unreadable_answers.result _ c.in-Err.fault c.end_unreadable_answers.ensures.end c.end_unreadable_answers.ensures.memory

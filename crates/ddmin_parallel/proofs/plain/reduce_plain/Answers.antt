@@ -30,7 +30,7 @@ loop-alloc-init g c =
       small = omega (arith, ap length c.in_ok-kept.ensures, len);
     }
 
--- what the round decided, of the kept list and by the answers of the beginning
+-- what the round decided over the kept list, by the answers of the beginning
 failed : (a a' : List ℕ → Bool) (kept now : List ℕ) (n tests looked : ℕ) (o : Option Candidate) (s t : Candidate)
     → a' ≡ a → now ≡ kept → found o looked ≡ decide a' (round now n) tests → o ≡ Some s → t ≡ s → decide a (round kept n) tests ≡ Fails t looked
 failed a a' kept now n tests looked o s t same list is found_is view =

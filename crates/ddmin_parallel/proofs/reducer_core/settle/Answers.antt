@@ -22,7 +22,7 @@ advanced-requires-clause-counted c =
     (was_out c.request.inside.packed c.as_slice.result.now c.args.out.now.items c.place_of.result c.place_of.ensures c.if-is_none.ensures c.as_slice.ensures.value)
     c.requires.reached)
 
--- the cursor after the answer, where each value is known by an equation
+-- the cursor after the answer, if each value is known by an equation
 reached_then : (known known' : Known) (out out' : List (List ℕ)) (stage stage' : Stage) (s : List ℕ) (b anew : Bool) (cursor cursor' : Cursor)
     (o : Option Stage) (place : ℕ)
     → AreOpen known out → list_any (same_set s) out ≡ true → IsReached (get known) (is_among out) (position_of stage) cursor

@@ -26,7 +26,7 @@ loop-left_out-preserved g c =
       fine =
           fine_next (λ less. not (fails_with c.args.code (told_of_rigs (subject_on g.T.Target c.args.target.now input) input.limits.seed n less).verdict)) rigs
           c.loop-left_out.left_out c.leave_out.new.less.items c.loop-left_out-test.true c.in_ok-leave_out.ensures
-          (ap (λ v. not (fails_with c.args.code v)) (sym said) ∙ ap not (sym c.is_failure.ensures ∙ c.if-is_failure.false)) inv.fine;
+          (ap (λ v. not (fails_with c.args.code v)) (sym said) ∙ ap not (sym c.fails_with.ensures ∙ c.if-fails_with.false)) inv.fine;
     }
 
 pub returns-clause-least : goal.returns-clause-least
@@ -35,8 +35,8 @@ returns-clause-least g c =
     sym (fine_all (λ less. not (fails_with c.args.code (told_of_rigs (subject_on g.T.Target c.args.target.now input) input.limits.seed c.args.ran.now.number less).verdict))
     c.args.ran.now.rigs.now c.loop-left_out.left_out c.loop-left_out-test.false c.loop-left_out.invariant.fine)
 
-pub returns-then-is_failure-clause-least : goal.returns-then-is_failure-clause-least
-returns-then-is_failure-clause-least g c =
+pub returns-then-fails_with-clause-least : goal.returns-then-fails_with-clause-least
+returns-then-fails_with-clause-least g c =
     let rigs = c.args.ran.now.rigs.now in
     let input = c.args.input.now in
     let n = c.args.ran.now.number in
@@ -47,4 +47,4 @@ returns-then-is_failure-clause-least g c =
     ∙ ap (λ rs. (told_of_rigs (subject_on g.T.Target c.args.target.now input) input.limits.seed n rs).verdict) c.as_slice.ensures.value in
     sym (fails_at (λ less. not (fails_with c.args.code (told_of_rigs (subject_on g.T.Target c.args.target.now input) input.limits.seed n less).verdict)) rigs
     c.loop-left_out.left_out c.leave_out.new.less.items c.loop-left_out-test.true c.in_ok-leave_out.ensures
-    (ap (λ v. not (fails_with c.args.code v)) (sym said) ∙ ap not (sym c.is_failure.ensures ∙ c.if-is_failure.true)))
+    (ap (λ v. not (fails_with c.args.code v)) (sym said) ∙ ap not (sym c.fails_with.ensures ∙ c.if-fails_with.true)))

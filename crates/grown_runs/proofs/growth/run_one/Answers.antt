@@ -114,7 +114,7 @@ returns-clause-grown g c = λ first count at was.
     ∙ ap (kept_children (kinds_at input.kinds) n plan) asked_is
     ∙ ap (λ (kinds : Tried). kept_children (kinds_at kinds) n plan (told t seed n plan).asked) input.of_target in
     growth_next t seed input.part input.plans.now first count n _ _ at was
-    (c.in_ok-push.ensures.items ∙ ap (λ v. c.args.growth.now.verdicts.items ++ v ∷ []) verdict_is)
+    (c.in_ok-push.ensures.items ∙ ap (λ v. c.args.growth.now.outcomes.verdicts.items ++ v ∷ []) verdict_is)
     (c.in_ok-growing.ensures.kept ∙ ap (λ l. c.args.growth.now.children.items ++ if_inner input.part.place l) children_is)
     (ap (λ k. c.args.growth.now.child_count + k) (c.in_ok-growing.ensures.many ∙ ap length children_is))
     (c.in_ok-keep_onward.ensures.ok
@@ -122,7 +122,7 @@ returns-clause-grown g c = λ first count at was.
     (c.in_ok-growing.ensures.again ∙ ap (λ (p : List Rig). is_asked_again p c.as_slice-asked.result.now) faults_too ∙ ap (is_asked_again plan) asked_is))
     (c.keep_onward.ensures.from was.from)
     (c.in_ok-keep_cause.ensures
-    ∙ ap (λ l. c.args.growth.now.causes.items ++ l)
+    ∙ ap (λ l. c.args.growth.now.outcomes.causes.items ++ l)
     (c.in_ok-cause.ensures.cause
     ∙ ap (if_report input.part.purpose)
     (ap (λ s. cause_by (subject_on g.T.Target s input) seed n c.as_slice-rigs.result.now c.in_ok-verdict.verdict) c.run.ensures.setup
@@ -130,9 +130,9 @@ returns-clause-grown g c = λ first count at was.
     c.raise.ensures.many
     (λ p lt.
     let few = g.met.T.Target.lawful.few in
-    let many = was.hits in
+    let many = was.told.hits in
     c.raise.ensures.most p lt
-    ∙ ap (λ k. max (get_or c.args.growth.now.hits.items p 0) k)
+    ∙ ap (λ k. max (get_or c.args.growth.now.outcomes.hits.items p 0) k)
     (ap (λ cs. get_or cs p 0) c.as_slice-3.ensures.value ∙ c.in_ok-growing.ensures.counts.1 p (omega (arith, lt, few, many)) ∙ ap (times p) asked_is))
 
 pub invariant_of-growth-in-Break-branch-6 : goal.invariant_of-growth-in-Break-branch-6
@@ -142,7 +142,7 @@ invariant_of-growth-in-Break-branch-6 g c =
     let same = ap length c.as_slice-asked.ensures.value in
     let before = c.args.growth.now.bounded in
     let pushed = ap length c.in_ok-push.ensures.items in
-    let joined = length-append c.args.growth.now.verdicts.items (c.in_ok-verdict.verdict ∷ []) in
+    let joined = length-append c.args.growth.now.outcomes.verdicts.items (c.in_ok-verdict.verdict ∷ []) in
     record { bounded = omega (arith, few, asked, same, before, pushed, joined, c.in_ok-growing.ensures.many) }
 
 pub invariant_of-growth-in-Break-branch-7 : goal.invariant_of-growth-in-Break-branch-7
@@ -152,7 +152,7 @@ invariant_of-growth-in-Break-branch-7 g c =
     let same = ap length c.as_slice-asked.ensures.value in
     let before = c.args.growth.now.bounded in
     let pushed = ap length c.in_ok-push.ensures.items in
-    let joined = length-append c.args.growth.now.verdicts.items (c.in_ok-verdict.verdict ∷ []) in
+    let joined = length-append c.args.growth.now.outcomes.verdicts.items (c.in_ok-verdict.verdict ∷ []) in
     record { bounded = omega (arith, few, asked, same, before, pushed, joined, c.in_ok-growing.ensures.many) }
 
 pub invariant_of-growth-2 : goal.invariant_of-growth-2
@@ -162,5 +162,5 @@ invariant_of-growth-2 g c =
     let same = ap length c.as_slice-asked.ensures.value in
     let before = c.args.growth.now.bounded in
     let pushed = ap length c.in_ok-push.ensures.items in
-    let joined = length-append c.args.growth.now.verdicts.items (c.in_ok-verdict.verdict ∷ []) in
+    let joined = length-append c.args.growth.now.outcomes.verdicts.items (c.in_ok-verdict.verdict ∷ []) in
     record { bounded = omega (arith, few, asked, same, before, pushed, joined, c.in_ok-growing.ensures.many) }

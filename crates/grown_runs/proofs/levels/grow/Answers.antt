@@ -7,9 +7,8 @@ use Rattle.grown_plans.specs.Promises.{IsLawful}
 use Rattle.grown_plans.specs.Lists.{AreLevels}
 use Rattle.grown_runs.specs.Grown.{subject_in}
 use Rattle.grown_runs.specs.declared.input.Purpose.TheVariants.{Report}
-use Rattle.grown_runs.specs.declared.input.Place.TheVariants.{Last, Onward}
-use Rattle.grown_runs.specs.inside.Growths.{IsGrowth}
-use Rattle.grown_runs.specs.inside.Levels.{AreTold}
+use Rattle.grown_runs.specs.declared.input.Place.TheVariants.{Onward}
+use Rattle.grown_runs.specs.inside.Growths.{AreTold, IsGrowth}
 use Rattle.grown_runs.proofs.Begun.{begun_most, whole_are}
 use Rattle.grown_runs.proofs.LevelRuns.{reached_by, told_more}
 use Rattle.grown_runs.proofs.levels.grow.Goals as goal
@@ -41,15 +40,15 @@ returns-clause-grown g c =
     let added = c.in_ok-list.ensures.plans in
     let long = ap length added ∙ length-append plans (map (plan_of plans) c.as_slice-onward.result.now) in
     let end = c.len-end.ensures in
-    let first : AreTold t seed Report plans (length plans) c.note.new.self =
-    subst (λ (n : ℕ). AreTold t seed Report plans n c.note.new.self) (let e : l.last + (length plans - l.last) ≡ length plans = omega (arith, begins) in e)
-    (c.in_ok-note.ensures.told t seed (record { place = Last; purpose = Report }) plans l.last (length plans - l.last) c.in_ok-levels.ensures.levels.told c.in_ok-growth.ensures.ran) in
-    let both : AreTold t seed Report list.plans (length list.plans) c.note-2.new.self =
-    subst (λ (n : ℕ). AreTold t seed Report list.plans n c.note-2.new.self) (let e : length plans + (length list.plans - length plans) ≡ length list.plans = omega (arith, long) in e)
-    (c.in_ok-note-2.ensures.told t seed (record { place = Onward; purpose = Report }) list.plans (length plans) (length list.plans - length plans)
-    (told_more t seed Report (length plans) plans _ list.plans c.note.new.self (omega arith) added first)
-    (subst (λ (n : ℕ). IsGrowth t seed (record { place = Onward; purpose = Report }) list.plans n (length list.plans - n) c.in_ok-growth-2.growth) end c.in_ok-growth-2.ensures)) in
-    let told : AreTold t seed Report (grown t d) (length (grown t d)) c.note-2.new.self = subst (λ (ps : List (List Rig)). AreTold t seed Report ps (length ps) c.note-2.new.self) whole both in
+    let first : AreTold t seed Report plans 0 (length plans) c.absorb.new.self =
+    subst (λ (n : ℕ). AreTold t seed Report plans 0 n c.absorb.new.self) (let e : l.last + (length plans - l.last) ≡ length plans = omega (arith, begins) in e)
+    (c.in_ok-absorb.ensures.told t seed Report plans 0 l.last l.last (length plans - l.last) (omega arith) c.in_ok-levels.ensures.levels.told c.in_ok-growth.ensures.ran.told) in
+    let both : AreTold t seed Report list.plans 0 (length list.plans) c.absorb-2.new.self =
+    subst (λ (n : ℕ). AreTold t seed Report list.plans 0 n c.absorb-2.new.self) (let e : length plans + (length list.plans - length plans) ≡ length list.plans = omega (arith, long) in e)
+    (c.in_ok-absorb-2.ensures.told t seed Report list.plans 0 (length plans) (length plans) (length list.plans - length plans) (omega arith)
+    (told_more t seed Report (length plans) plans _ list.plans c.absorb.new.self (omega arith) added first)
+    (subst (λ (n : ℕ). IsGrowth t seed (record { place = Onward; purpose = Report }) list.plans n (length list.plans - n) c.in_ok-growth-2.growth) end c.in_ok-growth-2.ensures).told) in
+    let told : AreTold t seed Report (grown t d) 0 (length (grown t d)) c.absorb-2.new.self = subst (λ (ps : List (List Rig)). AreTold t seed Report ps 0 (length ps) c.absorb-2.new.self) whole both in
     record {
       plans = whole;
       levels = is.levels;
@@ -57,5 +56,5 @@ returns-clause-grown g c =
       beyond = is.beyond_is ∙ c.in_ok-growth.ensures.next;
       verdicts = told.verdicts;
       causes = told.causes;
-      reached = reached_by t seed d c.note-2.new.self.hits.items lawful told.hits told.most;
+      reached = reached_by t seed d c.absorb-2.new.self.hits.items lawful told.hits told.most;
     }

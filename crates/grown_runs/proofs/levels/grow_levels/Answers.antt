@@ -1,13 +1,11 @@
-use Rattle.std.proofs.Common.{rules, ◌≡◌, ◌+◌, ◌-◌, inl, inr, ℕ, List, suc, map, length, get_or, ap, sym, ◌∙◌, subst, arith}
-use Rattle.std.proofs.lemmas.List.{length-replicate, length-map}
+use Rattle.std.proofs.Common.{rules, ◌≡◌, ◌+◌, ◌-◌, inl, inr, ℕ, List, suc, map, length, ap, sym, ◌∙◌, subst, arith}
+use Rattle.std.proofs.lemmas.List.{length-map}
 use Rattle.action_eval.specs.declared.rig.Rig.{Rig}
 use Rattle.grown_plans.specs.GrownPlans.{Subject, level, levels_to}
 use Rattle.grown_plans.specs.Kept.{plan_of}
 use Rattle.grown_plans.specs.Lists.{AreLevels, AreNext}
 use Rattle.grown_runs.specs.Grown.{subject_in, begun_from}
-use Rattle.grown_runs.specs.declared.input.Place.TheVariants.{Inner}
-use Rattle.grown_runs.specs.inside.Levels.{AreTold}
-use Rattle.grown_runs.proofs.Growing.{zeros, report_nil}
+use Rattle.grown_runs.specs.inside.Growths.{AreTold}
 use Rattle.grown_runs.proofs.Begun.{begun_next, begun_least, begun_some}
 use Rattle.grown_runs.proofs.LevelRuns.{level_zero, told_more}
 use Rattle.grown_runs.proofs.levels.grow_levels.Goals as goal
@@ -27,7 +25,6 @@ loop-number-init g c =
     let first = c.in_ok-levels.ensures in
     let one = ap length first.plans in
     let room = first.few in
-    let none = c.in_ok-outcomes.ensures in
     let are = first.levels (level t) (level_zero t) in
     let begins = are.begins in
     let size = ap length (level_zero t) in
@@ -36,13 +33,8 @@ loop-number-init g c =
       few = omega (arith, one, room);
       so_far = ap (begun_from t c.args.count 0) (let e : limits.depth ≡ limits.depth - 0 = omega arith in e);
       told =
-          subst (λ (k : ℕ). AreTold t limits.seed c.args.purpose c.in_ok-levels.levels.plans k c.in_ok-outcomes.outcomes) (let e : 0 ≡ c.in_ok-levels.levels.last = omega (arith, one, size, begins) in e)
-          (record {
-            verdicts = none.verdicts;
-            causes = none.causes ∙ report_nil c.args.purpose;
-            hits = ap length none.hits ∙ length-replicate (length c.catalogue.result.now) 0 ∙ sym (ap length (sym c.catalogue.ensures) ∙ length-map c.catalogue.result.now (λ n. n.now));
-            most = λ p lt. ap (λ hs. get_or hs p 0) none.hits ∙ zeros (length c.catalogue.result.now) p;
-          });
+          subst (λ (k : ℕ). AreTold t limits.seed c.args.purpose c.in_ok-levels.levels.plans 0 k c.in_ok-outcomes.outcomes) (let e : 0 ≡ c.in_ok-levels.levels.last = omega (arith, one, size, begins) in e)
+          (c.in_ok-outcomes.ensures t limits.seed c.args.purpose c.in_ok-levels.levels.plans 0 (ap length (sym c.catalogue.ensures) ∙ length-map c.catalogue.result.now (λ n. n.now)));
     }
 
 pub returns-then-count-len-clause-levels : goal.returns-then-count-len-clause-levels
@@ -79,8 +71,8 @@ returns-in_err-add-clause-many g c = λ is.
     let are = ap length (inv.so_far ∙ begun_next t c.args.count n limits.depth (omega (arith, here, past, c.len.ensures)) c.loop-number-test.true) in
     omega (arith, more, same, least, are)
 
-pub note-requires : goal.note-requires
-note-requires g c = let mine = c.loop-number.invariant.told.hits in let other = c.in_ok-growth.ensures.ran.hits in omega (arith, mine, other)
+pub absorb-requires : goal.absorb-requires
+absorb-requires g c = let mine = c.loop-number.invariant.told.hits in let other = c.in_ok-growth.ensures.ran.told.hits in omega (arith, mine, other)
 
 pub loop-number-preserved : goal.loop-number-preserved
 loop-number-preserved g c =
@@ -100,10 +92,10 @@ loop-number-preserved g c =
       few = c.in_ok-add.ensures.few;
       so_far = inv.so_far ∙ begun_next t c.args.count n limits.depth (omega (arith, here, past, c.len.ensures)) c.loop-number-test.true;
       told =
-          subst (λ (k : ℕ). AreTold t limits.seed c.args.purpose new.plans k c.note.new.self) (sym c.in_ok-add.ensures.last)
-          (told_more t limits.seed c.args.purpose (length plans) plans _ new.plans c.note.new.self (omega arith) c.in_ok-add.ensures.plans
-          (subst (λ (k : ℕ). AreTold t limits.seed c.args.purpose plans k c.note.new.self) (let e : l.last + (length plans - l.last) ≡ length plans = omega (arith, begins) in e)
-          (c.in_ok-note.ensures.told t limits.seed (record { place = Inner; purpose = c.args.purpose }) plans l.last (length plans - l.last) inv.told c.in_ok-growth.ensures.ran)));
+          subst (λ (k : ℕ). AreTold t limits.seed c.args.purpose new.plans 0 k c.absorb.new.self) (sym c.in_ok-add.ensures.last)
+          (told_more t limits.seed c.args.purpose (length plans) plans _ new.plans c.absorb.new.self (omega arith) c.in_ok-add.ensures.plans
+          (subst (λ (k : ℕ). AreTold t limits.seed c.args.purpose plans 0 k c.absorb.new.self) (let e : l.last + (length plans - l.last) ≡ length plans = omega (arith, begins) in e)
+          (c.in_ok-absorb.ensures.told t limits.seed c.args.purpose plans 0 l.last l.last (length plans - l.last) (omega arith) inv.told c.in_ok-growth.ensures.ran.told)));
     }
 
 pub returns-clause-levels : goal.returns-clause-levels

@@ -1,10 +1,9 @@
-use Rattle.std.proofs.Common.{◌≡◌, ◌≤◌, ◌-◌, ◌∷◌, ◌++◌, [], ℕ, length, get_or, ap, sym, subst, ◌∙◌, arith, refl}
-use Rattle.std.proofs.lemmas.List.{length-replicate, length-map, append_assoc}
+use Rattle.std.proofs.Common.{◌≡◌, ◌≤◌, ◌-◌, ◌∷◌, ◌++◌, [], ℕ, length, ap, sym, subst, ◌∙◌, arith, refl}
+use Rattle.std.proofs.lemmas.List.{length-map, append_assoc}
 use Rattle.grown_plans.specs.GrownPlans.{Subject}
 use Rattle.grown_runs.specs.Grown.{subject_in}
 use Rattle.plan_ranges.specs.Ranges.{range_count}
 use Rattle.grown_runs.specs.inside.Growths.{IsGrowth}
-use Rattle.grown_runs.proofs.Growing.{growth_none, zeros}
 use Rattle.grown_runs.proofs.RangeParts.{AreRanges, range_begin, range_at, range_next, range_room, ranges_whole, same_setup, none_left}
 use Rattle.grown_runs.proofs.parts.run_part.Goals as goal
 
@@ -16,14 +15,12 @@ pub loop-growth-init : goal.loop-growth-init
 loop-growth-init g c =
     let on = c.args.on.now in
     let t : Subject = subject_in g.T.Target on in
-    let none = c.in_ok-whole.ensures in
     record {
       parts = refl;
       grown =
           subst (λ (k : ℕ). IsGrowth t on.limits.seed c.args.part c.args.plans.now c.args.first k c.in_ok-whole.whole) (sym (range_begin (c.len-end.result - c.args.first)))
-          (growth_none t on.limits.seed c.args.part c.args.plans.now c.args.first c.in_ok-whole.whole none.verdicts none.children none.many none.onward none.causes
-          (ap length none.hits ∙ length-replicate (length c.catalogue-2.result.now) 0 ∙ sym (ap length (sym c.catalogue-2.ensures) ∙ length-map c.catalogue-2.result.now (λ n. n.now)))
-          (λ p. ap (λ hs. get_or hs p 0) none.hits ∙ zeros (length c.catalogue-2.result.now) p));
+          (c.in_ok-whole.ensures t on.limits.seed c.args.part c.args.plans.now c.args.first
+          (ap length (sym c.catalogue-2.ensures) ∙ length-map c.catalogue-2.result.now (λ n. n.now)));
     }
 
 pub absorb-requires-clause-room : goal.absorb-requires-clause-room
@@ -53,9 +50,9 @@ absorb-requires-clause-hits g c =
     let are : AreRanges t on.limits.seed c.args.part c.args.plans.now c.args.first (c.len-end.result - c.args.first) ranges =
     c.in_ok-ranges.ensures (record { target = on.target.now; workload = on.workload.now; seed = on.limits.seed; max_hits = on.limits.max_hits; part = c.args.part; first = c.args.first; end = c.len-end.result; plans = c.args.plans.now })
     (λ k d lt. same_setup _ _ _ _ (c.in_ok-jobs.ensures.same k d lt).0 (c.in_ok-jobs.ensures.same k d lt).1) in
-    let mine = c.loop-growth.invariant.grown.hits in
+    let mine = c.loop-growth.invariant.grown.told.hits in
     let other = (range_at t on.limits.seed c.args.part c.args.plans.now c.args.first (c.len-end.result - c.args.first) ranges seen rest c.in-Some.growth
-    are (parts ∙ c.into_iter-growth-iterator.ensures.into_iter_gives.0)).hits in
+    are (parts ∙ c.into_iter-growth-iterator.ensures.into_iter_gives.0)).told.hits in
     omega (arith, mine, other)
 
 pub loop-growth-preserved : goal.loop-growth-preserved

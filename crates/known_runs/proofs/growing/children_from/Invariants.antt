@@ -4,4 +4,4 @@ use Rattle.known_runs.specs.inside.Grown.{kept_over}
 use Rattle.known_runs.proofs.growing.children_from.Given as goal
 
 abbrev pub invariant-loop-number : goal.invariant-loop-number
-invariant-loop-number g l = l.children.items ≡ kept_over (kinds_at l.kinds) (g.T.RunTable.known l.table) l.plans l.first (l.number - l.first)
+invariant-loop-number g l = l.children.items ≡ kept_over (kinds_at l.looked.kinds.now) (g.T.RunTable.known l.looked.table.now) l.looked.plans.now l.first (l.number - l.first)

@@ -10,8 +10,9 @@ use Rattle.known_runs.proofs.growing.ends_from.Goals as goal
 
 pub loop-number-preserved : goal.loop-number-preserved
 loop-number-preserved g c =
-    let known = g.T.RunTable.known c.args.table.now in
-    let plans : List (List Rig) = c.args.plans.now in
+    let looked = c.args.looked.now in
+    let known = g.T.RunTable.known looked.table.now in
+    let plans : List (List Rig) = looked.plans.now in
     let of = map (plan_of plans) in
     let old = c.loop-number.onward.items in
     let plan : List Rig = get_or plans c.loop-number.number [] in
@@ -22,6 +23,6 @@ loop-number-preserved g c =
           ∙ ap (λ (ps : List (List Rig)). of old ++ ps) (sym (told_onward plan (hits_of known plan))));
       parents = c.in_ok-push_onward.ensures.parents c.loop-number.invariant.parents;
       beyond =
-          count_step (kinds_at c.args.kinds.now) known plans c.args.first c.loop-number.number c.loop-number.beyond c.in-Some.more c.clear.new.self.items c.add_children_of.new.children.items c.loop-number.auto.number
+          count_step (kinds_at looked.kinds.now) known plans c.args.first c.loop-number.number c.loop-number.beyond c.in-Some.more c.clear.new.self.items c.add_children_of.new.children.items c.loop-number.auto.number
           c.loop-number.invariant.beyond c.clear.ensures.items c.in_ok-is_again.ensures.children (search rules);
     }

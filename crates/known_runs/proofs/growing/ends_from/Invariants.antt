@@ -6,7 +6,7 @@ use Rattle.known_runs.proofs.growing.ends_from.Given as goal
 
 abbrev pub invariant-loop-number : goal.invariant-loop-number
 invariant-loop-number g l = record {
-  plans : map (plan_of l.plans) l.onward.items ≡ onward_over (g.T.RunTable.known l.table) l.plans l.first (l.number - l.first);
-  parents : GrewFrom (length l.plans) l.onward.items;
-  beyond : l.beyond ≡ length (kept_over (kinds_at l.kinds) (g.T.RunTable.known l.table) l.plans l.first (l.number - l.first));
+  plans : map (plan_of l.looked.plans.now) l.onward.items ≡ onward_over (g.T.RunTable.known l.looked.table.now) l.looked.plans.now l.first (l.number - l.first);
+  parents : GrewFrom (length l.looked.plans.now) l.onward.items;
+  beyond : l.beyond ≡ length (kept_over (kinds_at l.looked.kinds.now) (g.T.RunTable.known l.looked.table.now) l.looked.plans.now l.first (l.number - l.first));
 }

@@ -4,4 +4,4 @@ use Rattle.outside_grown.specs.Asked.{unrun}
 use Rattle.outside_grown.proofs.asking.add_all_grown.Given as goal
 
 abbrev pub invariant-loop-number : goal.invariant-loop-number
-invariant-loop-number l = l.lines ≡ lines_behind l.fn.lines (unrun l.runs (take l.number l.plans))
+invariant-loop-number l = l.lines ≡ lines_behind l.fn.lines (unrun l.known.answered (take l.number l.known.list.plans))

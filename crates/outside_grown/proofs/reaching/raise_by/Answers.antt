@@ -1,4 +1,4 @@
-use Rattle.std.proofs.Common.{◌∙◌, ap, arith, get_or, length, max}
+use Rattle.std.proofs.Common.{◌∙◌, [], ap, arith, get_or, length, max}
 use Rattle.outside_grown.proofs.Counts.{each_count}
 use Rattle.outside_grown.proofs.Most.{counted}
 use Rattle.answered_runs.specs.Answered.{runs_in}
@@ -15,5 +15,5 @@ returns-clause-most c = λ p lt.
     let seen = rw c.in-Seen.is at c.in_ok-look.ensures.told in
     c.raise.ensures.most p lt
     ∙ ap (max (get_or c.args.most.now.items p 0))
-    (counted (runs_in c.args.runs.now) c.args.faults.now _ c.look.new.hits.items c.as_slice.result.now _ c.as_slice-2.result.now c.len.result p seen c.as_slice.ensures.value c.in_ok-counts.ensures c.as_slice-2.ensures.value
+    (counted (runs_in c.args.known.now.answered) (get_or c.args.known.now.list.plans c.args.number []) _ c.look.new.hits.items c.as_slice.result.now _ c.as_slice-2.result.now c.len.result p seen c.as_slice.ensures.value c.in_ok-counts.ensures c.as_slice-2.ensures.value
     (omega (arith, lt, c.len.ensures)))

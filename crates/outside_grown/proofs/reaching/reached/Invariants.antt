@@ -4,4 +4,4 @@ use Rattle.outside_grown.proofs.Most.{AreMostOf}
 use Rattle.outside_grown.proofs.reaching.reached.Given as goal
 
 abbrev pub invariant-loop-number : goal.invariant-loop-number
-invariant-loop-number l = AreMostOf (runs_in l.runs) (take l.number l.plans) (length l.runs.points) l.most.items
+invariant-loop-number l = AreMostOf (runs_in l.known.answered) (take l.number l.known.list.plans) (length l.known.answered.points) l.most.items

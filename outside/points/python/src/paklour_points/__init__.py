@@ -1,12 +1,12 @@
-"""Points of one's own: a program marks a step, and the scenario in FAILPOINTS says what becomes of it.
+"""Points in your own program: the program marks a step, and the scenario in FAILPOINTS says what happens there.
 
     from paklour_points import hit
 
     if hit("store::flush") is not None:
         raise OSError(errno.EIO, "store::flush")
 
-The scenario is read as the module is imported; one that can't be read ends the program with 98. outside/points/points.h has the
-tasks, the variables and what is refused.
+The scenario is read when the module is imported. If it can't be read, the program ends with 98. outside/points/points.h describes
+the tasks, the variables and what is refused.
 """
 import _thread
 import fcntl
@@ -31,7 +31,7 @@ def _refuse(what, why):
 
 
 def _escaped(text):
-    """Bytes that would break a line of the trace or its columns as `\\ooo`."""
+    """The text, with bytes that would break a line of the trace or its columns written as `\\ooo`."""
     return b"".join(
         b"\\%03o" % byte if byte < 32 or byte in (127, 92) else bytes([byte]) for byte in os.fsencode(text)
     )
@@ -46,8 +46,8 @@ def _written_answer(term):
 
 
 class _Counts:
-    """What the first `seen` bytes of the trace tell; without a trace, the hits of this process. It is never changed, so what a
-    signal's handler or a fork comes upon is whole."""
+    """The hits in the first `seen` bytes of the trace, or without a trace the hits of this process. An object is never changed, so
+    a signal's handler or a forked child always finds a complete one."""
 
     def __init__(self, number=0, hits=None, seen=0):
         self.number, self.hits, self.seen = number, hits or {}, seen
@@ -60,7 +60,7 @@ class _Counts:
 
 
 def _point_of(line):
-    """The point of a line that any process of the run has written."""
+    """The point in a line, which any process of the run may have written. After a panic or a pause this process ends too."""
     columns = line.split(b"\t")
     if len(columns) < 4:
         _refuse("no line of a trace", os.fsdecode(line))
@@ -72,8 +72,8 @@ def _point_of(line):
 
 
 class _Points:
-    """The points of a process. A trace is all that the processes of a run share: which hit of a point is next is counted
-    from its lines, under a lock, and a line that says panic or pause ends each process at its next hit."""
+    """The points of a process. The processes of a run share only the trace: the next hit of a point is counted from its lines,
+    under a lock, and after a line with panic or pause each process ends at its next hit."""
 
     def __init__(self, text, trace):
         try:
@@ -87,7 +87,7 @@ class _Points:
         os.register_at_fork(after_in_child=self._begin_child)
 
     def _begin_child(self):
-        """Whoever held the lock isn't in the child."""
+        """Makes a new lock, since the thread that held the old one isn't in the child."""
         self.mutex = threading.Lock()
         if self.file is not None:
             os.close(self.file)
@@ -117,8 +117,8 @@ class _Points:
             _refuse("no trace", "a line was cut off")
 
     def _traced_term(self, point):
-        """The file is opened for each hit: a program may close every descriptor that it doesn't know. Its lock is let go by itself,
-        since a child that was made meanwhile has the file too."""
+        """The file is opened for each hit, since a program may close every descriptor that it doesn't know. Its lock is released
+        explicitly, since a child that was made meanwhile has the file open too."""
         self.file = self._opened()
         try:
             fcntl.flock(self.file, fcntl.LOCK_EX)
@@ -145,7 +145,7 @@ class _Points:
             return self._term(self.counts, point)
 
     def _next_term_aside(self, point):
-        """The same in a thread of its own. A signal's handler runs in the main thread, which waits here, and may hit points too."""
+        """Does the same in another thread. A signal's handler runs in the main thread, which waits here, and may hit points too."""
         told = queue.SimpleQueue()
         try:
             _thread.start_new_thread(lambda: told.put(self._next_term(point)), ())
@@ -164,7 +164,7 @@ def _is_own(handler):
 
 
 def _may_be_interrupted():
-    """Whether this thread runs the handlers of signals, and the program has any of its own."""
+    """Whether this thread runs signal handlers, and the program has set any."""
     is_main = threading.get_ident() == threading.main_thread().ident
     return is_main and any(_is_own(signal.getsignal(number)) for number in _SIGNALS)
 
@@ -198,5 +198,5 @@ _points = _Points(os.environ.get("FAILPOINTS", ""), os.environ.get("POINTS_TRACE
 
 
 def hit(point):
-    """None where the step is to go on. Where it is to fail, the argument of the scenario's `return`, '' where it has none."""
+    """Returns None if the step goes on. If it fails, it returns the argument of the scenario's `return`, '' if that has none."""
     return _points.hit(point)

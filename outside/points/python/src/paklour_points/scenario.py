@@ -1,4 +1,4 @@
-"""The text of a scenario, by the grammar of all scenarios of Paklour: the same text means the same."""
+"""Reads a scenario. The grammar is that of `paklour`, so the same text means the same."""
 import os
 import re
 from typing import NamedTuple, Optional
@@ -16,14 +16,14 @@ class Refusal(Exception):
 
 class Term(NamedTuple):
     task: str
-    argument: Optional[str]  # of sleep and delay: milliseconds, in digits
-    count: Optional[int]  # None: as often as it is hit
-    is_part: bool  # a share strictly between nothing and the whole
-    is_never: bool  # a share of nothing
+    argument: Optional[str]  # for sleep and delay: milliseconds, in digits
+    count: Optional[int]  # None: at each hit
+    is_part: bool  # whether it has a share between 0 and 100 percent
+    is_never: bool  # whether its share is 0
 
 
 def _digits(text, most):
-    """The value of digits and nothing else, None where it isn't that or is more than `most`."""
+    """The value of a text of digits, or None if it has anything else or is more than `most`."""
     if not re.fullmatch("[0-9]+", text):
         return None
     counted = text.lstrip("0") or "0"
@@ -31,7 +31,7 @@ def _digits(text, most):
 
 
 def _share(text):
-    """In millionths of the whole, or None."""
+    """A share in millionths of the whole, or None."""
     found = re.fullmatch("([0-9]+)(?:[.]([0-9]{1,4}))?", text)
     if not found:
         return None
@@ -40,7 +40,7 @@ def _share(text):
 
 
 def _argument(task, argument):
-    """What the task keeps of its argument; raises ValueError where it is no milliseconds."""
+    """What the task keeps of its argument. Raises ValueError if that should be milliseconds and isn't."""
     if task in ("sleep", "delay"):
         millis = _digits(argument or "", MOST_MILLIS)
         if millis is None:
@@ -74,7 +74,7 @@ def _read_term(text, entry, number):
 
 
 def _refuse_shares(chains):
-    """What a share draws here couldn't be drawn again."""
+    """Refuses shares, since the random words that they draw here couldn't be drawn again."""
     for entry, chain in sorted(chains.values()):
         for number, term in enumerate(chain, 1):
             if term.is_part:
@@ -82,7 +82,7 @@ def _refuse_shares(chains):
 
 
 def read_scenario(text):
-    """The chain of terms of each name; raises a Refusal at the first thing that is wrong."""
+    """The chain of terms of each name. Raises a Refusal at the first thing that is wrong."""
     if len(os.fsencode(text)) > MOST_BYTES:
         raise Refusal("TooLong", 0, 0)
     chains, entries, faults = {}, 0, 0
@@ -113,7 +113,7 @@ def read_scenario(text):
 
 
 def term_at(chain, hit):
-    """The term that acts at a hit, or None: each term has its count of them, and one without a count all that are left."""
+    """The term that acts at a hit, or None. Each term acts at as many hits as its count says, and one without a count at all that are left."""
     for term in chain:
         if term.is_never:
             continue

@@ -19,7 +19,7 @@ use Rattle.action_eval.proofs.Spans.{later, seen_set, slice_length, spans_set, s
 use Rattle.action_eval.proofs.CallerLemmas.{told_within, goes_by}
 use Rattle.action_eval.proofs.session.Session.hit_chain.Goals as goal
 
--- where neither option has a value, the second has none
+-- If neither option has a value, the second has none.
 none_after : {A : Type 0} (o p : Option A) → option_or o p ≡ None → p ≡ None
 none_after None p h = h
 none_after (Some x) p h = cc

@@ -1,41 +1,38 @@
-use Rattle.std.proofs.Common.{◌≡◌, ℕ, ◌+◌, ◌-◌, length, get_or, ap, sym, subst, ◌∙◌, arith, refl, None, Some}
-use Rattle.std.proofs.lemmas.List.{length-replicate, length-map}
+use Rattle.std.proofs.Common.{◌≡◌, ℕ, ◌+◌, ◌-◌, length, ap, sym, subst, ◌∙◌, arith, refl, None, Some}
+use Rattle.std.proofs.lemmas.List.{length-map}
 use Rattle.grown_runs.specs.inside.Growths.{IsGrowth, IsGrowthOn, subject_on}
 use Rattle.grown_runs.specs.inside.Beginnings.{AskLikeParents, TellsParent}
-use Rattle.grown_runs.proofs.Growing.{growth_none, growth_many, zeros}
+use Rattle.grown_runs.proofs.Growing.{growth_many}
 use Rattle.grown_runs.proofs.kept.Growth.run_over.Goals as goal
 
 pub loop-number-init : goal.loop-number-init
 loop-number-init g c =
     let input = c.args.input.now in
-    let none = c.in_ok-growth.ensures in
     record {
       setup = refl;
       begun = λ parent of. absurd (let no : None ≡ Some parent = sym c.forget.ensures ∙ of in cc);
       grown =
-          subst (λ (k : ℕ). IsGrowth (subject_on g.T.Target c.args.target.now input) input.limits.seed input.part input.plans.now c.args.first k c.in_ok-growth.growth)
-          (let e : 0 ≡ c.args.first - c.args.first = omega arith in e)
-          (growth_none (subject_on g.T.Target c.args.target.now input) input.limits.seed input.part input.plans.now c.args.first c.in_ok-growth.growth none.verdicts none.children none.many none.onward none.causes
-          (ap length none.hits ∙ length-replicate (length c.catalogue.result.now) 0
-          ∙ sym (ap length (sym c.catalogue.ensures) ∙ length-map c.catalogue.result.now (λ n. n.now)))
-          (λ p. ap (λ hs. get_or hs p 0) none.hits ∙ zeros _ p));
+          subst (λ (k : ℕ). IsGrowth (subject_on g.T.Target c.args.target.now input) input.limits.seed input.part input.plans.now c.args.numbers.start k c.in_ok-growth.growth)
+          (let e : 0 ≡ c.args.numbers.start - c.args.numbers.start = omega arith in e)
+          (c.in_ok-growth.ensures (subject_on g.T.Target c.args.target.now input) input.limits.seed input.part input.plans.now c.args.numbers.start
+          (ap length (sym c.catalogue.ensures) ∙ length-map c.catalogue.result.now (λ n. n.now)));
     }
 
 pub run_one-requires-clause-room : goal.run_one-requires-clause-room
 run_one-requires-clause-room g c =
     let input = c.args.input.now in
-    let many = growth_many (subject_on g.T.Target c.args.target.now input) input.limits.seed input.part input.plans.now c.args.first (c.loop-number.number - c.args.first) c.loop-number.growth c.loop-number.invariant.grown in
+    let many = growth_many (subject_on g.T.Target c.args.target.now input) input.limits.seed input.part input.plans.now c.args.numbers.start (c.loop-number.number - c.args.numbers.start) c.loop-number.growth c.loop-number.invariant.grown in
     let few = input.few in
     omega (arith, many, few, c.loop-number-test.true, c.requires.within.1)
 
 pub run_one-requires-clause-hits : goal.run_one-requires-clause-hits
-run_one-requires-clause-hits g c = c.loop-number.invariant.grown.hits
+run_one-requires-clause-hits g c = c.loop-number.invariant.grown.told.hits
 
 pub loop-number-preserved : goal.loop-number-preserved
 loop-number-preserved g c =
     let input = c.args.input.now in
     let n = c.loop-number.number in
-    let first = c.args.first in
+    let first = c.args.numbers.start in
     let inv = c.loop-number.invariant in
     let low = c.loop-number.auto.number in
     record {
@@ -52,8 +49,8 @@ loop-number-preserved g c =
 pub returns-clause-grown : goal.returns-clause-grown
 returns-clause-grown g c =
     let input = c.args.input.now in
-    subst (λ (k : ℕ). IsGrowth (subject_on g.T.Target c.args.target.now input) input.limits.seed input.part input.plans.now c.args.first k c.loop-number.growth)
-    (let e : c.loop-number.number - c.args.first ≡ c.args.end - c.args.first = omega (arith, c.loop-number-test.false, c.loop-number.auto.number-end, c.requires.within.0) in e) c.loop-number.invariant.grown
+    subst (λ (k : ℕ). IsGrowth (subject_on g.T.Target c.args.target.now input) input.limits.seed input.part input.plans.now c.args.numbers.start k c.loop-number.growth)
+    (let e : c.loop-number.number - c.args.numbers.start ≡ c.args.numbers.end - c.args.numbers.start = omega (arith, c.loop-number-test.false, c.loop-number.auto.number-end, c.requires.within.0) in e) c.loop-number.invariant.grown
 
 pub run_one-requires-clause-begun : goal.run_one-requires-clause-begun
 run_one-requires-clause-begun g c =

@@ -7,5 +7,5 @@ abbrev pub invariant-loop-number : goal.invariant-loop-number
 invariant-loop-number g l = record {
   setup : l.target ≡ l.fn.target;
   begun : TellsParent (subject_on g.T.Target l.fn.target l.input) l.input.limits.seed l.input.plans.now l.workspace.begun;
-  grown : IsGrowthOn g.T.Target l.fn.target l.input l.first (l.number - l.first) l.growth;
+  grown : IsGrowthOn g.T.Target l.fn.target l.input l.fn.numbers.start (l.number - l.fn.numbers.start) l.growth;
 }

@@ -14,7 +14,7 @@ pub loop-number-init : goal.loop-number-init
 loop-number-init g c =
     let input = c.args.input.now in
     let target = c.args.target.now in
-    let first = c.args.first in
+    let first = c.args.numbers.start in
     let none = none_in input.plans.now first in
     record {
       setup = refl;
@@ -39,18 +39,18 @@ loop-number-preserved g c =
       verdicts = c.in_ok-push.ensures.items
           ∙ ap (λ v. so_far ++ v ∷ []) (c.in_ok-verdict.ensures.ok ∙ ap (λ setup. say_of setup n (get_or plans n [])) c.loop-number.invariant.setup)
           ∙ ap (λ vs. vs ++ say n (get_or plans n []) ∷ []) c.loop-number.invariant.verdicts
-          ∙ sym (plan_range_more say plans c.args.first n (omega arith) (omega arith));
+          ∙ sym (plan_range_more say plans c.args.numbers.start n (omega arith) (omega arith));
       unreached = c.in_ok-verdict.ensures.unreached
           ∙ ap (λ setup. filter (λ p. not (is_asked p (runs_of setup n (get_or plans n [])).asked)) left) c.loop-number.invariant.setup
           ∙ ap (filter (λ p. not (is_asked p (runs n (get_or plans n [])).asked))) c.loop-number.invariant.unreached
-          ∙ unreached_more runs plans input.watched.now c.args.first n (omega arith) (omega arith);
+          ∙ unreached_more runs plans input.watched.now c.args.numbers.start n (omega arith) (omega arith);
     }
 
 pub invariant_of-result : goal.invariant_of-result
 invariant_of-result g c =
     let input = c.args.input.now in
     let plans : List Entries = input.plans.now in
-    let first = c.args.first in
+    let first = c.args.numbers.start in
     let n = c.loop-number.number in
     let say = input_says g.T.Target c.args.target.now input in
     let up : first ≤ n = omega arith in

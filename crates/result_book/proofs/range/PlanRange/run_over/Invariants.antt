@@ -10,7 +10,7 @@ invariant-loop-number g l = record {
   setup : l.target ≡ l.fn.target;
   verdicts : l.verdicts.items ≡ verdicts_from
       (input_says g.T.Target l.fn.target l.input)
-      l.first (slice_range l.input.plans.now l.first l.number);
+      l.fn.numbers.start (slice_range l.input.plans.now l.fn.numbers.start l.number);
   unreached : l.unreached.items ≡ unreached_of l.input.watched.now
-      (runs_from (input_runs g.T.Target l.fn.target l.input) l.first (slice_range l.input.plans.now l.first l.number));
+      (runs_from (input_runs g.T.Target l.fn.target l.input) l.fn.numbers.start (slice_range l.input.plans.now l.fn.numbers.start l.number));
 }

@@ -1,0 +1,6 @@
+use Rattle.std.proofs.Common.{◌≡◌, map, take}
+use Rattle.std.specs.Prelude.{option_map}
+use Rattle.known_runs.proofs.growing.find_rest.Given as goal
+
+abbrev pub invariant-loop-number : goal.invariant-loop-number
+invariant-loop-number g l = map (option_map (λ r. g.T.RunTable.tells r.now)) l.runs.items ≡ map (g.T.RunTable.known l.table) (take l.number l.plans)
