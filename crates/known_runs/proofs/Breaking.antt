@@ -208,7 +208,7 @@ not_here x s n = by_tests (x.point == s.point) (x.hit == s.hit) refl refl
 equal_test : (n : ℕ) → (n == n) ≡ true
 equal_test n = grind (arith, nat_tests)
 
-up_to_here : (s : Site) (b : List Met) (r : Reply) (a : List Met) → Fresh s b → up_to s (sites_of (b ++ met s r ∷ a)) ≡ points_met b ++ s.point ∷ []
+pub up_to_here : (s : Site) (b : List Met) (r : Reply) (a : List Met) → Fresh s b → up_to s (sites_of (b ++ met s r ∷ a)) ≡ points_met b ++ s.point ∷ []
 up_to_here s [] r a f =
     ap (λ (x : Bool). cond (x && (s.hit == s.hit)) (s.point ∷ []) (s.point ∷ up_to s (sites_of a))) (equal_test s.point)
     ∙ ap (λ (x : Bool). cond x (s.point ∷ []) (s.point ∷ up_to s (sites_of a))) (equal_test s.hit)

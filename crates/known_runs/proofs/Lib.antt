@@ -7,3 +7,6 @@ pub mod Ends
 pub mod Seen
 pub mod Breaking
 pub mod Found
+pub mod Component
+pub mod ComponentRuns
+pub mod ComponentList

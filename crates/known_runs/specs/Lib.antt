@@ -8,4 +8,5 @@ pub mod Breaks
 pub mod Unseen
 pub mod SeenPromises
 pub mod Promises
+pub mod Agreeing
 pub mod inside

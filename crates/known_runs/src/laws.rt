@@ -1,10 +1,15 @@
 //! Laws on known runs, as contracts of functions that do nothing.
-ghost use Rattle.std.specs.Prelude.{ℕ};
+ghost use Rattle.std.specs.Prelude.{ℕ, List, length};
+ghost use Rattle.std.specs.List.{AllByRecursion};
+ghost use Rattle.action_eval.specs.Catalogue.{IsCatalogue};
+ghost use Rattle.action_eval.specs.declared.rig.Kind.{Kind};
 ghost use Rattle.grown_plans.specs.GrownPlans.{Subject};
-ghost use Rattle.grown_plans.specs.Promises.{IsLawful};
+ghost use Rattle.grown_plans.specs.Promises.{CanBeTried, IsLawful};
+ghost use Rattle.known_runs.specs.Agreeing.{CanBeRun, HasSubject};
 ghost use Rattle.known_runs.specs.Breaks.{BreaksNever};
 ghost use Rattle.known_runs.specs.Known.{Agrees, KnownRuns};
 ghost use Rattle.known_runs.specs.Promises.{EndsAsSeen, EndsWhole, RunsEachOnce, WalksRight};
+ghost use Rattle.known_runs.specs.ToldPart.{part_known};
 
 /// The walk is right: if a lawful subject agrees with the table, the plan that the walk ends in has the run, and so the verdict, of the rigged hits.
 pub fn known_runs_tell_others()
@@ -31,4 +36,11 @@ pub fn each_plan_is_to_be_run_once()
 /// the last fault; or, if the last fault is sticky, the run of the plan with this fault once, up to the next hit of the fault's point.
 pub fn lawful_runs_never_break()
     ensures { (t : Subject) → IsLawful t → (d : ℕ) → BreaksNever t d }
+{}
+
+/// If no known plan's run breaks with the run that it has to begin like, some lawful subject agrees with all recorded runs of known plans. So what is
+/// promised of each subject that agrees isn't empty. Its limit of hits is any number that no recorded run exceeds.
+pub fn unbroken_runs_have_a_subject()
+    ensures { (names : List (List ℕ)) (kinds : ℕ → List Kind) (most d : ℕ) (known : KnownRuns) → IsCatalogue names → ((point : ℕ) → CanBeTried (kinds point))
+        → AllByRecursion (CanBeRun (length names) most known) (part_known kinds known d) → HasSubject names kinds most d known }
 {}
