@@ -7,3 +7,5 @@ pub mod Breaks
 pub mod WholeLists
 pub mod Within
 pub mod KnownLists
+pub mod ReadHits
+pub mod SomeComponent

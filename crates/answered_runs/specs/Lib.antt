@@ -6,4 +6,5 @@ pub mod Rigged
 pub mod Verdicts
 pub mod WholeList
 pub mod KnownLists
+pub mod Unbroken
 pub mod inside

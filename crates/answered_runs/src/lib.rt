@@ -11,7 +11,10 @@ mod table;
 mod verdicts;
 
 pub use broken::{BrokenRun, broken_run};
-pub use laws::{answers_tell_plans, answers_tell_verdicts, ended_runs_have_a_component};
+pub use laws::{
+    answers_tell_plans, answers_tell_verdicts, ended_runs_have_a_component,
+    unbroken_runs_have_a_component,
+};
 pub use plans::{KnownPlans, MOST_PLANS};
 pub use rigged::rigs_of_scenario;
 pub use scenarios::{plan_scenario, rigged_scenario};
