@@ -1,0 +1,2 @@
+pub mod CleanUp
+pub mod OneStep
