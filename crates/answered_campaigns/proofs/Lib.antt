@@ -9,4 +9,5 @@ pub mod Told
 pub mod Reports
 pub mod Wholes
 pub mod ReadFaults
+pub mod AsSeen
 pub mod Read

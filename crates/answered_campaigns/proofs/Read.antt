@@ -4,14 +4,13 @@ use Rattle.std.specs.List.{AllByRecursion}
 use Rattle.action_eval.specs.declared.rig.Rig.{Rig}
 use Rattle.action_eval.specs.declared.rig.Kind.{Kind}
 use Rattle.grown_plans.specs.GrownPlans.{Subject}
+use Rattle.grown_plans.specs.Promises.{IsLawful}
 use Rattle.grown_plans.proofs.Members.{all_weaker}
 use Rattle.answer_text.specs.Runs.{known_runs, known_strangers, runs_of, told_in}
 use Rattle.answer_text.specs.declared.runs.RunLine.{RunLine}
 use Rattle.known_runs.specs.KnownPart.{are_told, known_part, to_run}
 use Rattle.known_runs.specs.ToldPart.{part_known}
-use Rattle.known_runs.specs.SeenPromises.{KeepsPromisesAsSeen}
 use Rattle.known_runs.proofs.Listed.{filter_all, part_is}
-use Rattle.known_runs.proofs.Seen.{ends_as_seen}
 use Rattle.answered_runs.specs.KnownLists.{KnownList}
 use Rattle.answered_runs.specs.Answered.{Answered, known_plans, runs_in}
 use Rattle.answered_runs.specs.Components.{AgreesWithRuns, IsComponent}
@@ -25,7 +24,8 @@ use Rattle.answered_campaigns.specs.Kinds.{listed_kinds}
 use Rattle.answered_campaigns.specs.Grown.{campaign, untried}
 use Rattle.answered_campaigns.specs.Questions.{AreUnbroken, IsReportedText, Tells}
 use Rattle.answered_campaigns.specs.Seen.{IsReportAsSeen, first_number_seen, report_seen_in}
-use Rattle.answered_campaigns.specs.inside.Outcomes.{IsFirstNumberOf, IsTextOf}
+use Rattle.answered_campaigns.specs.inside.Outcomes.{AreLawfulOf, IsFirstNumberOf, IsTextOf}
+use Rattle.answered_campaigns.proofs.AsSeen.{keeps_promises}
 use Rattle.answered_campaigns.proofs.Reports.{grower_is}
 use Rattle.answered_campaigns.proofs.Wholes.{is_whole}
 
@@ -60,9 +60,9 @@ nothing_to_run a depth t is low agrees told =
 -- ---- the report of each component
 
 as_seen : (form : Form) (outside : Description) (given : Given) (a : Answered) (depth : ℕ) (text : List ℕ) (first : Option ℕ) → depth ≤ 64 → a.points ≡ outside.points
-    → IsTextOf form outside given a depth text → IsFirstNumberOf outside given a depth first → AreAllTold (runs_in a) (known_plans a depth)
+    → IsTextOf form outside given a depth text → IsFirstNumberOf outside given a depth first → AreLawfulOf outside given a depth → AreAllTold (runs_in a) (known_plans a depth)
     → (t : Subject) → IsComponent a.points a.listed t → AgreesWithRuns t (told_in a.book) → IsReportAsSeen form (campaign outside given depth t) (told_in a.book) depth (runs_in a) text first
-as_seen form outside given a depth text first low same is_text is_first told t is agrees =
+as_seen form outside given a depth text first low same is_text is_first lawful told t is agrees =
     let c : Campaign = campaign outside given depth t in
     let own : t ≡ grower c = sym (grower_is outside given a depth t is agrees low same) in
     let done : to_run t depth (runs_in a) ≡ [] = nothing_to_run a depth t is low agrees told in
@@ -72,19 +72,19 @@ as_seen form outside given a depth text first low same is_text is_first told t i
       text_is = text_is;
       first_is = first_is;
       whole = λ none. is_whole c depth (runs_in a) refl (subst (λ (g : Subject). to_run g depth (runs_in a) ≡ []) own done) none form (told_in a.book) text first text_is first_is;
-      promises = subst (λ (g : Subject). KeepsPromisesAsSeen g depth (runs_in a)) own (ends_as_seen t is.lawful depth (runs_in a) done);
+      promises = keeps_promises c depth (runs_in a) (subst IsLawful own is.lawful) (subst (λ (g : Subject). to_run g depth (runs_in a) ≡ []) own done) (lawful t is agrees);
     }
 
 pub reported : (form : Form) (outside : Description) (given : Given) (a : Answered) (depth : ℕ) (answers text : List ℕ) (first : Option ℕ) → depth ≤ 64 → Tells outside answers a
-    → IsTextOf form outside given a depth text → IsFirstNumberOf outside given a depth first → AreUnbroken a depth → AreAllTold (runs_in a) (known_plans a depth) → untried a depth given.plans ≡ []
+    → IsTextOf form outside given a depth text → IsFirstNumberOf outside given a depth first → AreLawfulOf outside given a depth → AreUnbroken a depth → AreAllTold (runs_in a) (known_plans a depth) → untried a depth given.plans ≡ []
     → IsReportedText form outside given depth answers text first
-reported form outside given a depth answers text first low t is_text is_first unbroken told all = record {
+reported form outside given a depth answers text first low t is_text is_first lawful unbroken told all = record {
   runs = a;
   tells = t;
   unbroken = unbroken;
   all = all;
   each =
-      λ s agrees. as_seen form outside given a depth text first low t.points is_text is_first told s
+      λ s agrees. as_seen form outside given a depth text first low t.points is_text is_first lawful told s
       (subst (λ (ps : List (List ℕ)). IsComponent ps a.listed s) (sym t.points) (subst (λ (ls : List (List Kind)). IsComponent outside.points ls s) (sym t.listed) agrees.component)) (subst (AgreesWithRuns s) (sym t.told) agrees.agrees);
 }
 

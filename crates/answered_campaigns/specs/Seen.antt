@@ -2,18 +2,19 @@
 use Rattle.std.specs.Prelude.{◌≡◌, ℕ, ◌+◌, List, [], Option, Some, length, map, option_map, slice_get}
 use Rattle.std.specs.List.{filter, range_with_len}
 use Rattle.scenario_values.specs.Scenario.{Entries}
-use Rattle.grown_plans.specs.GrownPlans.{Subject, onward}
+use Rattle.grown_plans.specs.GrownPlans.{Subject, onward, run_of_plan}
 use Rattle.grown_runs.specs.GrownRuns.{cause_at, over}
 use Rattle.known_runs.specs.Known.{KnownRuns, hits_of}
 use Rattle.known_runs.specs.KnownPart.{is_reached_onward, known_part}
 use Rattle.known_runs.specs.KnownPlans.{level_size}
-use Rattle.known_runs.specs.SeenPromises.{KeepsPromisesAsSeen}
-use Rattle.known_runs.specs.Unseen.{unseen}
+use Rattle.known_runs.specs.Unseen.{BeginsUnseen, unseen}
 use Rattle.answer_text.specs.Runs.{KnownRuns as ToldRuns}
 use Rattle.outside_campaign.specs.Telling.{telling}
 use Rattle.result_book.specs.Verdicts.{numbered, verdicts_from}
 use Rattle.result_book.specs.FirstFailures.{first_failures}
 use Rattle.report.specs.Reports.{GrowthFacts, ReportFacts}
+use Rattle.report_promises.specs.AsSeen.{PromisesAsSeen}
+use Rattle.report_promises.specs.Told.{Told}
 use Rattle.campaign_core.specs.Findings.{cause_of, report_of}
 use Rattle.campaign_core.specs.Headline.{Campaign, grower, say}
 use Rattle.report_json.specs.About.{ShownFacts, shown_of}
@@ -50,6 +51,14 @@ report_seen c depth known =
     report_of (say c) c.label c.given.plans.seed (census_seen (grower c) c.given.plans.seed (hits_of known [])) (plans_seen c depth known)
     (Some (growth_seen (grower c) c.given.plans.seed (plans_seen c depth known) depth known))
 
+-- What the report prints, and the behaviours of its plans.
+abbrev pub told_seen : Campaign → ℕ → KnownRuns → Told
+told_seen c depth known = record {
+  report = report_seen c depth known;
+  growth = growth_seen (grower c) c.given.plans.seed (plans_seen c depth known) depth known;
+  behaviours = map (run_of_plan (grower c)) (known_part (grower c) depth known);
+}
+
 -- What is shown beside the report.
 abbrev pub shown_seen : Campaign → ℕ → KnownRuns → ShownFacts
 shown_seen c depth known =
@@ -70,9 +79,9 @@ pub record IsReportOf (form : Form) (c : Campaign) (told : ToldRuns) (text : Lis
   pub first_is : first ≡ first_number c
 
 -- A text is the report of a campaign as far as its runs were seen, and `first` is the number of its first plan that fails. If no run is unseen, they
--- are those of the whole campaign. The plans keep their promises as far as their runs were seen.
+-- are those of the whole campaign. The report keeps its promises of each behaviour that doesn't begin like an unseen run.
 pub record IsReportAsSeen (form : Form) (c : Campaign) (told : ToldRuns) (depth : ℕ) (known : KnownRuns) (text : List ℕ) (first : Option ℕ) : Type 0 where
   pub text_is : text ≡ report_seen_in form c told depth known
   pub first_is : first ≡ first_number_seen c depth known
   pub whole : unseen (grower c) depth known ≡ [] → IsReportOf form c told text first
-  pub promises : KeepsPromisesAsSeen (grower c) depth known
+  pub promises : PromisesAsSeen (grower c) (told_seen c depth known) (BeginsUnseen (grower c) depth known)

@@ -65,7 +65,8 @@ module _ (t : Subject) (seed : ℕ) (entries : List Entries) (plans : List (List
   unfolding verdict_with
   own_is = by_verdict (told t seed n (get_or plans n [])).verdict refl
 
-each_is : (t : Subject) (seed : ℕ) (entries : List Entries) (plans : List (List Rig))
+-- each cause that is listed for the plans which stand first is one
+pub each_is : (t : Subject) (seed : ℕ) (entries : List Entries) (plans : List (List Rig))
     → ((n : ℕ) → n < length plans → get_or entries n [] ≡ scenario_of t (get_or plans n [])) → (first count : ℕ) → first + count ≤ length plans
     → AllByRecursion (IsCauseAmong t seed plans) (map (cause_of entries) (over (cause_at t seed) plans first count))
 each_is t seed entries plans named first zero fit = tt

@@ -10,6 +10,7 @@ pub mod Grown
 pub mod Causes
 mod EachVerdict
 pub mod Begun
+pub mod Findings
 pub mod Promised
 pub mod Unlisted
 pub mod Unreached

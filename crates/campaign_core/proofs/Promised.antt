@@ -1,14 +1,11 @@
 -- The report of a campaign keeps what it promises.
-use Rattle.std.proofs.Common.{◌≡◌, ◌≢◌, ℕ, zero, suc, ◌+◌, ◌<◌, ◌≤◌, ◌^◌, ◌==◌, ◌&&◌, not, Bool, true, false, cond, Option, None, Some, IfSome, All, List, [], ◌∷◌, map, length, refl, ap, sym, ◌∙◌, subst, arith, eq-eqb}
-use Rattle.std.specs.Prelude.{AllPairs, Contains, flat_map, remove, slice_get, slice_index_or}
+use Rattle.std.proofs.Common.{◌≡◌, ◌≢◌, ℕ, zero, suc, ◌+◌, ◌<◌, ◌≤◌, ◌^◌, ◌==◌, ◌&&◌, not, Bool, true, false, cond, Option, None, Some, IfSome, All, List, [], ◌∷◌, map, length, refl, ap, sym, ◌∙◌, subst, arith}
+use Rattle.std.specs.Prelude.{Contains, flat_map, slice_get, slice_index_or}
 use Rattle.std.specs.List.{AllByRecursion, list_all, range_with_len}
 use Rattle.std.proofs.lemmas.List.{get_or-map, length-map}
-use Rattle.std.proofs.lemmas.List.FromFn.{length-range_with_len}
 use Rattle.std.proofs.lemmas.Bool.Decides.{nat_tests}
 use Rattle.std.proofs.lemmas.Option.{slice_get-get_or, slice_get_within, get_or_from_slice_get}
-use Rattle.scenario_values.specs.Scenario.{Entries, all_faults}
-use Rattle.scenario_values.specs.Keep.{are_faults}
-use Rattle.scenario_values.proofs.Sets.{all_are_faults, without_are_faults}
+use Rattle.scenario_values.specs.Scenario.{Entries}
 use Rattle.action_eval.specs.declared.rig.Rig.{Rig}
 use Rattle.target_trait.specs.Outcomes.{verdict_with}
 use Rattle.target_trait.specs.declared.judgement.Verdict.{Verdict}
@@ -23,16 +20,15 @@ use Rattle.grown_plans.proofs.Members.{contains_head, contains_map}
 use Rattle.grown_plans.proofs.Paths.{some_is}
 use Rattle.grown_runs.specs.GrownRuns.{over, verdict_by, fails_with, cause_by, cause_at}
 use Rattle.result_book.specs.Verdicts.{verdicts_from, numbered}
-use Rattle.result_book.specs.FirstFailures.{first_failures, AreFirstFailures}
-use Rattle.result_book.specs.FirstFailure.{FailsAt}
-use Rattle.result_book.proofs.EachCodeLemmas.{firsts_of}
+use Rattle.result_book.specs.FirstFailures.{first_failures}
 use Rattle.report.specs.Reports.{FindingFacts, CauseFacts, GrowthFacts}
 use Rattle.campaign_given.specs.Given.{IsGiven}
-use Rattle.campaign_core.specs.Headline.{Campaign, census, grower, plans, plans_to, say, report, told_in, EachIsMinimal, KeepsPromises}
-use Rattle.campaign_core.specs.Findings.{cause_of, finding, growth_of, reduction, IsCauseAmong, IsMinimal, ReducesToMinimal}
+use Rattle.campaign_core.specs.Headline.{Campaign, census, grower, plans, plans_to, say, growth, report, told_in, EachIsMinimal, KeepsPromises}
+use Rattle.campaign_core.specs.Findings.{cause_of, finding, growth_of, reduction, IsCauseAmong, ReducesToMinimal}
 use Rattle.campaign_core.proofs.Causes.{causes_are_causes}
-use Rattle.report_promises.specs.Told.{Told, HasVerdict}
-use Rattle.report_promises.specs.Promises.{IsFinding, Promises, without}
+use Rattle.campaign_core.proofs.Findings.{found_of, once_each, reduced_at}
+use Rattle.report_promises.specs.Told.{Told}
+use Rattle.report_promises.specs.Promises.{IsFinding, IsReduced, Promises}
 use Rattle.report_promises.specs.Promises.{IsCause as IsToldCause}
 use Rattle.report_promises.proofs.Failures.{of_level, has_cause, fewest}
 use Rattle.report_promises.proofs.Least.{no_lesser}
@@ -43,7 +39,7 @@ use Rattle.report_promises.proofs.Grew.{Grew, IsCauseOf, all_numbers, counted, t
 
 -- ---- verdicts by numbers
 
-verdict_at : (say : ℕ → Entries → Verdict) (from : ℕ) (entries : List Entries) (n : ℕ) (s : Entries) → slice_get entries n ≡ Some s → slice_get (verdicts_from say from entries) n ≡ Some (say (from + n) s)
+pub verdict_at : (say : ℕ → Entries → Verdict) (from : ℕ) (entries : List Entries) (n : ℕ) (s : Entries) → slice_get entries n ≡ Some s → slice_get (verdicts_from say from entries) n ≡ Some (say (from + n) s)
 verdict_at say from [] n s e = absurd cc
 verdict_at say from (x ∷ entries) zero s e = ap (λ (y : Entries). Some (say from y)) (let same : x ≡ s = cc in same) ∙ ap (λ k. Some (say k s)) (let goal : from ≡ from + 0 = omega arith in goal)
 verdict_at say from (x ∷ entries) (suc n) s e = verdict_at say (from + 1) entries n s e ∙ ap (λ k. Some (say k s)) (let goal : from + 1 + n ≡ from + suc n = omega arith in goal)
@@ -71,12 +67,12 @@ all_pass t seed stream code (less ∷ lists) a =
     (none_fails code (verdict_by t seed stream less) a.0) (all_pass t seed stream code lists a.1)
 
 -- the plan of a number, as a cause
-cause_here : (t : Subject) (seed n code : ℕ) (plan : List Rig) → IsCause t seed n code plan → cause_at t seed n plan ≡ (n, code) ∷ []
+pub cause_here : (t : Subject) (seed n code : ℕ) (plan : List Rig) → IsCause t seed n code plan → cause_at t seed n plan ≡ (n, code) ∷ []
 unfolding verdict_with
 cause_here t seed n code plan cause =
     ap (cause_by t seed n (rigs_of plan)) cause.0 ∙ ap (λ b. cond b ((n, code) ∷ []) []) (all_pass t seed n code (lesser (rigs_of plan)) cause.1)
 
-in_flat : {A B : Type 0} (f : ℕ → A → List B) (d : A) (xs : List A) (from count k : ℕ) (x : A) (y : B) → k < count → slice_get xs (from + k) ≡ Some x → f (from + k) x ≡ y ∷ []
+pub in_flat : {A B : Type 0} (f : ℕ → A → List B) (d : A) (xs : List A) (from count k : ℕ) (x : A) (y : B) → k < count → slice_get xs (from + k) ≡ Some x → f (from + k) x ≡ y ∷ []
     → Contains (flat_map (λ n. f n (slice_index_or xs n d)) (range_with_len from count)) y
 in_flat f d xs from zero k x y low at is = absurd (omega (arith, low))
 in_flat {A} {B} f d xs from (suc count) zero x y low at is =
@@ -161,93 +157,40 @@ module _ (k : Campaign) (d : ℕ) (is : Some d ≡ k.given.depth) where
 
 -- ---- findings
 
-own_code : (code : ℕ) (v : Verdict) → fails_with code v ≡ true → v ≡ verdict.Fail code
-own_code code verdict.Pass e = absurd cc
-own_code code verdict.Unresolved e = absurd cc
-own_code code (verdict.Fail other) e = ap (λ (c : ℕ). verdict.Fail c) (let goal : other ≡ code = grind (arith, nat_tests, e) in goal)
-
-not_own : (code : ℕ) (v : Verdict) → fails_with code v ≡ false → v ≢ verdict.Fail code
-not_own code v fine is = let own : fails_with code (verdict.Fail code) ≡ true = eq-eqb code code refl in let e : true ≡ false = sym own ∙ ap (fails_with code) (sym is) ∙ fine in absurd cc
-
-right_of : (a b : Bool) → (a && b) ≡ true → b ≡ true
-right_of true b e = e
-right_of false b e = absurd cc
-
-right_fails : (a b : Bool) → a ≡ true → (a && b) ≡ false → b ≡ false
-right_fails a b left e = ap (λ c. c && b) (sym left) ∙ e
-
--- a scenario that is minimal: without any one of its faults it doesn't fail
-without_one : (asked : Entries → Verdict) (code : ℕ) (s : Entries) → IsMinimal asked code s → (fault : ℕ) → fault < all_faults s → asked (without fault s) ≢ verdict.Fail code
-without_one asked code s m fault low =
-    let all : List ℕ = range_with_len 0 (all_faults s) in
-    let size = length-range_with_len 0 (all_faults s) in
-    not_own code (asked (without fault s))
-    (right_fails (are_faults (all_faults s) (remove all fault)) (fails_with code (asked (without fault s)))
-    (without_are_faults (all_faults s) fault all (all_are_faults (all_faults s))) (m.1.each fault (omega (arith, low, size))))
-
-at_number : (vs : List Verdict) (n code : ℕ) → FailsAt vs n code → slice_get vs n ≡ Some (verdict.Fail code)
-at_number [] n code e = absurd cc
-at_number (v ∷ vs) zero code e = ap (λ (x : Verdict). Some x) e
-at_number (v ∷ vs) (suc n) code e = at_number vs n code e
-
-module _ (k : Campaign) (d : ℕ) (is : Some d ≡ k.given.depth) (l : IsLawful (grower k)) (given : IsGiven k.given) (minimal : All (ReducesToMinimal (say k)) (report k).findings) where
+module _ (k : Campaign) (d : ℕ) (is_depth : Some d ≡ k.given.depth) (l : IsLawful (grower k)) (given : IsGiven k.given) (minimal : All (ReducesToMinimal (say k)) (report k).findings) where
   abbrev firsts : List (ℕ × ℕ)
   firsts = first_failures (numbered (report k).verdicts)
 
-  are : AreFirstFailures (FailsAt (report k).verdicts) firsts
-  are = firsts_of (report k).verdicts
-
   abbrev told : Told
-  told = told_in k (grew k d is)
+  told = told_in k (grew k d is_depth)
 
   few_hits : k.given.max_hits < 2 ^ 32
   few_hits = let few = given.few_hits in omega (arith, few)
 
   low_depth : d ≤ 64
-  low_depth = subst (λ (depth : Option ℕ). IfSome depth (λ faults. faults ≤ 64)) (sym is) given.low_depth
+  low_depth = subst (λ (depth : Option ℕ). IfSome depth (λ faults. faults ≤ 64)) (sym is_depth) given.low_depth
 
   scenario_at : (number : ℕ) (plan : List Rig) → slice_get (grown (grower k) d) number ≡ Some plan → slice_index_or (plans k) number [] ≡ scenario_of (grower k) plan
-  scenario_at number plan at = get_or_from_slice_get (plans k) number (scenario_of (grower k) plan) [] (plan_at k d is number plan at)
+  scenario_at number plan at = get_or_from_slice_get (plans k) number (scenario_of (grower k) plan) [] (plan_at k d is_depth number plan at)
 
   -- what is reported of the first failure at a place
   finding_at : (n : ℕ) (none : FindingFacts) → n < length (report k).findings → IsFinding (grower k) told (slice_index_or (report k).findings n none)
   finding_at n none low =
-      let size = length-map firsts (finding (say k) (plans k)) in
-      let inside : n < length firsts = omega (arith, low, size) in
       let first : ℕ × ℕ = slice_index_or firsts n (0, 0) in
       let f : FindingFacts = finding (say k) (plans k) first in
-      let here : slice_index_or (report k).findings n none ≡ f = get_or-map (finding (say k) (plans k)) firsts n (0, 0) none inside in
-      let least = are.least n (0, 0) inside in
-      let reduces : ReducesToMinimal (say k) f = subst (ReducesToMinimal (say k)) here (minimal n none low) in
-      let no_lower : (other : ℕ) → other < first.0 → HasVerdict told other (verdict.Fail first.1) → ⊥ = λ other less comes.
-      least.1 other less (get_or_from_slice_get (report k).verdicts other (verdict.Fail first.1) verdict.Pass comes)
-      in
-      subst (IsFinding (grower k) told) (sym here) (record {
-        fails = at_number (report k).verdicts first.0 first.1 least.0;
-        least = no_lower;
-        reduced_fails = own_code first.1 (say k first.0 f.reduced) reduces.0;
-        minimal = without_one (say k first.0) first.1 f.reduced reduces;
-        fewest = fewest (grower k) l d told (has_grown k d is) first.0 first.1 no_lower;
-        keeps_each = λ of_level. keeps_each (grower k) l few_hits d low_depth told (has_grown k d is) first.0 first.1 no_lower of_level
-            (reduction (say k) first.0 first.1 f.scenario).kept f.scenario (scenario_at first.0) (own_code first.1 (say k first.0 f.reduced) reduces.0);
-      })
-
-  found_of : (number code : ℕ) → HasVerdict told number (verdict.Fail code) → (f : FindingFacts) × Contains (report k).findings f × (f.code ≡ code)
-  found_of number code comes =
-      let some = are.complete number code (get_or_from_slice_get (report k).verdicts number (verdict.Fail code) verdict.Pass comes) in
-      (finding (say k) (plans k) some.1, contains_map (finding (say k) (plans k)) firsts some.1 (some.0, some.2, some.3), some.4)
-
-  once_each : AllPairs (λ (f g : FindingFacts). f.code ≢ g.code) (report k).findings
-  once_each i j none less low =
       let size = length-map firsts (finding (say k) (plans k)) in
-      let inside : j < length firsts = omega (arith, low, size) in
-      let a = get_or-map (finding (say k) (plans k)) firsts i (0, 0) none (omega (arith, less, inside)) in
-      let b = get_or-map (finding (say k) (plans k)) firsts j (0, 0) none inside in
-      λ same. are.distinct i j (0, 0) less inside (sym (ap (λ (f : FindingFacts). f.code) a) ∙ same ∙ ap (λ (f : FindingFacts). f.code) b)
+      let here : slice_index_or (report k).findings n none ≡ f = get_or-map (finding (say k) (plans k)) firsts n (0, 0) none (omega (arith, low, size)) in
+      let is : IsReduced (grower k) told f = subst (IsReduced (grower k) told) here (reduced_at k k.label (census k) (plans k) (growth k) told.growth told.behaviours minimal n none low) in
+      subst (IsFinding (grower k) told) (sym here) (record {
+        reduced = is;
+        fewest = fewest (grower k) l d told (has_grown k d is_depth) first.0 first.1 is.least;
+        keeps_each = λ of_level. keeps_each (grower k) l few_hits d low_depth told (has_grown k d is_depth) first.0 first.1 is.least of_level
+            (reduction (say k) first.0 first.1 f.scenario).kept f.scenario (scenario_at first.0) is.reduced_fails;
+      })
 
   cause_at_place : (n : ℕ) (none : CauseFacts) → n < length told.growth.causes → IsToldCause (grower k) told (slice_index_or told.growth.causes n none)
   cause_at_place n none low =
-      let g = has_grown k d is in
+      let g = has_grown k d is_depth in
       let c : CauseFacts = slice_index_or told.growth.causes n none in
       let h : IsCauseOf (grower k) d told c = recursive_at (IsCauseOf (grower k) d told) told.growth.causes n none g.causes_are low in
       let numbers = all_numbers (grower k) l d told g in
@@ -267,7 +210,7 @@ module _ (k : Campaign) (d : ℕ) (is : Some d ≡ k.given.depth) (l : IsLawful 
 
   keeps : Promises (grower k) told
   keeps =
-      let g = has_grown k d is in
+      let g = has_grown k d is_depth in
       record {
         nothing_skipped = skipped_none (grower k) l d told g;
         sizes = sizes_of_levels (grower k) l d told g;
@@ -277,8 +220,8 @@ module _ (k : Campaign) (d : ℕ) (is : Some d ≡ k.given.depth) (l : IsLawful 
         from_then_on = onward_told (grower k) l d told g;
         whole = whole_told (grower k) l d told g;
         findings = finding_at;
-        found = found_of;
-        once = once_each;
+        found = found_of k k.label (census k) (plans k) (growth k) told.growth told.behaviours minimal;
+        once = once_each k k.label (census k) (plans k) (growth k) told.growth told.behaviours minimal;
         causes = cause_at_place;
         caused = has_cause (grower k) l d told g;
         reached = most_reached (grower k) l d told g;

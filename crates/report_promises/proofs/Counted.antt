@@ -35,7 +35,7 @@ of_kinds t l n plan g =
     let tried = rigs_tried t n plan g in
     rigs_kinds t.kinds (rigs_of plan) (kinds_once t l (rigs_of plan) tried) tried (run_of_plan t plan) (rigs_answered t l (rigs_of plan) (rigs_order plan g.can) 0 0)
 
-has_acting : (t : Subject) → IsLawful t → (n : ℕ) (plan : List Rig) → IsGrown t n plan → HasActing t n (run_of_plan t plan)
+pub has_acting : (t : Subject) → IsLawful t → (n : ℕ) (plan : List Rig) → IsGrown t n plan → HasActing t n (run_of_plan t plan)
 has_acting t l n plan g = (
   record { behaves = behaviour_of t (run_of_plan t plan) (plan_path t plan); of_kinds = of_kinds t l n plan g },
   sym (faults_length (run_of_plan t plan)) ∙ ap (λ (x : List Rig). length x) g.runs ∙ g.count,

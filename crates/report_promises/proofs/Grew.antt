@@ -1,23 +1,22 @@
 -- What a report says of plans that grew to a depth: nothing is skipped, nothing is reported twice, and what is reached is the most.
-use Rattle.std.proofs.Common.{◌≡◌, ◌≢◌, ℕ, zero, suc, ◌+◌, ◌<◌, ◌≤◌, Option, Some, List, [], ◌∷◌, ◌++◌, map, length, refl, ap, sym, ◌∙◌, subst, arith, length-append}
+use Rattle.std.proofs.Common.{◌≡◌, ◌≢◌, ℕ, zero, suc, ◌+◌, ◌<◌, ◌≤◌, Option, Some, List, [], ◌∷◌, ◌++◌, map, length, refl, ap, sym, ◌∙◌, arith}
 use Rattle.std.specs.Prelude.{Contains, slice_get, sum}
 use Rattle.std.specs.List.{AllByRecursion, range_with_len}
-use Rattle.std.proofs.lemmas.List.{append-nil, length-map}
+use Rattle.std.proofs.lemmas.List.{append-nil}
 use Rattle.action_eval.specs.declared.rig.Rig.{Rig}
 use Rattle.action_eval.specs.Answers.{Return}
-use Rattle.target_trait.specs.declared.judgement.Verdict.{Verdict}
 use Rattle.grown_plans.specs.Runs.{Met, acting}
 use Rattle.grown_plans.specs.GrownPlans.{Subject, run_of_plan, level, levels, onward, grown, reached, most}
 use Rattle.grown_plans.specs.Promises.{EachTwo, IsOfOne, IsLawful, ReturnsOnward, FaultCase, run_in, verdict_in, IsTried, IsCause, verdict_of_plan}
 use Rattle.report.specs.Reports.{CauseFacts}
-use Rattle.grown_plans.proofs.Members.{two_map}
 use Rattle.grown_plans.proofs.Cases.{skips_nothing, is_whole}
 use Rattle.grown_plans.proofs.Onward.{runs_nothing_twice}
 use Rattle.grown_plans.proofs.FromThenOn.{tries_onward}
 use Rattle.report_promises.specs.Behaviours.{IsBehaviourOfKinds, verdict_at_end, times_hit}
 use Rattle.report_promises.specs.Told.{Told, count_of_levels, count_of_all, IsToldOnce}
-use Rattle.report_promises.proofs.Numbers.{get_map, get_split, get_front, one_number, sizes_sum}
-use Rattle.report_promises.proofs.Cases.{case_for, case_runs, case_ends}
+use Rattle.report_promises.proofs.Numbers.{sizes_sum}
+use Rattle.report_promises.proofs.Cases.{case_for, case_runs}
+use Rattle.report_promises.proofs.Listed.{Lists, all_are, all_counted, by_case, has_behaviour, no_two, told_once}
 
 -- What is reported of a cause is true of the plan of its number.
 abbrev pub IsCauseOf : Subject → ℕ → Told → CauseFacts → Type 0
@@ -40,45 +39,28 @@ module _ (t : Subject) (l : IsLawful t) (d : ℕ) (told : Told) (g : Grew t d to
   pub levels_told : count_of_levels told ≡ length (levels t d)
   levels_told = ap (λ (ns : List ℕ). sum ns) g.sizes ∙ sizes_sum t d
 
+  -- as a list of plans
+  lists : Lists t (levels t d) (onward t d) told
+  lists = record { first_are = levels_told; behind_are = g.onward_are; behaves = g.behaves; comes = g.comes; apart = runs_nothing_twice t l d }
+
   pub all_numbers : count_of_all told ≡ length (grown t d)
-  all_numbers =
-      let a = levels_told in
-      let b = g.onward_are in
-      let c = length-append (levels t d) (onward t d) in
-      omega (arith, a, b, c)
+  all_numbers = all_are t l (levels t d) (onward t d) told lists
 
   pub twice : EachTwo (λ a b. a ≢ b) told.behaviours
-  twice = subst (λ (l : List (List Met)). EachTwo (λ a b. a ≢ b) l) (sym g.behaves) (two_map (λ a b. a ≢ b) (run_of_plan t) (grown t d) (runs_nothing_twice t l d))
+  twice = no_two t l (levels t d) (onward t d) told lists
 
   pub counted : length told.behaviours ≡ count_of_all told
-  counted = ap (λ (l : List (List Met)). length l) g.behaves ∙ length-map (grown t d) (run_of_plan t) ∙ sym all_numbers
+  counted = all_counted t l (levels t d) (onward t d) told lists
 
   pub behaves_at : (n : ℕ) (plan : List Rig) → slice_get (grown t d) n ≡ Some plan → slice_get told.behaviours n ≡ Some (run_of_plan t plan)
-  behaves_at n plan e = ap (λ (l : List (List Met)). slice_get l n) g.behaves ∙ get_map (run_of_plan t) (grown t d) n plan e
+  behaves_at = has_behaviour t l (levels t d) (onward t d) told lists
 
-  -- exactly one plan of those in front, so exactly one number
   once : (xs ys : List (List Rig)) (bound : ℕ) (c : FaultCase t) → grown t d ≡ xs ++ ys → bound ≡ length xs → IsOfOne (IsTried t c) xs → IsToldOnce told bound (run_in t c) (verdict_in t c)
-  once xs ys bound c e b o =
-      let n : ℕ = length o.before in
-      let in_xs : slice_get xs n ≡ Some o.one = ap (λ (l : List (List Rig)). slice_get l n) o.split ∙ get_split o.before o.one o.after in
-      let here : slice_get (grown t d) n ≡ Some o.one = ap (λ (l : List (List Rig)). slice_get l n) e ∙ get_front xs ys n o.one in_xs in
-      let size : length xs ≡ length (o.before ++ o.one ∷ o.after) = ap (λ (l : List (List Rig)). length l) o.split in
-      let sum_is = length-append o.before (o.one ∷ o.after) in
-      let told_so : slice_get told.behaviours n ≡ Some (run_in t c) = behaves_at n o.one here ∙ ap (λ (ms : List Met). Some ms) o.is.0 in
-      record {
-        number = n;
-        below = omega (arith, size, sum_is, b);
-        behaves = told_so;
-        comes = g.comes n o.one here ∙ ap (λ (v : Verdict). Some v) (o.is.1 told.report.seed n);
-        no_other = λ other low same. one_number told.behaviours other n (run_in t c) twice same told_so;
-      }
+  once = told_once t l (levels t d) (onward t d) told lists
 
-  -- for a behaviour, by its case
   of_behaviour : (bound : ℕ) (hits : List Met) (b : IsBehaviourOfKinds t hits) → IsToldOnce told bound (run_in t (case_for t l hits b)) (verdict_in t (case_for t l hits b))
       → IsToldOnce told bound hits (verdict_at_end t hits)
-  of_behaviour bound hits b o =
-      subst (λ (v : Verdict). IsToldOnce told bound hits v) (case_ends t l hits b)
-      (subst (λ (ms : List Met). IsToldOnce told bound ms (verdict_in t (case_for t l hits b))) (case_runs t l hits b) o)
+  of_behaviour = by_case t l (levels t d) (onward t d) told lists
 
   pub skipped_none : (hits : List Met) → IsBehaviourOfKinds t hits → acting hits ≤ told.growth.depth → IsToldOnce told (count_of_levels told) hits (verdict_at_end t hits)
   skipped_none hits b few =

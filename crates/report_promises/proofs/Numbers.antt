@@ -59,7 +59,7 @@ one_number (y ∷ xs) (suc i) zero x e a b = absurd (all_at (λ z. y ≢ z) xs i
 one_number (y ∷ xs) (suc i) (suc k) x e a b = ap suc (one_number xs i k x e.1 a b)
 
 -- how many plans the levels have, by their sizes
-sum_more : (xs : List ℕ) (n : ℕ) → sum (xs ++ n ∷ []) ≡ sum xs + n
+pub sum_more : (xs : List ℕ) (n : ℕ) → sum (xs ++ n ∷ []) ≡ sum xs + n
 sum_more xs n = sum_by-append (λ (x : ℕ). x) xs (n ∷ []) ∙ (let goal : sum xs + (0 + n) ≡ sum xs + n = omega arith in goal)
 
 pub sizes_sum : (t : Subject) (d : ℕ) → sum (map (λ n. length (level t n)) (range_with_len 0 (d + 1))) ≡ length (levels t d)

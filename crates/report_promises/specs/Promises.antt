@@ -25,12 +25,16 @@ without fault scenario = kept (remove (range_with_len 0 (all_faults scenario)) f
 -- ---- a finding
 
 -- A finding has the lowest number that fails with its code. Its reduced scenario fails with that code, and doesn't if any one of its faults is left
--- out. If the number is of a level, no behaviour in which fewer faults act fails with the code, and the reduction keeps each fault.
-pub record IsFinding (t : Subject) (told : Told) (f : FindingFacts) : Type 0 where
+-- out.
+pub record IsReduced (t : Subject) (told : Told) (f : FindingFacts) : Type 0 where
   pub fails : HasVerdict told f.number (Fail f.code)
   pub least : (other : ℕ) → other < f.number → HasVerdict told other (Fail f.code) → ⊥
   pub reduced_fails : verdict_of t told f.number f.reduced ≡ Fail f.code
   pub minimal : (fault : ℕ) → fault < all_faults f.reduced → verdict_of t told f.number (without fault f.reduced) ≢ Fail f.code
+
+-- Besides, if the number is of a level, no behaviour in which fewer faults act fails with the code, and the reduction keeps each fault.
+pub record IsFinding (t : Subject) (told : Told) (f : FindingFacts) : Type 0 where
+  pub reduced : IsReduced t told f
   pub fewest : f.number < count_of_levels told → (found hits : List Met) → HasBehaviour told f.number found → IsBehaviourOfKinds t hits
       → acting hits < acting found → verdict_at_end t hits ≢ Fail f.code
   pub keeps_each : f.number < count_of_levels told → f.reduced ≡ f.scenario

@@ -30,7 +30,7 @@ use Rattle.report_forms.specs.declared.forms.Form.{Form}
 use Rattle.outside_campaign.specs.declared.refusal.OutsideFault.TheVariants as refusal
 use Rattle.outside_grown.specs.Asked.{unrun}
 use Rattle.answered_campaigns.specs.Grown.{known}
-use Rattle.answered_campaigns.specs.Seen.{first_number_seen, report_seen_in}
+use Rattle.answered_campaigns.specs.Seen.{first_number_seen, plans_seen, report_seen_in}
 use Rattle.answered_campaigns.specs.Grown.{campaign as campaign_of}
 use Rattle.answered_campaigns.specs.declared.fault.QuestionFault.{QuestionFault}
 use Rattle.answered_campaigns.specs.declared.fault.QuestionFault.TheVariants as fault
@@ -81,6 +81,12 @@ abbrev pub IsFirstNumberOf : Description → Given → Answered → ℕ → Opti
 IsFirstNumberOf outside given a depth first =
     (t : Subject) → IsComponent a.points a.listed t → AgreesWithRuns t (told_in a.book)
     → first ≡ first_number_seen (campaign_of outside given depth t) depth (runs_in a)
+
+-- The list of each component that agrees has lawful scenarios.
+abbrev pub AreLawfulOf : Description → Given → Answered → ℕ → Type 0
+AreLawfulOf outside given a depth =
+    (t : Subject) → IsComponent a.points a.listed t → AgreesWithRuns t (told_in a.book)
+    → AllByRecursion (λ s. IsScenario s) (plans_seen (campaign_of outside given depth t) depth (runs_in a))
 
 -- The fault names the first open plan, or memory was refused.
 abbrev pub IsOpenPlan : KnownVerdicts → List Entries → QuestionFault → Type 0

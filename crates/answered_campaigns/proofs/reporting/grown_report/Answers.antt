@@ -4,6 +4,7 @@ use Rattle.report.specs.Reports.{FindingFacts}
 use Rattle.answered_runs.specs.Answered.{known_plans, runs_in}
 use Rattle.answered_runs.specs.WholeList.{AreAllTold}
 use Rattle.answered_campaigns.specs.Grown.{known, untried}
+use Rattle.answered_campaigns.proofs.AsSeen.{lawful_seen}
 use Rattle.answered_campaigns.proofs.Read.{reported}
 use Rattle.answered_campaigns.proofs.Refused.{requests_refused, gap_refused, none_to_try, nothing_left, open_refused}
 use Rattle.answered_campaigns.proofs.Told.{are_candidates, decide, err_with, is_listed, lists_told, no_candidates, some_verdict}
@@ -73,4 +74,5 @@ returns-clause-report c =
     let none : untried k.answered k.depth asked ≡ [] =
     nothing_left k.answered k.depth asked (none_to_try k.answered k.depth asked plans (subst (AreAllTold (runs_in k.answered)) s.grown s.told) is verdicts.1)
     (no_candidates k.answered k.depth asked plans k.list.plans c.in-Told.told is s.grown told) in
-    λ answers tells. reported form outside given k.answered k.depth answers c.in_ok-text-in-Told.text.items c.first_number-first.result c.list.ensures.low tells c.in_ok-text-in-Told.ensures first c.requires.unbroken grown none
+    λ answers tells. reported form outside given k.answered k.depth answers c.in_ok-text-in-Told.text.items c.first_number-first.result c.list.ensures.low tells c.in_ok-text-in-Told.ensures first
+    (lawful_seen outside given k c.in_ok-further.further plans all c.in-Told.told decided) c.requires.unbroken grown none

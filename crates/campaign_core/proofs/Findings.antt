@@ -1,0 +1,95 @@
+-- What a report says of failures, over whatever plans: each code with which a plan fails has one finding, which has the least number and is reduced.
+use Rattle.std.proofs.Common.{◌≡◌, ◌≢◌, ℕ, zero, suc, ◌<◌, ◌&&◌, Bool, true, false, Option, Some, All, List, [], ◌∷◌, length, refl, ap, sym, ◌∙◌, subst, arith, eq-eqb}
+use Rattle.std.specs.Prelude.{AllPairs, Contains, remove, slice_get, slice_index_or}
+use Rattle.std.specs.List.{range_with_len}
+use Rattle.std.proofs.lemmas.List.{get_or-map, length-map}
+use Rattle.std.proofs.lemmas.List.FromFn.{length-range_with_len}
+use Rattle.std.proofs.lemmas.Bool.Decides.{nat_tests}
+use Rattle.std.proofs.lemmas.Option.{get_or_from_slice_get}
+use Rattle.scenario_values.specs.Scenario.{Entries, all_faults}
+use Rattle.scenario_values.specs.Keep.{are_faults}
+use Rattle.scenario_values.proofs.Sets.{all_are_faults, without_are_faults}
+use Rattle.target_trait.specs.declared.judgement.Verdict.{Verdict}
+use Rattle.target_trait.specs.declared.judgement.Verdict.TheVariants as verdict
+use Rattle.grown_plans.specs.Runs.{Met}
+use Rattle.grown_plans.proofs.Members.{contains_map}
+use Rattle.result_book.specs.Verdicts.{numbered}
+use Rattle.result_book.specs.FirstFailures.{first_failures, AreFirstFailures}
+use Rattle.result_book.specs.FirstFailure.{FailsAt}
+use Rattle.result_book.proofs.EachCodeLemmas.{firsts_of}
+use Rattle.report.specs.Reports.{FindingFacts, GrowthFacts}
+use Rattle.report_promises.specs.Told.{Told, HasVerdict}
+use Rattle.report_promises.specs.Promises.{IsReduced, without}
+use Rattle.campaign_core.specs.FaultTest.{fails_with}
+use Rattle.campaign_core.specs.Findings.{finding, report_of, IsMinimal, ReducesToMinimal}
+use Rattle.campaign_core.specs.Headline.{Campaign, grower, say}
+
+pub own_code : (code : ℕ) (v : Verdict) → fails_with code v ≡ true → v ≡ verdict.Fail code
+own_code code verdict.Pass e = absurd cc
+own_code code verdict.Unresolved e = absurd cc
+own_code code (verdict.Fail other) e = ap (λ (c : ℕ). verdict.Fail c) (let goal : other ≡ code = grind (arith, nat_tests, e) in goal)
+
+not_own : (code : ℕ) (v : Verdict) → fails_with code v ≡ false → v ≢ verdict.Fail code
+not_own code v fine is = let own : fails_with code (verdict.Fail code) ≡ true = eq-eqb code code refl in let e : true ≡ false = sym own ∙ ap (fails_with code) (sym is) ∙ fine in absurd cc
+
+right_of : (a b : Bool) → (a && b) ≡ true → b ≡ true
+right_of true b e = e
+right_of false b e = absurd cc
+
+right_fails : (a b : Bool) → a ≡ true → (a && b) ≡ false → b ≡ false
+right_fails a b left e = ap (λ c. c && b) (sym left) ∙ e
+
+-- a scenario that is minimal: without any one of its faults it doesn't fail
+without_one : (asked : Entries → Verdict) (code : ℕ) (s : Entries) → IsMinimal asked code s → (fault : ℕ) → fault < all_faults s → asked (without fault s) ≢ verdict.Fail code
+without_one asked code s m fault low =
+    let all : List ℕ = range_with_len 0 (all_faults s) in
+    let size = length-range_with_len 0 (all_faults s) in
+    not_own code (asked (without fault s))
+    (right_fails (are_faults (all_faults s) (remove all fault)) (fails_with code (asked (without fault s)))
+    (without_are_faults (all_faults s) fault all (all_are_faults (all_faults s))) (m.1.each fault (omega (arith, low, size))))
+
+at_number : (vs : List Verdict) (n code : ℕ) → FailsAt vs n code → slice_get vs n ≡ Some (verdict.Fail code)
+at_number [] n code e = absurd cc
+at_number (v ∷ vs) zero code e = ap (λ (x : Verdict). Some x) e
+at_number (v ∷ vs) (suc n) code e = at_number vs n code e
+
+module _ (c : Campaign) (label counts : List ℕ) (entries : List Entries) (growth : Option GrowthFacts) (grew : GrowthFacts) (behaviours : List (List Met))
+    (minimal : All (ReducesToMinimal (say c)) (report_of (say c) label c.given.plans.seed counts entries growth).findings) where
+  abbrev told : Told
+  told = record { report = report_of (say c) label c.given.plans.seed counts entries growth; growth = grew; behaviours = behaviours }
+
+  abbrev firsts : List (ℕ × ℕ)
+  firsts = first_failures (numbered told.report.verdicts)
+
+  are : AreFirstFailures (FailsAt told.report.verdicts) firsts
+  are = firsts_of told.report.verdicts
+
+  -- what is reported of the first failure at a place
+  pub reduced_at : (n : ℕ) (none : FindingFacts) → n < length told.report.findings → IsReduced (grower c) told (slice_index_or told.report.findings n none)
+  reduced_at n none low =
+      let size = length-map firsts (finding (say c) entries) in
+      let inside : n < length firsts = omega (arith, low, size) in
+      let first : ℕ × ℕ = slice_index_or firsts n (0, 0) in
+      let f : FindingFacts = finding (say c) entries first in
+      let here : slice_index_or told.report.findings n none ≡ f = get_or-map (finding (say c) entries) firsts n (0, 0) none inside in
+      let least = are.least n (0, 0) inside in
+      let reduces : ReducesToMinimal (say c) f = subst (ReducesToMinimal (say c)) here (minimal n none low) in
+      subst (IsReduced (grower c) told) (sym here) (record {
+        fails = at_number told.report.verdicts first.0 first.1 least.0;
+        least = λ other less comes. least.1 other less (get_or_from_slice_get told.report.verdicts other (verdict.Fail first.1) verdict.Pass comes);
+        reduced_fails = own_code first.1 (say c first.0 f.reduced) reduces.0;
+        minimal = without_one (say c first.0) first.1 f.reduced reduces;
+      })
+
+  pub found_of : (number code : ℕ) → HasVerdict told number (verdict.Fail code) → (f : FindingFacts) × Contains told.report.findings f × (f.code ≡ code)
+  found_of number code comes =
+      let some = are.complete number code (get_or_from_slice_get told.report.verdicts number (verdict.Fail code) verdict.Pass comes) in
+      (finding (say c) entries some.1, contains_map (finding (say c) entries) firsts some.1 (some.0, some.2, some.3), some.4)
+
+  pub once_each : AllPairs (λ (f g : FindingFacts). f.code ≢ g.code) told.report.findings
+  once_each i j none less low =
+      let size = length-map firsts (finding (say c) entries) in
+      let inside : j < length firsts = omega (arith, low, size) in
+      let a = get_or-map (finding (say c) entries) firsts i (0, 0) none (omega (arith, less, inside)) in
+      let b = get_or-map (finding (say c) entries) firsts j (0, 0) none inside in
+      λ same. are.distinct i j (0, 0) less inside (sym (ap (λ (f : FindingFacts). f.code) a) ∙ same ∙ ap (λ (f : FindingFacts). f.code) b)
