@@ -18,7 +18,7 @@ use Rattle.answer_text.specs.declared.runs.RunLine.{RunLine}
 use Rattle.answer_text.specs.declared.runs.ToldRun.{ToldRun}
 use Rattle.answer_text.specs.Answers.{SpellsRuns, Says, most_bytes}
 use Rattle.answer_text.specs.FirstFault.{answer_in, before_tab, failed_by, failure_in, has_control, of_scenario, or_fault, parts_in, scenario_in, verdict_in}
-use Rattle.answer_text.specs.Hits.{count_of, counted_in, count_in, ends_with, field_by, field_in, hits_in, item_by, item_in, items_from, known_hits, most_hits, with_item}
+use Rattle.answer_text.specs.Hits.{count_of, counted_in, count_in, ends_with, field_by, field_in, hits_in, item_by, item_in, items_from, known_hits, most_hits, name_of, with_item}
 use Rattle.answer_text.specs.Known.{Agrees, AgreesWithLine, AgreesWithText, Ran, TellsLine, TellsText, known_by}
 use Rattle.answer_text.specs.Runs.{answers_of, first_told, is_repeated, known_of, on_line, pieces_from, reading_of, run_in, with_line, with_run}
 use Rattle.answer_text.proofs.Members.{Has, told_gives, told_has, same_printed, AreLawful, lawful_has, lawful_push, told_is, has_either, is_repeated_of, IsOf}
@@ -118,26 +118,26 @@ parts_never line m = by_test (is_utf8 line) (cut 9 line)
     by_test true (Some p) h = absurd cc
     by_test false o h = absurd cc
 
-failed_never : (o : Option ℕ) (m : ℕ) → failed_by o ≡ Err (Contradicts m) → ⊥
-failed_never None m h = absurd cc
-failed_never (Some code) m h = absurd cc
+failed_never : (name : List ℕ) (o : Option ℕ) (m : ℕ) → failed_by name o ≡ Err (Contradicts m) → ⊥
+failed_never name None m h = absurd cc
+failed_never name (Some code) m h = absurd cc
 
-failure_never : (names : List (List ℕ)) (o : Option (List ℕ × List ℕ)) (m : ℕ) → failure_in names o ≡ Err (Contradicts m) → ⊥
-failure_never names None m h = absurd cc
-failure_never names (Some parts) m h = by_test (bytes_eq parts.0 (codes "fail")) h
+failure_never : (names : List (List ℕ)) (word : List ℕ) (o : Option (List ℕ × List ℕ)) (m : ℕ) → failure_in names word o ≡ Err (Contradicts m) → ⊥
+failure_never names word None m h = absurd cc
+failure_never names word (Some parts) m h = by_test (bytes_eq parts.0 (codes "fail")) h
   where
-    by_test : (t : Bool) → cond t (failed_by (position (bytes_eq parts.1) names)) (Err UnknownVerdict) ≡ Err (Contradicts m) → ⊥
-    by_test true k = failed_never (position (bytes_eq parts.1) names) m k
+    by_test : (t : Bool) → cond t (failed_by parts.1 (position (bytes_eq parts.1) names)) (Err (UnknownVerdict word)) ≡ Err (Contradicts m) → ⊥
+    by_test true k = failed_never parts.1 (position (bytes_eq parts.1) names) m k
     by_test false k = absurd cc
 
 verdict_never : (names : List (List ℕ)) (word : List ℕ) (m : ℕ) → verdict_in names word ≡ Err (Contradicts m) → ⊥
 unfolding verdict_in
 verdict_never names word m = by_tests (bytes_eq word (codes "pass")) (bytes_eq word (codes "unresolved"))
   where
-    by_tests : (t u : Bool) → cond t (Ok verdict.Pass) (cond u (Ok verdict.Unresolved) (failure_in names (cut 32 word))) ≡ Err (Contradicts m) → ⊥
+    by_tests : (t u : Bool) → cond t (Ok verdict.Pass) (cond u (Ok verdict.Unresolved) (failure_in names word (cut 32 word))) ≡ Err (Contradicts m) → ⊥
     by_tests true u k = absurd cc
     by_tests false true k = absurd cc
-    by_tests false false k = failure_never names (cut 32 word) m k
+    by_tests false false k = failure_never names word (cut 32 word) m k
 
 scenario_never : (text : List ℕ) (m : ℕ) → scenario_in text ≡ Err (Contradicts m) → ⊥
 unfolding scenario_in
@@ -175,22 +175,22 @@ item_never : (points : List (List ℕ)) (item : List ℕ) (m : ℕ) → item_in 
 unfolding item_in
 item_never points item m = by_place (position (bytes_eq item) points)
   where
-    counted : (o : Option (List ℕ × List ℕ)) → counted_in points o ≡ Err (Contradicts m) → ⊥
+    counted : (o : Option (List ℕ × List ℕ)) → counted_in points item o ≡ Err (Contradicts m) → ⊥
     counted None h = cc
     counted (Some parts) h =
         bind_never (or_fault BadCount (count_in parts.0)) _ (Contradicts m) (or_never (count_in parts.0) BadCount (Contradicts m) (λ e. cc))
-        (λ count. bind_never (or_fault UnknownPoint (position (bytes_eq parts.1) points)) _ (Contradicts m)
-        (or_never (position (bytes_eq parts.1) points) UnknownPoint (Contradicts m) (λ e. cc)) (λ point k. ok_never _ (Contradicts m) k)) h
+        (λ count. bind_never (or_fault (UnknownPoint parts.1) (position (bytes_eq parts.1) points)) _ (Contradicts m)
+        (or_never (position (bytes_eq parts.1) points) (UnknownPoint parts.1) (Contradicts m) (λ e. cc)) (λ point k. ok_never _ (Contradicts m) k)) h
 
     by_place : (o : Option ℕ) → item_by points item o ≡ Err (Contradicts m) → ⊥
     by_place None h = counted (cut 42 item) h
     by_place (Some point) h = cc
 
-with_item_never : (before : List Stretch) (s : Stretch) (m : ℕ) → with_item before s ≡ Err (Contradicts m) → ⊥
+with_item_never : (points : List (List ℕ)) (before : List Stretch) (s : Stretch) (m : ℕ) → with_item points before s ≡ Err (Contradicts m) → ⊥
 unfolding with_item
-with_item_never before s m = by_tests (ends_with before s.point) (ltb most_hits (count_of before + s.count))
+with_item_never points before s m = by_tests (ends_with before s.point) (ltb most_hits (count_of before + s.count))
   where
-    by_tests : (t u : Bool) → cond t (Err NotJoined) (cond u (Err BadCount) (Ok (before ++ s ∷ []))) ≡ Err (Contradicts m) → ⊥
+    by_tests : (t u : Bool) → cond t (Err (NotJoined (name_of points s.point))) (cond u (Err BadCount) (Ok (before ++ s ∷ []))) ≡ Err (Contradicts m) → ⊥
     by_tests true u h = cc
     by_tests false true h = cc
     by_tests false false h = cc
@@ -200,7 +200,7 @@ unfolding items_from
 items_never points before [] m h = cc
 items_never points before (item ∷ items) m h =
     bind_never (item_in points item) _ (Contradicts m) (item_never points item m)
-    (λ s. bind_never (with_item before s) _ (Contradicts m) (with_item_never before s m) (λ after. items_never points after items m)) h
+    (λ s. bind_never (with_item points before s) _ (Contradicts m) (with_item_never points before s m) (λ after. items_never points after items m)) h
 
 hits_never : (points : List (List ℕ)) (text : List ℕ) (m : ℕ) → hits_in points text ≡ Err (Contradicts m) → ⊥
 hits_never points [] m h = cc

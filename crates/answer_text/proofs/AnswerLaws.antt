@@ -40,17 +40,17 @@ bytes_are xs ys h = (bytes_eq-Decides xs ys).0 h
 
 -- ---- verdicts
 
-failed_gives : (names : List (List ℕ)) (word name : List ℕ) (v : Verdict) (o : Option ℕ) → word ≡ codes "fail " ++ name → position (bytes_eq name) names ≡ o → failed_by o ≡ Ok v → SpellsVerdict names word v
+failed_gives : (names : List (List ℕ)) (word name : List ℕ) (v : Verdict) (o : Option ℕ) → word ≡ codes "fail " ++ name → position (bytes_eq name) names ≡ o → failed_by name o ≡ Ok v → SpellsVerdict names word v
 failed_gives names word name v None parts is h = absurd cc
 failed_gives names word name v (Some code) parts is h =
     let P : Verdict → Type 0 = λ w. SpellsVerdict names word w in
     subst P (yes_is (verdict.Fail code) v h) (record { name = name; parts = parts; place = is })
 
-failure_gives : (names : List (List ℕ)) (word : List ℕ) (v : Verdict) (o : Option (List ℕ × List ℕ)) → cut 32 word ≡ o → failure_in names o ≡ Ok v → SpellsVerdict names word v
+failure_gives : (names : List (List ℕ)) (word : List ℕ) (v : Verdict) (o : Option (List ℕ × List ℕ)) → cut 32 word ≡ o → failure_in names word o ≡ Ok v → SpellsVerdict names word v
 failure_gives names word v None is h = absurd cc
 failure_gives names word v (Some parts) is h = by_test (bytes_eq parts.0 (codes "fail")) refl h
   where
-    by_test : (t : Bool) → bytes_eq parts.0 (codes "fail") ≡ t → cond t (failed_by (position (bytes_eq parts.1) names)) (Err UnknownVerdict) ≡ Ok v → SpellsVerdict names word v
+    by_test : (t : Bool) → bytes_eq parts.0 (codes "fail") ≡ t → cond t (failed_by parts.1 (position (bytes_eq parts.1) names)) (Err (UnknownVerdict word)) ≡ Ok v → SpellsVerdict names word v
     by_test true e k =
         let front : parts.0 ≡ codes "fail" = bytes_are parts.0 (codes "fail") e in
         let whole : word ≡ codes "fail " ++ parts.1 = cut_gives 32 word parts.0 parts.1 is ∙ ap (λ (f : List ℕ). f ++ (32 ∷ parts.1)) front in
@@ -64,7 +64,7 @@ verdict_gives names word v h = by_tests (bytes_eq word (codes "pass")) (bytes_eq
     P : Verdict → Type 0
     P w = SpellsVerdict names word w
 
-    by_tests : (t u : Bool) → bytes_eq word (codes "pass") ≡ t → bytes_eq word (codes "unresolved") ≡ u → cond t (Ok verdict.Pass) (cond u (Ok verdict.Unresolved) (failure_in names (cut 32 word))) ≡ Ok v → SpellsVerdict names word v
+    by_tests : (t u : Bool) → bytes_eq word (codes "pass") ≡ t → bytes_eq word (codes "unresolved") ≡ u → cond t (Ok verdict.Pass) (cond u (Ok verdict.Unresolved) (failure_in names word (cut 32 word))) ≡ Ok v → SpellsVerdict names word v
     by_tests true u e f k = subst (λ (w : Verdict). SpellsVerdict names word w) (yes_is verdict.Pass v k) (bytes_are word (codes "pass") e)
     by_tests false true e f k = subst (λ (w : Verdict). SpellsVerdict names word w) (yes_is verdict.Unresolved v k) (bytes_are word (codes "unresolved") f)
     by_tests false false e f k = failure_gives names word v (cut 32 word) refl k
@@ -75,7 +75,7 @@ verdict_read names word verdict.Pass h = rw h refl
 verdict_read names word verdict.Unresolved h = rw h refl
 verdict_read names word (verdict.Fail code) h =
     let cut_is : cut 32 (codes "fail " ++ h.name) ≡ Some (codes "fail", h.name) = cut_at 32 (codes "fail") h.name refl in
-    rw h.parts (ap (failure_in names) cut_is ∙ ap failed_by h.place)
+    rw h.parts (ap (failure_in names (codes "fail " ++ h.name)) cut_is ∙ ap (failed_by h.name) h.place)
 
 -- ---- scenarios
 

@@ -33,7 +33,7 @@ leads_from points (x ∷ text) b e h = refl
 pub begins : (points : List (List ℕ)) (text : List ℕ) (hits : List Stretch) (b : Bool) → hits ≡ [] → b ≡ eqb (length text) 0 → b ≡ false → Leads points text text hits
 begins points text hits b e f h = rw e (leads_from points text b f h)
 
-item_goes : (points : List (List ℕ)) (before after : List Stretch) (item : List ℕ) (items : List (List ℕ)) (s : Stretch) → item_in points item ≡ Ok s → with_item before s ≡ Ok after
+item_goes : (points : List (List ℕ)) (before after : List Stretch) (item : List ℕ) (items : List (List ℕ)) (s : Stretch) → item_in points item ≡ Ok s → with_item points before s ≡ Ok after
     → items_from points before (item ∷ items) ≡ items_from points after items
 unfolding items_from
 item_goes points before after item items s h k = rw (h, k) refl
@@ -42,7 +42,7 @@ item_stops : (points : List (List ℕ)) (before : List Stretch) (item : List ℕ
 unfolding items_from
 item_stops points before item items f h = rw h refl
 
-hits_stop : (points : List (List ℕ)) (before : List Stretch) (item : List ℕ) (items : List (List ℕ)) (s : Stretch) (f : LineFault) → item_in points item ≡ Ok s → with_item before s ≡ Err f
+hits_stop : (points : List (List ℕ)) (before : List Stretch) (item : List ℕ) (items : List (List ℕ)) (s : Stretch) (f : LineFault) → item_in points item ≡ Ok s → with_item points before s ≡ Err f
     → items_from points before (item ∷ items) ≡ Err f
 unfolding items_from
 hits_stop points before item items s f h k = rw (h, k) refl
@@ -53,7 +53,7 @@ none_left points hits = refl
 
 -- ---- an item with more behind it
 
-pub leads_on : (points : List (List ℕ)) (text rest item after : List ℕ) (hits more : List Stretch) (s : Stretch) → cut 59 rest ≡ Some (item, after) → Leads points text rest hits → item_in points item ≡ Ok s → with_item hits s ≡ Ok more
+pub leads_on : (points : List (List ℕ)) (text rest item after : List ℕ) (hits more : List Stretch) (s : Stretch) → cut 59 rest ≡ Some (item, after) → Leads points text rest hits → item_in points item ≡ Ok s → with_item points hits s ≡ Ok more
     → Leads points text after more
 unfolding Leads
 leads_on points text rest item after hits more s cuts l h k =
@@ -64,14 +64,14 @@ unfolding Leads
 item_fails points text rest item after hits e cuts l h =
     fails_by e (item_in points item) (hits_in points text) (λ f k. sym l ∙ ap (items_from points hits) (split_first_at 59 rest item after cuts) ∙ item_stops points hits item (slice_split (λ b. eqb b 59) after) f k) h
 
-pub hits_fail : (points : List (List ℕ)) (text rest item after : List ℕ) (hits : List Stretch) (s : Stretch) (e : LineError) → cut 59 rest ≡ Some (item, after) → Leads points text rest hits → item_in points item ≡ Ok s → Fails e (with_item hits s) → Fails e (hits_in points text)
+pub hits_fail : (points : List (List ℕ)) (text rest item after : List ℕ) (hits : List Stretch) (s : Stretch) (e : LineError) → cut 59 rest ≡ Some (item, after) → Leads points text rest hits → item_in points item ≡ Ok s → Fails e (with_item points hits s) → Fails e (hits_in points text)
 unfolding Leads
 hits_fail points text rest item after hits s e cuts l i h =
-    fails_by e (with_item hits s) (hits_in points text) (λ f k. sym l ∙ ap (items_from points hits) (split_first_at 59 rest item after cuts) ∙ hits_stop points hits item (slice_split (λ b. eqb b 59) after) s f i k) h
+    fails_by e (with_item points hits s) (hits_in points text) (λ f k. sym l ∙ ap (items_from points hits) (split_first_at 59 rest item after cuts) ∙ hits_stop points hits item (slice_split (λ b. eqb b 59) after) s f i k) h
 
 -- ---- the last item
 
-pub last_read : (points : List (List ℕ)) (text rest : List ℕ) (hits all : List Stretch) (s : Stretch) → cut 59 rest ≡ None → Leads points text rest hits → item_in points rest ≡ Ok s → with_item hits s ≡ Ok all → hits_in points text ≡ Ok all
+pub last_read : (points : List (List ℕ)) (text rest : List ℕ) (hits all : List Stretch) (s : Stretch) → cut 59 rest ≡ None → Leads points text rest hits → item_in points rest ≡ Ok s → with_item points hits s ≡ Ok all → hits_in points text ≡ Ok all
 unfolding Leads
 last_read points text rest hits all s cuts l h k =
     sym l ∙ ap (items_from points hits) (split_none_at 59 rest cuts) ∙ item_goes points hits all rest [] s h k ∙ none_left points all
@@ -81,7 +81,7 @@ unfolding Leads
 last_item_fails points text rest hits e cuts l h =
     fails_by e (item_in points rest) (hits_in points text) (λ f k. sym l ∙ ap (items_from points hits) (split_none_at 59 rest cuts) ∙ item_stops points hits rest [] f k) h
 
-pub last_hits_fail : (points : List (List ℕ)) (text rest : List ℕ) (hits : List Stretch) (s : Stretch) (e : LineError) → cut 59 rest ≡ None → Leads points text rest hits → item_in points rest ≡ Ok s → Fails e (with_item hits s) → Fails e (hits_in points text)
+pub last_hits_fail : (points : List (List ℕ)) (text rest : List ℕ) (hits : List Stretch) (s : Stretch) (e : LineError) → cut 59 rest ≡ None → Leads points text rest hits → item_in points rest ≡ Ok s → Fails e (with_item points hits s) → Fails e (hits_in points text)
 unfolding Leads
 last_hits_fail points text rest hits s e cuts l i h =
-    fails_by e (with_item hits s) (hits_in points text) (λ f k. sym l ∙ ap (items_from points hits) (split_none_at 59 rest cuts) ∙ hits_stop points hits rest [] s f i k) h
+    fails_by e (with_item points hits s) (hits_in points text) (λ f k. sym l ∙ ap (items_from points hits) (split_none_at 59 rest cuts) ∙ hits_stop points hits rest [] s f i k) h

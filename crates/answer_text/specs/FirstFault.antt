@@ -29,19 +29,21 @@ or_fault fault None = Err fault
 or_fault fault (Some x) = Ok x
 
 -- A failure with this code, if one has the name.
-abbrev pub failed_by : Option ℕ → Result Verdict LineFault
-failed_by None = Err UnknownCode
-failed_by (Some code) = Ok (verdict.Fail code)
+abbrev pub failed_by : List ℕ → Option ℕ → Result Verdict LineFault
+failed_by name None = Err (UnknownCode name)
+failed_by name (Some code) = Ok (verdict.Fail code)
 
-abbrev pub failure_in : List (List ℕ) → Option (List ℕ × List ℕ) → Result Verdict LineFault
-failure_in names None = Err UnknownVerdict
-failure_in names (Some parts) = if bytes_eq parts.0 (codes "fail") then failed_by (position (bytes_eq parts.1) names) else Err UnknownVerdict
+-- A failure, if the word's parts are `fail` and the name of a code.
+abbrev pub failure_in : List (List ℕ) → List ℕ → Option (List ℕ × List ℕ) → Result Verdict LineFault
+failure_in names word None = Err (UnknownVerdict word)
+failure_in names word (Some parts) =
+    if bytes_eq parts.0 (codes "fail") then failed_by parts.1 (position (bytes_eq parts.1) names) else Err (UnknownVerdict word)
 
 unfoldable pub verdict_in : List (List ℕ) → List ℕ → Result Verdict LineFault
 verdict_in names word =
     if bytes_eq word (codes "pass") then Ok verdict.Pass
     else if bytes_eq word (codes "unresolved") then Ok verdict.Unresolved
-    else failure_in names (cut 32 word)
+    else failure_in names word (cut 32 word)
 
 -- Whether a byte of the text is an ASCII control character.
 abbrev pub has_control : List ℕ → Bool

@@ -34,8 +34,11 @@ most_hits = 65536
 abbrev pub count_text : ℕ → List ℕ
 count_text count = if count == 1 then [] else decimal count ++ codes "*"
 
+abbrev pub name_of : List (List ℕ) → ℕ → List ℕ
+name_of points point = slice_index_or points point []
+
 abbrev pub stretch_text : List (List ℕ) → Stretch → List ℕ
-stretch_text points s = count_text s.count ++ slice_index_or points s.point []
+stretch_text points s = count_text s.count ++ name_of points s.point
 
 abbrev pub hits_text : List (List ℕ) → List Stretch → List ℕ
 hits_text points [] = []
@@ -53,14 +56,14 @@ abbrev pub count_in : List ℕ → Option ℕ
 count_in text = count_by text (number_up_to most_hits text)
 
 -- A count of hits in a row, and the name of their point.
-abbrev pub counted_in : List (List ℕ) → Option (List ℕ × List ℕ) → Result Stretch LineFault
-counted_in points None = Err UnknownPoint
-counted_in points (Some parts) = or_fault BadCount (count_in parts.0) >>= λ count.
-    or_fault UnknownPoint (position (bytes_eq parts.1) points) >>= λ point. Ok (stretch point count)
+abbrev pub counted_in : List (List ℕ) → List ℕ → Option (List ℕ × List ℕ) → Result Stretch LineFault
+counted_in points item None = Err (UnknownPoint item)
+counted_in points item (Some parts) = or_fault BadCount (count_in parts.0) >>= λ count.
+    or_fault (UnknownPoint parts.1) (position (bytes_eq parts.1) points) >>= λ point. Ok (stretch point count)
 
 -- A point's whole name is one hit, even if it looks like counted hits of another point.
 abbrev pub item_by : List (List ℕ) → List ℕ → Option ℕ → Result Stretch LineFault
-item_by points item None = counted_in points (cut 42 item)
+item_by points item None = counted_in points item (cut 42 item)
 item_by points item (Some point) = Ok (stretch point 1)
 
 unfoldable pub item_in : List (List ℕ) → List ℕ → Result Stretch LineFault
@@ -75,16 +78,16 @@ abbrev pub ends_with : List Stretch → ℕ → Bool
 ends_with hits point = is_of (slice_get hits (length hits - 1)) point
 
 -- The hits with those of one more item.
-unfoldable pub with_item : List Stretch → Stretch → Result (List Stretch) LineFault
-with_item before s =
-    if ends_with before s.point then Err NotJoined
+unfoldable pub with_item : List (List ℕ) → List Stretch → Stretch → Result (List Stretch) LineFault
+with_item points before s =
+    if ends_with before s.point then Err (NotJoined (name_of points s.point))
     else if nat_lt most_hits (count_of before + s.count) then Err BadCount
     else Ok (before ++ s ∷ [])
 
 -- The hits with those of the items between the `;`.
 unfoldable pub items_from : List (List ℕ) → List Stretch → List (List ℕ) → Result (List Stretch) LineFault
 items_from points before [] = Ok before
-items_from points before (item ∷ items) = item_in points item >>= λ s. with_item before s >>= λ after. items_from points after items
+items_from points before (item ∷ items) = item_in points item >>= λ s. with_item points before s >>= λ after. items_from points after items
 
 abbrev pub hits_in : List (List ℕ) → List ℕ → Result (List Stretch) LineFault
 hits_in points [] = Ok []

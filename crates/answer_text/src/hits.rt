@@ -11,7 +11,7 @@ ghost use Rattle.answer_text.specs.Hits.{are_same, count_in, count_of, ends_with
 use crate::fault::{LineError, LineFault};
 use crate::names::PointNames;
 use itoa::Buffer;
-use scenario_grammar::cut_once;
+use scenario_grammar::{Text, cut_once};
 use std::alloc::{AllocError, Global};
 use std::marker::Model;
 use target_trait::Verdict;
@@ -122,21 +122,22 @@ fn count_in(text: &str) -> Option<u32>
 
 /// The hits of an item: a point's name, or a count, a `*` and a point's name.
 #[tactic(auto, unfolding(crate::specs::Hits::item_in))]
-fn item_in(points: &PointNames<'_>, item: &str) -> Result<Stretch, LineError>
+fn item_in(alloc: Global, points: &PointNames<'_>, item: &str) -> Result<Stretch, LineError>
     ensures { Gives (λ s. s) result (item_in points.now item.now) }
 {
     if let Some(point) = points.place_of(item) {
         return Ok(Stretch { point, count: 1 });
     }
     let Some((count, name)) = cut_once(item, '*') else {
-        return Err(LineError::Bad(LineFault::UnknownPoint));
+        let name = Text::copy_of(alloc, item)?;
+        return Err(LineError::Bad(LineFault::UnknownPoint(name)));
     };
     let Some(count) = count_in(count) else {
         return Err(LineError::Bad(LineFault::BadCount));
     };
     match points.place_of(name) {
         Some(point) => Ok(Stretch { point, count }),
-        None => Err(LineError::Bad(LineFault::UnknownPoint)),
+        None => Err(LineError::Bad(LineFault::UnknownPoint(Text::copy_of(alloc, name)?))),
     }
 }
 
@@ -152,13 +153,20 @@ fn ends_with(hits: &[Stretch], point: u32) -> bool
 
 /// Adds the hits of one more item to those that are there, `total` in number, and returns how many there are then. An `Err` changes nothing.
 #[tactic(auto, unfolding(crate::specs::Hits::with_item))]
-fn add(hits: &mut Vec<Stretch>, total: u32, stretch: Stretch) -> Result<u32, LineError>
+fn add(
+    alloc: Global,
+    points: &PointNames<'_>,
+    hits: &mut Vec<Stretch>,
+    total: u32,
+    stretch: Stretch,
+) -> Result<u32, LineError>
     requires { total ≡ count_of hits.old.items }
-    ensures added { Gives (λ _. hits.new.items) result (with_item hits.old.items stretch) }
+    ensures added { Gives (λ _. hits.new.items) result (with_item points.now hits.old.items stretch) }
     ensures total { IfOk result (λ more. more ≡ count_of hits.new.items) }
 {
     if ends_with(hits.as_slice(), stretch.point) {
-        return Err(LineError::Bad(LineFault::NotJoined));
+        let name = Text::copy_of(alloc, points.name_of(stretch.point))?;
+        return Err(LineError::Bad(LineFault::NotJoined(name)));
     }
     match total.checked_add(stretch.count) {
         Some(more) if more <= MOST_HITS => {
@@ -201,12 +209,12 @@ pub fn hits_in(alloc: Global, points: &PointNames<'_>, text: &str) -> Result<Hit
     let mut total = 0;
     let mut rest = text;
     while let Some((item, after)) = cut_once(rest, ';') {
-        let stretch = item_in(points, item)?;
-        total = add(&mut hits, total, stretch)?;
+        let stretch = item_in(alloc, points, item)?;
+        total = add(alloc, points, &mut hits, total, stretch)?;
         rest = after;
     }
-    let stretch = item_in(points, rest)?;
-    add(&mut hits, total, stretch)?;
+    let stretch = item_in(alloc, points, rest)?;
+    add(alloc, points, &mut hits, total, stretch)?;
     Ok(Hits { stretches: hits })
 }
 

@@ -80,7 +80,7 @@ fn answer_in<'a>(
     ensures { Gives (λ x. ((x.0.0, x.0.1), option_map (λ text. text.now) x.1)) result (answer_in codes.now line.now) }
 {
     let (word, rest) = parts_in(line)?;
-    let verdict = verdict_in(codes, word)?;
+    let verdict = verdict_in(alloc, codes, word)?;
     let (text, field) = fields_of(rest);
     let scenario = scenario_in(alloc, text)?;
     Ok(((tidy(alloc, &scenario)?, verdict), field))

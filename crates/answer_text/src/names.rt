@@ -1,6 +1,7 @@
 //! Names of points, looked up.
 ghost use Rattle.std.specs.Prelude.{◌≡◌, ◌<◌, ◌^◌, length, position, IfOk};
 ghost use Rattle.std.specs.Str.{bytes_eq};
+ghost use Rattle.answer_text.specs.Hits.{name_of};
 
 use indexmap::IndexMap;
 use scenario_values::Text;
@@ -39,6 +40,16 @@ impl<'a> PointNames<'a> {
             places.insert(names[number].as_str(), number as u32)?;
         }
         Ok(PointNames { names, places })
+    }
+
+    /// The name at a place, or the empty text where there is none.
+    pub fn name_of(&self, place: u32) -> &str
+        ensures { result.now ≡ name_of self.now place }
+    {
+        match self.names.get(place as usize) {
+            Some(name) => name.as_str(),
+            None => "",
+        }
     }
 
     /// The first place of a name.

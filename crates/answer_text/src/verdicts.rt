@@ -6,6 +6,7 @@ ghost use Rattle.answer_text.specs.FirstFault.{Gives, verdict_in};
 use crate::fault::{LineError, LineFault};
 use scenario_grammar::cut_once;
 use scenario_values::Text;
+use std::alloc::Global;
 use target_trait::Verdict;
 
 /// The place of a name among names.
@@ -17,7 +18,7 @@ pub fn place_of(name: &str, names: &[Text]) -> Option<usize>
 
 /// The verdict that a word spells, if each code is named by its text.
 #[tactic(auto, unfolding(crate::specs::FirstFault::verdict_in))]
-pub fn verdict_in(codes: &[Text], word: &str) -> Result<Verdict, LineError>
+pub fn verdict_in(alloc: Global, codes: &[Text], word: &str) -> Result<Verdict, LineError>
     requires { length codes.now < 2 ^ 32 }
     ensures { Gives (λ v. v) result (verdict_in codes.now word.now) }
 {
@@ -27,9 +28,9 @@ pub fn verdict_in(codes: &[Text], word: &str) -> Result<Verdict, LineError>
         _ => match cut_once(word, ' ') {
             Some(("fail", name)) => match place_of(name, codes) {
                 Some(code) => Ok(Verdict::Fail(code as u32)),
-                None => Err(LineError::Bad(LineFault::UnknownCode)),
+                None => Err(LineError::Bad(LineFault::UnknownCode(Text::copy_of(alloc, name)?))),
             },
-            _ => Err(LineError::Bad(LineFault::UnknownVerdict)),
+            _ => Err(LineError::Bad(LineFault::UnknownVerdict(Text::copy_of(alloc, word)?))),
         },
     }
 }
