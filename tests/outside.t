@@ -102,10 +102,10 @@ Answers may tell hits without a depth too. Then each run that tells them is expl
   hit 2 a 2 return
   idle b=1*return
   $ paklour report --explain a=return met.toml < told
-  answers: line 3: hits unknown
+  answers: line 3: hits unknown; only a run whose hits are recorded can be explained
   [2]
   $ paklour report --explain a=1*panic met.toml < told
-  answers: line 4: hits unknown
+  answers: line 4: hits unknown; only a run whose hits are recorded can be explained
   [2]
   $ paklour report --explain b=return met.toml < told
   not answered b=return
@@ -114,52 +114,59 @@ Answers may tell hits without a depth too. Then each run that tells them is expl
 The hits of the run without faults have to be those of the settings. What one line tells of hits and another doesn't, or tells otherwise, contradicts it.
 
   $ for question in asks report 'report --partial'; do sed 's/none\ta/none\t2*a/' told | paklour $question met.toml; done
-  answers: line 1: hits differ from the settings
-  answers: line 1: hits differ from the settings
-  answers: line 1: hits differ from the settings
+  answers: line 1: hits differ from the settings; the hits of none are those of outside.hits
+  answers: line 1: hits differ from the settings; the hits of none are those of outside.hits
+  answers: line 1: hits differ from the settings; the hits of none are those of outside.hits
   [2]
   $ (cat told; printf 'pass\ta=return\ta\n') | paklour asks met.toml
-  answers: line 6: contradicts line 3
+  answers: line 6: contradicts line 3, which answers the same scenario otherwise
   [2]
   $ (cat told; printf 'pass\tnone\n') | paklour asks met.toml
-  answers: line 6: contradicts line 1
+  answers: line 6: contradicts line 1, which answers the same scenario otherwise
   [2]
   $ printf 'pass\tnone\ta;c\n' | paklour asks met.toml
-  answers: line 1: unknown point
+  answers: line 1: no such point "c"; points are a, b
   [2]
 
 Each fault of the answers is told with its line; the first one is told.
 
   $ told() { printf "$1" | paklour report small.toml; }
   $ told 'pass none\n'
-  answers: line 1: no tab
+  answers: line 1: no tab; a verdict and a scenario are written with a tab between them
   [2]
   $ told 'pass\tnone\npassed\ta=return\n'
-  answers: line 2: unknown verdict
+  answers: line 2: no such verdict "passed"; verdicts are pass, unresolved, and fail with a code
   [2]
   $ told 'fail lost\tnone\nfail\tnone\n'
-  answers: line 2: unknown verdict
+  answers: line 2: no such verdict "fail"; verdicts are pass, unresolved, and fail with a code
   [2]
   $ told 'fail stale\tnone\n'
-  answers: line 1: unknown code
+  answers: line 1: no such code "stale"; codes are lost, torn
+  [2]
+  $ told 'fail \tnone\n'
+  answers: line 1: no such code ""; codes are lost, torn
+  [2]
+  $ sed 's/^codes = .*/codes = []/' small.toml > none.toml
+  $ printf 'fail lost\tnone\n' | paklour report none.toml
+  answers: line 1: no such code "lost"; there are no codes
   [2]
   $ told 'pass\ta=retrun\n'
   answers: line 1: UnknownTask entry 1 term 1
   [2]
   $ told 'pass\ta=return(\001)\n'
-  answers: line 1: control byte
+  answers: line 1: a control character in the scenario; a scenario has none
   [2]
   $ told 'pass\t\377\n'
   answers: line 1: not UTF-8
   [2]
   $ told 'pass\tnone\npass\ta=return'
-  answers: line 2: not ended
+  answers: line 2: not ended; a line feed is missing, so the line may have been cut off: delete it
   [2]
   $ told '\n'
-  answers: line 1: no tab
+  answers: line 1: no tab; a verdict and a scenario are written with a tab between them
   [2]
   $ told 'pass\ta=1*return\nfail torn\tnone\nunresolved\ta= 1*return -> off\n'
-  answers: line 3: contradicts line 1
+  answers: line 3: contradicts line 1, which answers the same scenario otherwise
   [2]
   $ paklour asks small.toml < .
   answers: not readable

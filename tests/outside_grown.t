@@ -232,22 +232,25 @@ What is wrong with a line
 
   $ told() { line "$@" | paklour asks three.toml; }
   $ printf 'pass\tnone\n' | paklour asks three.toml
-  answers: line 1: no hits
+  answers: line 1: no hits; with a depth they stand behind a second tab, or - if nobody knows them
   [2]
   $ told pass none 'a;d'
-  answers: line 1: unknown point
+  answers: line 1: no such point "d"; points are a, b, c
   [2]
   $ told pass none 'a;'
-  answers: line 1: unknown point
+  answers: line 1: no such point ""; points are a, b, c
   [2]
   $ told pass none 'a; b'
-  answers: line 1: unknown point
+  answers: line 1: no such point " b"; points are a, b, c
   [2]
   $ told pass none 'a;a'
-  answers: line 1: not joined
+  answers: line 1: one point twice in a row; write it once with its count, such as 2*a
   [2]
   $ told pass none '2*a;3*a'
-  answers: line 1: not joined
+  answers: line 1: one point twice in a row; write it once with its count, such as 2*a
+  [2]
+  $ told pass none 'a;2*d'
+  answers: line 1: no such point "d"; points are a, b, c
   [2]
   $ told pass none '1*a'
   answers: line 1: bad count
@@ -274,10 +277,10 @@ A line has 65536 hits at most, and is refused before any hit is made of its coun
   answers: line 1: UnknownTask entry 1 term 1
   [2]
   $ { line pass 'b=1*return' 'a;b'; line pass ' b=1*return' 'a;b;c'; } | paklour asks three.toml
-  answers: line 2: contradicts line 1
+  answers: line 2: contradicts line 1, which answers the same scenario otherwise
   [2]
   $ { line pass 'b=1*return' 'a;b'; line unresolved ' b=1*return' 'a;b'; } | paklour asks three.toml
-  answers: line 2: contradicts line 1
+  answers: line 2: contradicts line 1, which answers the same scenario otherwise
   [2]
 
 A component that doesn't do the same twice
@@ -368,7 +371,7 @@ Hits that nobody knows
 A run without them has no children, and the report counts it. Another verdict than `unresolved` tells hits.
 
   $ told pass none -
-  answers: line 1: unknown point
+  answers: line 1: no such point "-"; points are a, b, c
   [2]
   $ { line pass none 'a;b'; line unresolved 'a=1*return' -; } > unknown
   $ paklour asks three.toml < unknown
@@ -405,7 +408,7 @@ A run without them has no children, and the report counts it. Another verdict th
   plans 5
   counts pass 4 unresolved 1
   $ paklour report --explain 'a = 1*return' three.toml < unknown
-  answers: line 2: hits unknown
+  answers: line 2: hits unknown; only a run whose hits are recorded can be explained
   [2]
 
 Of a run without faults nobody may know them either: then there is no census, and no plan but it.

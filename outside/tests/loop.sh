@@ -8,8 +8,8 @@ brief= strict=
 [ "$2" != --strict ] || { strict=yes; set -- "$1" "$3"; }
 cat > "$0.in"
 [ -z "${REFUSES-}" ] || { [ "$1" = asks ] && { echo 'settings: unknown key what' >&2; exit 2; }; }
-[ "$1" != asks ] || ! line=$(grep -n -m 1 bad "$0.in") || { echo "answers: line ${line%%:*}: unknown verdict" >&2; exit 2; }
-[ "$1" != asks ] || ! line=$(grep -n -m 1 power::keep "$0.in") || { echo "answers: line ${line%%:*}: unknown point" >&2; exit 2; }
+[ "$1" != asks ] || ! line=$(grep -n -m 1 bad "$0.in") || { echo "answers: line ${line%%:*}: no such verdict \"bad\"; verdicts are some" >&2; exit 2; }
+[ "$1" != asks ] || ! line=$(grep -n -m 1 power::keep "$0.in") || { echo "answers: line ${line%%:*}: no such point \"power::keep\"; points are b" >&2; exit 2; }
 [ -z "${NOTE-}" ] || [ "$brief" ] || echo "$NOTE" >&2
 case $1 in
 asks) cut -f 2 "$0.in" | grep -vxF -f - "$2" | grep -v depth | head -n "${ROUND:-3}" ;;
@@ -203,13 +203,13 @@ printf '%s\n' '#!/bin/sh' 'yes x | tr -d "\n"' > "$here/bin/answers_on"
 printf '%s\n' '#!/bin/sh' 'printf "pass\t%s" "$1"' > "$here/bin/ends_no_line"
 chmod +x "$here"/bin/*
 PATH="$here/bin:$PATH" ROUND=7 ./loop -j 1 "$here/list" "$here/answers" "$here/bin/misspells" > "$here/said" 2>&1
-is 'an answer that cannot be read' '2 answers: line 2: unknown verdict' "$? $(cat "$here/said")"
+is 'an answer that cannot be read' '2 answers: line 2: no such verdict "bad"; verdicts are some' "$? $(cat "$here/said")"
 is 'ends the loop before the round does' yes "$([ "$(wc -l < "$here/answers")" -lt 7 ] && echo yes)"
 printf '%s\n' '#!/bin/sh' 'printf "pass\t%s\tb;2*power::keep;b\n" "$1"' > "$here/bin/keeps"
 chmod +x "$here/bin/keeps"
 rm -f "$here/answers"
 printf '%s\n' 'depth = 1 # "b"' none > "$here/named"
-is 'a point that the settings lack is named' "answers: line 1: unknown point,loop: line 1 hits power::keep: add it to the points of $here/named" \
+is 'a point that the settings lack is named' "answers: line 1: no such point \"power::keep\"; points are b,loop: line 1 hits power::keep: add it to the points of $here/named" \
     "$(PATH="$here/bin:$PATH" ./loop "$here/named" "$here/answers" "$here/bin/keeps" 2>&1 | paste -s -d ,)"
 rm "$here/answers"
 echo none > "$here/one"

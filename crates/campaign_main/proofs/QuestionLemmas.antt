@@ -8,6 +8,7 @@ use Rattle.answer_text.specs.declared.fault.AnswersFault.{AnswersFault}
 use Rattle.answer_text.specs.declared.fault.AnswersFault.TheVariants as answers
 use Rattle.std.specs.List.{slice_split}
 use Rattle.std.proofs.lemmas.Bool.{lt-ltb}
+use Rattle.campaign_given.specs.Description.{Description}
 use Rattle.campaign_settings.specs.Settings.{Cause, Read, RefusedBy, settings_of, too_long}
 use Rattle.campaign_settings.specs.declared.fault.SettingsFault.{SettingsFault}
 use Rattle.campaign_settings.specs.declared.fault.SettingsFault.TheVariants as settings
@@ -110,7 +111,7 @@ module _ (question : Question) (s : Subject) (answers : List ℕ) (v : Change) w
     abbrev ends : Exit → Type 0
     ends e = EndsAnswered question s answers e w
 
-    pub fault-ends : (f : QuestionFault) (end : Exit) → IsUnanswered question s answers f → IsEndOfQuestion f end v → EndsAnswered question s answers end w
+    pub fault-ends : (f : QuestionFault) (end : Exit) → IsUnanswered question s answers f → IsEndOfQuestion s.1 f end v → EndsAnswered question s answers end w
     fault-ends (fault.Outside (outside.Answers f)) end why is = refused-ends _ end is
     fault-ends (fault.Outside (outside.Census line)) end why is = refused-ends _ end is
     fault-ends (fault.Outside (outside.NotAnswered t)) end why is = refused-ends _ end is
@@ -131,8 +132,8 @@ module _ (question : Question) (s : Subject) (answers : List ℕ) (v : Change) w
     abbrev tells : Exit → Type 0
     tells e = TellsOf noted (TellsWhy question (Ok s) answers v) e v
 
-    pub fault-tells : (f : QuestionFault) (end : Exit) → IsUnanswered question s answers f → IsEndOfQuestion f end v → tells end
-    fault-tells (fault.Outside (outside.Answers f)) end why is = tells-of _ _ _ end v is (why-of (bad_answers f) end why is)
+    pub fault-tells : (f : QuestionFault) (end : Exit) → IsUnanswered question s answers f → IsEndOfQuestion s.1 f end v → tells end
+    fault-tells (fault.Outside (outside.Answers f)) end why is = tells-of _ _ _ end v is (why-of (bad_answers s.1 f) end (refl, why) is)
     fault-tells (fault.Outside (outside.Census line)) end why is = tells-of _ _ _ end v is (why-of (other_census line) end why is)
     fault-tells (fault.Outside (outside.NotAnswered t)) end why is = tells-of _ _ _ end v is (why-of (not_answered t) end why is)
     fault-tells (fault.Outside (outside.Campaign campaign.TooManyPlans)) end why is = subst tells (sym is.0) (too_many_plans, why, is.1)
@@ -203,7 +204,7 @@ shown-long : (form : Option Form) (s : Subject) (text : List ℕ) → most_bytes
 shown-long None s text many = refuses-long s.0.depth s text many
 shown-long (Some form) s text many = refuses-long s.0.depth s text many
 
-too-long : (question : Question) (s : Subject) (text : List ℕ) → most_bytes < length text → RefusesAnswers question s text (bad_answers answers.TooLong)
+too-long : (question : Question) (s : Subject) (text : List ℕ) → most_bytes < length text → IsUnanswered question s text (fault.Outside (outside.Answers answers.TooLong))
 too-long (Asks part) s text many = refuses-long s.0.depth s text many
 too-long (Report what strict) s text many = shown-long (report_form what) s text many
 too-long (Explain words) s text many = long-reading (is_some s.0.depth) s.1.codes s.1.points text many
@@ -222,7 +223,7 @@ module _ (question : Question) (s : Subject) (known : Option (List ℕ)) where
   answers-read-fault-cause read.TooLong end w long told memory refused =
       let P : Exit → Type 0 = λ e. RefusesWith (answers_read_line read.TooLong) e w in
       if_some known _ (λ bytes. IsNotAnswered question (Ok s) bytes w)
-      (λ bytes h. inl (bad_answers _, too-long question s bytes h, subst P refused told)) (long refl)
+      (λ bytes h. inl (bad_answers s.1 answers.TooLong, (refl, too-long question s bytes h), subst P refused told)) (long refl)
   answers-read-fault-cause read.NotUtf8 end w long told memory refused =
       let P : Exit → Type 0 = λ e. RefusesWith unreadable_answers_line e w in
       elim known as (λ k. IfSome k (λ bytes. IsNotAnswered question (Ok s) bytes w)) [ None ↦ tt | Some bytes ↦ inr (inr (subst P refused told)) ]
@@ -321,6 +322,10 @@ module _ (question : Question) (given known : Option (List ℕ)) (end : Exit) (w
   read-fault-why read.NotReadable long broken told memory = settings-read-fault told
   read-fault-why read.Memory long broken told memory = memory-apart end (memory refl) refused
 
+-- a description of nothing
+abbrev nothing : Description
+nothing = record { label = []; codes = []; points = []; hits = []; kinds = [] }
+
 -- what is told of a reader that gave nothing
 module _ (end : Exit) (w : Change) where
   pub read-fault-tells-question : (f : ReadFault) → RefusesWith (read_fault_line f) end w → (f ≡ read.Memory → end ≡ exit.Memory) → TellsOfQuestion end w
@@ -331,7 +336,7 @@ module _ (end : Exit) (w : Change) where
   read-fault-tells-question read.Memory told memory = tells-of _ _ _ end w told (λ refused. memory-apart end (memory refl) refused)
 
   pub answers-read-fault-tells : (f : ReadFault) → RefusesWith (answers_read_line f) end w → (f ≡ read.Memory → end ≡ exit.Memory) → TellsOfQuestion end w
-  answers-read-fault-tells read.TooLong told memory = tells-question (bad_answers answers.TooLong) end w told
+  answers-read-fault-tells read.TooLong told memory = tells-question (bad_answers nothing answers.TooLong) end w told
   answers-read-fault-tells read.NotUtf8 told memory =
       let P : Exit → Type 0 = λ e. RefusesWith unreadable_answers_line e w in tells-of _ _ _ end w told (λ refused. inr (inr (subst P refused told)))
   answers-read-fault-tells read.NotReadable told memory =

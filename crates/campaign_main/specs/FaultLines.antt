@@ -1,9 +1,14 @@
 -- The lines that say why a command failed.
-use Rattle.std.specs.Prelude.{List, ℕ, ◌++◌, codes}
+use Rattle.std.specs.Prelude.{List, [], ◌∷◌, ℕ, ◌++◌, codes}
 use Rattle.std.specs.Fmt.{decimal}
+use Rattle.std.specs.List.{join_by}
 use Rattle.answer_text.specs.FaultText.{line_of as answers_line_of}
 use Rattle.answer_text.specs.FirstFault.{has_control}
+use Rattle.answer_text.specs.declared.fault.AnswersFault.{AnswersFault}
 use Rattle.answer_text.specs.declared.fault.AnswersFault.TheVariants as answers
+use Rattle.answer_text.specs.declared.fault.LineFault.{LineFault}
+use Rattle.answer_text.specs.declared.fault.LineFault.TheVariants.{NotEnded, NotUtf8, NoTab, UnknownVerdict, UnknownCode, ControlByte, Scenario, NoHits, UnknownPoint, BadCount, NotJoined, Contradicts}
+use Rattle.campaign_given.specs.Description.{Description}
 use Rattle.answered_runs.specs.Broken.{broken_text}
 use Rattle.report.specs.ReportText.{ended, scenario_text}
 use Rattle.scenario_grammar.specs.FaultText.{fault_text}
@@ -48,6 +53,19 @@ unreadable_answers_line = codes "answers: not readable\n"
 abbrev pub cut_off_line : ℕ → List ℕ
 cut_off_line written = codes "write failed after " ++ (decimal written ++ codes " bytes\n")
 
+-- ---- what would be right in answers
+
+-- Which codes or points there are, such as `; codes are torn, stale`.
+abbrev pub names_text : List ℕ → List (List ℕ) → List ℕ
+names_text what [] = codes "; there are no " ++ what
+names_text what (name ∷ more) = codes "; " ++ what ++ codes " are " ++ join_by (λ n. n) (codes ", ") (name ∷ more)
+
+-- If a fault is a name that the component's description lacks, the names that it has.
+abbrev pub right_text : Description → AnswersFault → List ℕ
+right_text d (answers.Line number (UnknownCode name)) = names_text (codes "codes") d.codes
+right_text d (answers.Line number (UnknownPoint name)) = names_text (codes "points") d.points
+right_text d fault = []
+
 -- ---- the lines of refusals
 
 -- The line for the fault that makes settings refused.
@@ -70,11 +88,13 @@ refusal_line (no_plan number) = ended (codes "plan: out of range " ++ decimal nu
 refusal_line outside_target = codes "settings: target outside: only plans, asks and report\n"
 refusal_line outside_with_depth = codes "settings: target outside with a depth: only asks and report\n"
 refusal_line bundled_target = codes "settings: target not outside: only run, plans, try, reduce and explain\n"
-refusal_line (bad_answers f) = ended (answers_line_of f)
-refusal_line (other_census line) = codes "answers: line " ++ (decimal line ++ codes ": hits differ from the settings\n")
+refusal_line (bad_answers d f) = ended (answers_line_of f ++ right_text d f)
+refusal_line (other_census line) =
+    codes "answers: line " ++ (decimal line ++ codes ": hits differ from the settings; the hits of none are those of outside.hits\n")
 refusal_line (not_answered s) = ended (codes "not answered " ++ scenario_text s)
 refusal_line (broken_run b) = ended (broken_text b)
-refusal_line (unseen_hits line) = codes "answers: line " ++ (decimal line ++ codes ": hits unknown\n")
+refusal_line (unseen_hits line) =
+    codes "answers: line " ++ (decimal line ++ codes ": hits unknown; only a run whose hits are recorded can be explained\n")
 
 -- The line if the settings' reader gave no text.
 abbrev pub read_fault_line : ReadFault → List ℕ
@@ -85,7 +105,7 @@ read_fault_line read.Memory = memory_line
 
 -- The line if the answers' reader gave no text.
 abbrev pub answers_read_line : ReadFault → List ℕ
-answers_read_line read.TooLong = refusal_line (bad_answers answers.TooLong)
+answers_read_line read.TooLong = ended (answers_line_of answers.TooLong)
 answers_read_line read.NotUtf8 = unreadable_answers_line
 answers_read_line read.NotReadable = unreadable_answers_line
 answers_read_line read.Memory = memory_line

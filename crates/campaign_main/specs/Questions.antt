@@ -163,7 +163,7 @@ NotesQuestion question (Err refusal) answers w = ⊥
 
 -- The refusal says why a question has no answer.
 abbrev pub RefusesAnswers : Question → Subject → List ℕ → Refusal → Type 0
-RefusesAnswers question s answers (bad_answers f) = IsUnanswered question s answers (fault.Outside (outside.Answers f))
+RefusesAnswers question s answers (bad_answers d f) = (d ≡ s.1) × IsUnanswered question s answers (fault.Outside (outside.Answers f))
 RefusesAnswers question s answers (other_census line) = IsUnanswered question s answers (fault.Outside (outside.Census line))
 RefusesAnswers question s answers too_many_plans = IsUnanswered question s answers (fault.Outside (outside.Campaign campaign.TooManyPlans))
 RefusesAnswers question s answers (not_answered t) = IsUnanswered question s answers (fault.Outside (outside.NotAnswered t))
@@ -193,12 +193,12 @@ TellsOfQuestion end w =
     TellsOf ((notes : List ℕ) × IsNoted notes w) (((refusal : Refusal) × IsTold (refusal_line refusal) w)
     ⊎ (IsTold unreadable_line w ⊎ IsTold unreadable_answers_line w)) end w
 
--- How a question ends after a fault, and which line was written.
-abbrev pub IsEndOfQuestion : QuestionFault → Exit → Change → Type 0
-IsEndOfQuestion (fault.Outside (outside.Answers f)) end w = RefusesWith (refusal_line (bad_answers f)) end w
-IsEndOfQuestion (fault.Outside (outside.Census line)) end w = RefusesWith (refusal_line (other_census line)) end w
-IsEndOfQuestion (fault.Outside (outside.NotAnswered t)) end w = RefusesWith (refusal_line (not_answered t)) end w
-IsEndOfQuestion (fault.Outside (outside.Campaign f)) end w = IsEndOf (command.Campaign f) end w
-IsEndOfQuestion (fault.Broken b) end w = RefusesWith (refusal_line (broken_run b)) end w
-IsEndOfQuestion (fault.Scenario f) end w = IsEndOf (command.Scenario f) end w
-IsEndOfQuestion (fault.Unseen line) end w = RefusesWith (refusal_line (unseen_hits line)) end w
+-- How a question on a component of this description ends after a fault, and which line was written.
+abbrev pub IsEndOfQuestion : Description → QuestionFault → Exit → Change → Type 0
+IsEndOfQuestion d (fault.Outside (outside.Answers f)) end w = RefusesWith (refusal_line (bad_answers d f)) end w
+IsEndOfQuestion d (fault.Outside (outside.Census line)) end w = RefusesWith (refusal_line (other_census line)) end w
+IsEndOfQuestion d (fault.Outside (outside.NotAnswered t)) end w = RefusesWith (refusal_line (not_answered t)) end w
+IsEndOfQuestion d (fault.Outside (outside.Campaign f)) end w = IsEndOf (command.Campaign f) end w
+IsEndOfQuestion d (fault.Broken b) end w = RefusesWith (refusal_line (broken_run b)) end w
+IsEndOfQuestion d (fault.Scenario f) end w = IsEndOf (command.Scenario f) end w
+IsEndOfQuestion d (fault.Unseen line) end w = RefusesWith (refusal_line (unseen_hits line)) end w

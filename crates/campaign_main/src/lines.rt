@@ -1,26 +1,28 @@
 //! The ends of commands: what is noted on a text, or the line that says why there is none. A line that can't be written changes no end.
-ghost use Rattle.std.specs.Prelude.{◌≡◌, ℕ, List, false, IfOk, string_bytes};
+ghost use Rattle.std.specs.Prelude.{◌≡◌, ◌++◌, ℕ, List, false, IfOk, OnOk, string_bytes};
 ghost use Rattle.campaign_settings.specs.declared.fault.SettingsFault.TheVariants as settings;
 ghost use Rattle.campaign_main.specs.Commands.{bad_answers, broken_run, bundled_target, no_plan, not_answered, other_census, unseen_hits};
 ghost use Rattle.campaign_core.specs.Writes.{change};
 ghost use Rattle.campaign_main.specs.Ends.{IsEndOf, IsEndOfCommand, IsNoted, IsTold, RefusesWith};
-ghost use Rattle.campaign_main.specs.FaultLines.{answers_read_line, cut_off_line, memory_line, read_fault_line, refusal_line, scenario_line, settings_line};
+ghost use Rattle.campaign_main.specs.FaultLines.{answers_read_line, cut_off_line, memory_line, names_text, read_fault_line, refusal_line, right_text, scenario_line, settings_line};
 ghost use Rattle.campaign_main.specs.Questions.{IsEndOfQuestion};
 
 use crate::exit::{Answered, Exit, exit_of};
 use crate::fault::CommandFault;
 use crate::input::ReadFault;
 use crate::notes::{has_control, write_if};
-use answer_text::AnswersFault;
+use answer_text::{AnswersFault, LineFault};
 use answered_campaigns::QuestionFault;
 use answered_runs::BrokenRun;
 use campaign_core::CampaignFault;
+use campaign_given::Outside;
 use campaign_settings::SettingsFault;
 use itoa::Buffer;
-use outside_campaign::OutsideFault;
+use outside_campaign::{OutsideFault, borrowed};
 use report::{WriteFault, write_report, write_scenario};
-use scenario_grammar::{Scenario, ScenarioFault};
+use scenario_grammar::{Scenario, ScenarioFault, Text};
 use std::alloc::{AllocError, Global};
+use std::fmt::Write;
 use target_trait::Sink;
 
 /// Writes a line, or as much of it as the sink takes.
@@ -237,18 +239,63 @@ pub fn end_unreadable_answers<E: Sink>(fault: ReadFault, faults: &mut E) -> Exit
     }
 }
 
-/// The line for a fault of the answers.
-fn answers_line(alloc: Global, fault: &AnswersFault) -> Result<String, AllocError>
-    ensures { IfOk result (λ line. string_bytes line ≡ refusal_line (bad_answers fault.now)) }
+/// Appends which codes or points there are, such as `; codes are torn, stale`.
+fn write_names(
+    alloc: Global,
+    line: &mut String,
+    what: &str,
+    names: &[Text],
+) -> Result<(), AllocError>
+    ensures { OnOk result (string_bytes line.new ≡ string_bytes line.old ++ names_text what.now names.now) }
 {
-    format!(in alloc; "{fault}\n")
+    if names.is_empty() {
+        return write!(line, "; there are no {what}");
+    }
+    let names = borrowed(alloc, names)?.join(alloc, ", ")?;
+    write!(line, "; {what} are {names}")
+}
+
+/// Appends the names that the settings have, if the fault is one that they lack.
+fn write_right(
+    alloc: Global,
+    line: &mut String,
+    outside: &Outside,
+    fault: &AnswersFault,
+) -> Result<(), AllocError>
+    ensures { OnOk result (string_bytes line.new ≡ string_bytes line.old ++ right_text outside.now fault.now) }
+{
+    match fault {
+        AnswersFault::Line(_, LineFault::UnknownCode(_)) => {
+            write_names(alloc, line, "codes", outside.codes.as_slice())
+        }
+        AnswersFault::Line(_, LineFault::UnknownPoint(_)) => {
+            write_names(alloc, line, "points", outside.points.as_slice())
+        }
+        _ => Ok(()),
+    }
+}
+
+/// The line for a fault of the answers on a component. A name that the settings lack is followed by those that they have.
+fn answers_line(
+    alloc: Global,
+    outside: &Outside,
+    fault: &AnswersFault,
+) -> Result<String, AllocError>
+    ensures { IfOk result (λ line. string_bytes line ≡ refusal_line (bad_answers outside.now fault.now)) }
+{
+    let mut line = format!(in alloc; "{fault}")?;
+    write_right(alloc, &mut line, outside, fault)?;
+    line.push_str("\n")?;
+    Ok(line)
 }
 
 /// The line for an answer that records another census than the settings have.
 fn census_line(alloc: Global, line: u32) -> Result<String, AllocError>
     ensures { IfOk result (λ text. string_bytes text ≡ refusal_line (other_census line)) }
 {
-    format!(in alloc; "answers: line {line}: hits differ from the settings\n")
+    format!(in alloc;
+        "answers: line {line}: hits differ from the settings; the hits of none are those of outside.hits\n"
+    )
 }
 
 /// The line for a scenario that is still to be tried.
@@ -272,17 +319,24 @@ fn broken_line(alloc: Global, broken: &BrokenRun) -> Result<String, AllocError>
 fn unseen_line(alloc: Global, line: u32) -> Result<String, AllocError>
     ensures { IfOk result (λ text. string_bytes text ≡ refusal_line (unseen_hits line)) }
 {
-    format!(in alloc; "answers: line {line}: hits unknown\n")
+    format!(in alloc;
+        "answers: line {line}: hits unknown; only a run whose hits are recorded can be explained\n"
+    )
 }
 
-/// Ends because a question wasn't answered by a whole text.
-pub fn end_question<E: Sink>(alloc: Global, fault: &QuestionFault, faults: &mut E) -> Exit
+/// Ends because a question on a component wasn't answered by a whole text.
+pub fn end_question<E: Sink>(
+    alloc: Global,
+    outside: &Outside,
+    fault: &QuestionFault,
+    faults: &mut E,
+) -> Exit
     requires { E.has_failed faults.old ≡ false }
-    ensures { IsEndOfQuestion fault.now result (change E.Sink faults.old faults.new) }
+    ensures { IsEndOfQuestion outside.now fault.now result (change E.Sink faults.old faults.new) }
 {
     match fault {
         QuestionFault::Outside(OutsideFault::Answers(cause)) => {
-            refused_by(answers_line(alloc, cause), faults)
+            refused_by(answers_line(alloc, outside, cause), faults)
         }
         QuestionFault::Outside(OutsideFault::Census(line)) => {
             refused_by(census_line(alloc, *line), faults)

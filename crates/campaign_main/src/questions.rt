@@ -66,7 +66,7 @@ fn answer_by<W: Sink, E: Sink>(
 {
     match answer_question(alloc, question, campaign, answers) {
         Ok(answer) => write_answer(question, &answer, output, faults),
-        Err(fault) => end_question(alloc, &fault, faults),
+        Err(fault) => end_question(alloc, campaign.outside, &fault, faults),
     }
 }
 

@@ -196,10 +196,13 @@ fn faulty_answers_are_refused(rt: HostRuntime) -> Result<(), Fail> {
     for (answers, line) in [
         (
             "pass\tnone\nfail a\t\n",
-            "answers: line 2: contradicts line 1",
+            "answers: line 2: contradicts line 1, which answers the same scenario otherwise",
         ),
-        ("pass\tnone\npass\tp=return", "answers: line 2: not ended"),
-        ("fail c\tnone\n", "answers: line 1: unknown code"),
+        (
+            "pass\tnone\npass\tp=return",
+            "answers: line 2: not ended; a line feed is missing, so the line may have been cut off: delete it",
+        ),
+        ("fail c\tnone\n", "answers: line 1: no such code \"c\""),
     ] {
         is_refused(&rt, rt.alloc(), answers, line)?;
     }

@@ -35,10 +35,17 @@ fn hits_are_points_with_their_counts(rt: HostRuntime) -> Result<(), Fail> {
         ("pass\tnone\t2*b;b\n", "no fault"),
         ("unresolved\tnone\t-\n", "no fault"),
         ("unresolved\tnone\ta;b\n", "no fault"),
-        ("pass\tnone\t-\n", "answers: line 1: unknown point"),
-        ("pass\tnone\tc\n", "answers: line 1: unknown point"),
-        ("pass\tnone\ta;\n", "answers: line 1: unknown point"),
-        ("pass\tnone\ta\ta\n", "answers: line 1: unknown point"),
+        ("pass\tnone\t-\n", "answers: line 1: no such point \"-\""),
+        ("pass\tnone\tc\n", "answers: line 1: no such point \"c\""),
+        ("pass\tnone\ta;\n", "answers: line 1: no such point \"\""),
+        (
+            "pass\tnone\ta\ta\n",
+            "answers: line 1: no such point \"a\ta\"",
+        ),
+        (
+            "pass\tnone\ta;3*c\n",
+            "answers: line 1: no such point \"c\"",
+        ),
         ("pass\tnone\t1*a\n", "answers: line 1: bad count"),
         ("pass\tnone\t02*a\n", "answers: line 1: bad count"),
         ("pass\tnone\t65536*a;b\n", "answers: line 1: bad count"),
@@ -48,12 +55,18 @@ fn hits_are_points_with_their_counts(rt: HostRuntime) -> Result<(), Fail> {
             "pass\tnone\t99999999999999999999*a\n",
             "answers: line 1: bad count",
         ),
-        ("pass\tnone\t3*a;a\n", "answers: line 1: not joined"),
+        (
+            "pass\tnone\t3*a;a\n",
+            "answers: line 1: one point twice in a row; write it once with its count, such as 2*a",
+        ),
         (
             "pass\tNone\tc\n",
             "answers: line 1: NoAction entry 1 term 0",
         ),
-        ("pass\ta=return(\x01)\tc\n", "answers: line 1: control byte"),
+        (
+            "pass\ta=return(\x01)\tc\n",
+            "answers: line 1: a control character in the scenario; a scenario has none",
+        ),
     ];
     for (text, want) in rows {
         for needed in [false, true] {
@@ -67,7 +80,13 @@ fn hits_are_points_with_their_counts(rt: HostRuntime) -> Result<(), Fail> {
 fn hits_may_be_left_out_where_they_are_not_needed(rt: HostRuntime) -> Result<(), Fail> {
     let text = "pass\tnone\n";
     is_read(&rt, rt.alloc(), false, text, "no fault")?;
-    is_read(&rt, rt.alloc(), true, text, "answers: line 1: no hits")
+    is_read(
+        &rt,
+        rt.alloc(),
+        true,
+        text,
+        "answers: line 1: no hits; with a depth they stand behind a second tab, or - if nobody knows them",
+    )
 }
 
 #[test]
@@ -80,15 +99,15 @@ fn other_hits_contradict(rt: HostRuntime) -> Result<(), Fail> {
         ),
         (
             "pass\ta=return\ta;b\npass\ta=return\ta\n",
-            "answers: line 2: contradicts line 1",
+            "answers: line 2: contradicts line 1, which answers the same scenario otherwise",
         ),
         (
             "pass\tnone\npass\ta=return\ta\npass\ta=return\n",
-            "answers: line 3: contradicts line 2",
+            "answers: line 3: contradicts line 2, which answers the same scenario otherwise",
         ),
         (
             "pass\ta=return\npass\ta=return\t\n",
-            "answers: line 2: contradicts line 1",
+            "answers: line 2: contradicts line 1, which answers the same scenario otherwise",
         ),
     ];
     for (text, want) in rows {

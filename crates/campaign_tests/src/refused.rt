@@ -34,12 +34,30 @@ fn no_answers_are_no_fault(rt: HostRuntime) -> Result<(), Fail> {
 #[test]
 fn a_line_has_an_end_and_a_tab(rt: HostRuntime) -> Result<(), Fail> {
     const ROWS: [(&[u8], &str); 6] = [
-        (b"pass\tnone", "answers: line 1: not ended"),
-        (b"pass\tnone\npass\ta=ret", "answers: line 2: not ended"),
-        (b"pass\tnone\npa", "answers: line 2: not ended"),
-        (b"\n", "answers: line 1: no tab"),
-        (b"pass\tnone\n\npass\tnone\n", "answers: line 2: no tab"),
-        (b"pass none\n", "answers: line 1: no tab"),
+        (
+            b"pass\tnone",
+            "answers: line 1: not ended; a line feed is missing, so the line may have been cut off: delete it",
+        ),
+        (
+            b"pass\tnone\npass\ta=ret",
+            "answers: line 2: not ended; a line feed is missing, so the line may have been cut off: delete it",
+        ),
+        (
+            b"pass\tnone\npa",
+            "answers: line 2: not ended; a line feed is missing, so the line may have been cut off: delete it",
+        ),
+        (
+            b"\n",
+            "answers: line 1: no tab; a verdict and a scenario are written with a tab between them",
+        ),
+        (
+            b"pass\tnone\n\npass\tnone\n",
+            "answers: line 2: no tab; a verdict and a scenario are written with a tab between them",
+        ),
+        (
+            b"pass none\n",
+            "answers: line 1: no tab; a verdict and a scenario are written with a tab between them",
+        ),
     ];
     are_refused(&rt, rt.alloc(), &ROWS)
 }
@@ -52,9 +70,18 @@ fn bytes_are_text_without_control_bytes(rt: HostRuntime) -> Result<(), Fail> {
             "answers: line 2: not UTF-8",
         ),
         (b"\xc3\npass none\n", "answers: line 1: not UTF-8"),
-        (b"pass\ta=return\r\n", "answers: line 1: control byte"),
-        (b"pass\ta=return(\x00)\n", "answers: line 1: control byte"),
-        (b"pass\ta=return(\x7f)\n", "answers: line 1: control byte"),
+        (
+            b"pass\ta=return\r\n",
+            "answers: line 1: a control character in the scenario; a scenario has none",
+        ),
+        (
+            b"pass\ta=return(\x00)\n",
+            "answers: line 1: a control character in the scenario; a scenario has none",
+        ),
+        (
+            b"pass\ta=return(\x7f)\n",
+            "answers: line 1: a control character in the scenario; a scenario has none",
+        ),
         (b"pass\t\xc3\xa9=return\n", "no fault"),
     ];
     are_refused(&rt, rt.alloc(), &ROWS)
@@ -63,13 +90,31 @@ fn bytes_are_text_without_control_bytes(rt: HostRuntime) -> Result<(), Fail> {
 #[test]
 fn a_verdict_is_one_of_three_and_a_code_one_of_the_codes(rt: HostRuntime) -> Result<(), Fail> {
     const ROWS: [(&[u8], &str); 7] = [
-        (b"Pass\tnone\n", "answers: line 1: unknown verdict"),
-        (b"\tnone\n", "answers: line 1: unknown verdict"),
-        (b"fail\tnone\n", "answers: line 1: unknown verdict"),
-        (b"pass \tnone\n", "answers: line 1: unknown verdict"),
-        (b"fail \tnone\n", "answers: line 1: unknown code"),
-        (b"fail torn \tnone\n", "answers: line 1: unknown code"),
-        (b"fail lost\tnone\n", "answers: line 1: unknown code"),
+        (
+            b"Pass\tnone\n",
+            "answers: line 1: no such verdict \"Pass\"; verdicts are pass, unresolved, and fail with a code",
+        ),
+        (
+            b"\tnone\n",
+            "answers: line 1: no such verdict \"\"; verdicts are pass, unresolved, and fail with a code",
+        ),
+        (
+            b"fail\tnone\n",
+            "answers: line 1: no such verdict \"fail\"; verdicts are pass, unresolved, and fail with a code",
+        ),
+        (
+            b"pass \tnone\n",
+            "answers: line 1: no such verdict \"pass \"; verdicts are pass, unresolved, and fail with a code",
+        ),
+        (b"fail \tnone\n", "answers: line 1: no such code \"\""),
+        (
+            b"fail torn \tnone\n",
+            "answers: line 1: no such code \"torn \"",
+        ),
+        (
+            b"fail lost\tnone\n",
+            "answers: line 1: no such code \"lost\"",
+        ),
     ];
     are_refused(&rt, rt.alloc(), &ROWS)
 }
@@ -95,15 +140,15 @@ fn two_verdicts_of_one_scenario_contradict(rt: HostRuntime) -> Result<(), Fail> 
     const ROWS: [(&[u8], &str); 3] = [
         (
             b"pass\ta=return\npass\tnone\nfail torn\ta=return\n",
-            "answers: line 3: contradicts line 1",
+            "answers: line 3: contradicts line 1, which answers the same scenario otherwise",
         ),
         (
             b"fail torn\tnone\nfail torn\tb=0*return\nfail stale\t\n",
-            "answers: line 3: contradicts line 1",
+            "answers: line 3: contradicts line 1, which answers the same scenario otherwise",
         ),
         (
             b"unresolved\ta=2*off->return\npass\ta=1*off->1*off->return->off\n",
-            "answers: line 2: contradicts line 1",
+            "answers: line 2: contradicts line 1, which answers the same scenario otherwise",
         ),
     ];
     are_refused(&rt, rt.alloc(), &ROWS)
@@ -114,9 +159,12 @@ fn the_first_faulty_line_is_told(rt: HostRuntime) -> Result<(), Fail> {
     const ROWS: [(&[u8], &str); 2] = [
         (
             b"pass\tnone\nfail torn\tnone\nno tab\npass",
-            "answers: line 2: contradicts line 1",
+            "answers: line 2: contradicts line 1, which answers the same scenario otherwise",
         ),
-        (b"perhaps\ta=\x01\n", "answers: line 1: unknown verdict"),
+        (
+            b"perhaps\ta=\x01\n",
+            "answers: line 1: no such verdict \"perhaps\"; verdicts are pass, unresolved, and fail with a code",
+        ),
     ];
     are_refused(&rt, rt.alloc(), &ROWS)
 }
