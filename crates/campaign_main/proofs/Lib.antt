@@ -1,5 +1,6 @@
 pub mod AnswerLemmas
 pub mod EndLemmas
+pub mod NameLemmas
 pub mod NoteLemmas
 pub mod OwnLemmas
 pub mod QuestionLemmas

@@ -35,7 +35,7 @@ use Rattle.campaign_main.specs.Ends.{EndsAs, IsNoted, Leaves, OnWhole, RefusesWi
 use Rattle.campaign_main.specs.Exit.{exit_of}
 use Rattle.campaign_main.specs.FaultLines.{answers_read_line, read_fault_line, refusal_line, settings_line, unreadable_answers_line, unreadable_line}
 use Rattle.campaign_main.specs.QuestionNotes.{question_notes}
-use Rattle.campaign_main.specs.Questions.{EndsAnswered, EndsQuestion, IsAnswer, IsEndOfQuestion, IsNotAnswered, IsUnanswered, RefusesAnswers, RefusesQuestion, RefusesShown, Subject, TellsOfQuestion, TellsWhy, chosen_subject, given_subject, report_form, subject_of, text_subject, written_for}
+use Rattle.campaign_main.specs.Questions.{EndsAnswered, EndsQuestion, IsAnswer, IsEndOfQuestion, IsNotAnswered, IsUnanswered, RefusesQuestion, RefusesShown, Subject, TellsOfQuestion, TellsWhy, chosen_subject, given_subject, report_form, subject_of, text_subject, written_for}
 use Rattle.answered_campaigns.proofs.ReadFaults.{at_all}
 use Rattle.campaign_main.proofs.EndLemmas.{broken-meaning, if_some, long-meaning, memory-apart, read-meaning, tells-of, text-meaning, settings-fault-cause}
 

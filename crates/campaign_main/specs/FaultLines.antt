@@ -6,8 +6,7 @@ use Rattle.answer_text.specs.FaultText.{line_of as answers_line_of}
 use Rattle.answer_text.specs.FirstFault.{has_control}
 use Rattle.answer_text.specs.declared.fault.AnswersFault.{AnswersFault}
 use Rattle.answer_text.specs.declared.fault.AnswersFault.TheVariants as answers
-use Rattle.answer_text.specs.declared.fault.LineFault.{LineFault}
-use Rattle.answer_text.specs.declared.fault.LineFault.TheVariants.{NotEnded, NotUtf8, NoTab, UnknownVerdict, UnknownCode, ControlByte, Scenario, NoHits, UnknownPoint, BadCount, NotJoined, Contradicts}
+use Rattle.answer_text.specs.declared.fault.LineFault.TheVariants.{UnknownCode, UnknownPoint}
 use Rattle.campaign_given.specs.Description.{Description}
 use Rattle.answered_runs.specs.Broken.{broken_text}
 use Rattle.report.specs.ReportText.{ended, scenario_text}
@@ -55,10 +54,14 @@ cut_off_line written = codes "write failed after " ++ (decimal written ++ codes 
 
 -- ---- what would be right in answers
 
+-- Names with commas between them.
+abbrev pub joined_names : List (List ℕ) → List ℕ
+joined_names names = join_by (λ name. name) (codes ", ") names
+
 -- Which codes or points there are, such as `; codes are torn, stale`.
 abbrev pub names_text : List ℕ → List (List ℕ) → List ℕ
 names_text what [] = codes "; there are no " ++ what
-names_text what (name ∷ more) = codes "; " ++ what ++ codes " are " ++ join_by (λ n. n) (codes ", ") (name ∷ more)
+names_text what (name ∷ more) = codes "; " ++ what ++ codes " are " ++ joined_names (name ∷ more)
 
 -- If a fault is a name that the component's description lacks, the names that it has.
 abbrev pub right_text : Description → AnswersFault → List ℕ

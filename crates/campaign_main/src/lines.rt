@@ -4,7 +4,7 @@ ghost use Rattle.campaign_settings.specs.declared.fault.SettingsFault.TheVariant
 ghost use Rattle.campaign_main.specs.Commands.{bad_answers, broken_run, bundled_target, no_plan, not_answered, other_census, unseen_hits};
 ghost use Rattle.campaign_core.specs.Writes.{change};
 ghost use Rattle.campaign_main.specs.Ends.{IsEndOf, IsEndOfCommand, IsNoted, IsTold, RefusesWith};
-ghost use Rattle.campaign_main.specs.FaultLines.{answers_read_line, cut_off_line, memory_line, names_text, read_fault_line, refusal_line, right_text, scenario_line, settings_line};
+ghost use Rattle.campaign_main.specs.FaultLines.{answers_read_line, cut_off_line, joined_names, memory_line, names_text, read_fault_line, refusal_line, right_text, scenario_line, settings_line};
 ghost use Rattle.campaign_main.specs.Questions.{IsEndOfQuestion};
 
 use crate::exit::{Answered, Exit, exit_of};
@@ -239,6 +239,13 @@ pub fn end_unreadable_answers<E: Sink>(fault: ReadFault, faults: &mut E) -> Exit
     }
 }
 
+/// Names with commas between them.
+fn joined_names(alloc: Global, names: &[Text]) -> Result<String, AllocError>
+    ensures { IfOk result (λ text. string_bytes text ≡ joined_names names.now) }
+{
+    borrowed(alloc, names)?.join(alloc, ", ")
+}
+
 /// Appends which codes or points there are, such as `; codes are torn, stale`.
 fn write_names(
     alloc: Global,
@@ -251,7 +258,7 @@ fn write_names(
     if names.is_empty() {
         return write!(line, "; there are no {what}");
     }
-    let names = borrowed(alloc, names)?.join(alloc, ", ")?;
+    let names = joined_names(alloc, names)?;
     write!(line, "; {what} are {names}")
 }
 
