@@ -34,6 +34,7 @@ most_hits = 65536
 abbrev pub count_text : ℕ → List ℕ
 count_text count = if count == 1 then [] else decimal count ++ codes "*"
 
+-- The name of the point at a place.
 abbrev pub name_of : List (List ℕ) → ℕ → List ℕ
 name_of points point = slice_index_or points point []
 
