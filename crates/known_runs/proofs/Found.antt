@@ -34,11 +34,11 @@ none_seen o hits l is (inr e) = unseen_hits o hits l e.0 is e.1
 
 -- ---- a plan's run, by the plan's number
 
-module _ {A : Type 0} (f : A → Option Told) (known : KnownRuns) (runs : List A) where
+module _ {A B : Type 0} (f : A → B) (known : List Rig → B) (runs : List A) where
   pub found_at : (plans : List (List Rig)) (n : ℕ) (d : A) → map f runs ≡ map known plans → n < length plans → f (get_or runs n d) ≡ known (get_or plans n [])
   found_at plans n d found less =
       let long : length runs ≡ length plans = sym (length-map runs f) ∙ ap length found ∙ length-map plans known in
-      sym (get_or-map f runs n d (f d) (omega (arith, less, long))) ∙ ap (λ (os : List (Option Told)). get_or os n (f d)) found ∙ get_or-map known plans n [] (f d) less
+      sym (get_or-map f runs n d (f d) (omega (arith, less, long))) ∙ ap (λ (os : List B). get_or os n (f d)) found ∙ get_or-map known plans n [] (f d) less
 
   -- as many runs as there were plans, if plans were added
   pub found_before : (before more all : List (List Rig)) → map f runs ≡ map known before → all ≡ before ++ more → map f runs ≡ map known (take (length runs) all)

@@ -21,6 +21,7 @@ points_from : (before asked : List ℕ) → map (λ s. s.point) (sites_from befo
 points_from before [] = refl
 points_from before (p ∷ ps) = ap (λ (l : List ℕ). p ∷ l) (points_from (before ++ p ∷ []) ps)
 
+-- the points of a run's hits are those that it asks
 pub asked_met : (asks : List Reply → Move) (g : Given) → points_met (run asks g) ≡ (outcome asks g).asked
 asked_met asks g = points_of_sites (run asks g) ∙ ap (map (λ (s : Site). s.point)) (run_sites asks g) ∙ points_from [] (outcome asks g).asked
 

@@ -13,7 +13,7 @@ use Rattle.grown_plans.specs.Promises.{IsLawful, verdict_of_rigs}
 use Rattle.grown_plans.proofs.Members.{all_contains}
 use Rattle.known_runs.specs.Known.{Agrees, KnownRuns, Told, IsTrueOf, hits_of, hits_told}
 use Rattle.known_runs.specs.Walks.{Unknown, Nothing, Acts, acting_by, alike_of, do_alike, doing, first_acting, if_alike, is_alike, once, onward_walked, next_of, next_told, walk_on, walk_from, walk, verdict_told, verdict_at, verdict_walked}
-use Rattle.known_runs.specs.inside.WalkSteps.{IsStep, grew_at, verdict_ended}
+use Rattle.known_runs.specs.inside.WalkSteps.{CameTo, IsStep, grew_at}
 use Rattle.known_runs.specs.inside.Grown.{again_told}
 use Rattle.known_runs.specs.ToldPart.{onward_told}
 use Rattle.known_runs.specs.declared.walking.Step.{Step}
@@ -62,11 +62,11 @@ unfolding walk_from
 too_far known rigs plan r e = ap (walk_on (λ longer. onward_walked known rigs plan) plan) e
 
 pub ends_here : (known : KnownRuns) (rigs : List Rig) (d left : ℕ) (plan : List Rig) (v : Verdict) → Leads known rigs d left plan → (next_told rigs plan (hits_of known plan) ≡ Nothing) × (verdict_told (known plan) ≡ Some v)
-    → Some v ≡ verdict_walked known rigs d
-ends_here known rigs d left plan v l h = sym h.1 ∙ ap (verdict_at known) (sym (last_step known rigs left plan h.0) ∙ l)
+    → CameTo known (walk known rigs d) plan (Some v)
+ends_here known rigs d left plan v l h = (sym l ∙ last_step known rigs left plan h.0, h.1)
 
-pub stops_here : (known : KnownRuns) (rigs : List Rig) (d left : ℕ) (plan : List Rig) → Leads known rigs d left plan → next_told rigs plan (hits_of known plan) ≡ Unknown → None ≡ verdict_walked known rigs d
-stops_here known rigs d left plan l e = ap (verdict_at known) (sym (no_step known rigs left plan e) ∙ l)
+pub stops_here : (known : KnownRuns) (rigs : List Rig) (d left : ℕ) (plan : List Rig) → Leads known rigs d left plan → next_told rigs plan (hits_of known plan) ≡ Unknown → walk known rigs d ≡ None
+stops_here known rigs d left plan l e = sym l ∙ no_step known rigs left plan e
 
 pub goes_on : (known : KnownRuns) (rigs : List Rig) (d left less : ℕ) (plan longer : List Rig) (r : Rig) → left ≡ suc less → longer ≡ r ∷ plan → Leads known rigs d left plan → next_told rigs plan (hits_of known plan) ≡ Acts r
     → Leads known rigs d less longer
@@ -77,10 +77,11 @@ goes_on known rigs d left less plan longer r e is l h =
 told_step : (known : KnownRuns) (rigs plan plan' : List Rig) (s x : Step) → plan' ≡ plan → s ≡ x → IsStep known rigs plan' s → IsStep known rigs plan x
 told_step known rigs plan plan' s x e is h = subst (λ (p : List Rig). IsStep known rigs p x) e (subst (λ (y : Step). IsStep known rigs plan' y) is h)
 
-pub step_ends : (known : KnownRuns) (rigs : List Rig) (d left : ℕ) (plan plan' : List Rig) (s : Step) (v : Verdict) → plan' ≡ plan → s ≡ step.Ends v → IsStep known rigs plan' s → Leads known rigs d left plan → Some v ≡ verdict_walked known rigs d
+pub step_ends : (known : KnownRuns) (rigs : List Rig) (d left : ℕ) (plan plan' : List Rig) (s : Step) (v : Verdict) → plan' ≡ plan → s ≡ step.Ends v → IsStep known rigs plan' s → Leads known rigs d left plan
+    → CameTo known (walk known rigs d) plan (Some v)
 step_ends known rigs d left plan plan' s v e is h l = ends_here known rigs d left plan v l (told_step known rigs plan plan' s (step.Ends v) e is h)
 
-pub step_stops : (known : KnownRuns) (rigs : List Rig) (d left : ℕ) (plan plan' : List Rig) (s : Step) → plan' ≡ plan → s ≡ step.Unknown → IsStep known rigs plan' s → Leads known rigs d left plan → None ≡ verdict_walked known rigs d
+pub step_stops : (known : KnownRuns) (rigs : List Rig) (d left : ℕ) (plan plan' : List Rig) (s : Step) → plan' ≡ plan → s ≡ step.Unknown → IsStep known rigs plan' s → Leads known rigs d left plan → walk known rigs d ≡ None
 step_stops known rigs d left plan plan' s e is h l = stops_here known rigs d left plan l (told_step known rigs plan plan' s step.Unknown e is h)
 
 pub step_acts : (known : KnownRuns) (rigs : List Rig) (d left less : ℕ) (plan plan' longer : List Rig) (s : Step) (r : Rig) → plan' ≡ plan → s ≡ step.Acts r → IsStep known rigs plan' s → left ≡ suc less → longer ≡ r ∷ plan
@@ -89,20 +90,27 @@ step_acts known rigs d left less plan plan' longer s r e is h one more l = goes_
 
 -- ---- the last step
 
-pub end_stops : (known : KnownRuns) (rigs plan : List Rig) (s : Step) → s ≡ step.Unknown → IsStep known rigs plan s → None ≡ verdict_ended known rigs plan
-end_stops known rigs plan s is h = ap (verdict_at known) (sym (no_step known rigs 0 plan (told_step known rigs plan plan s step.Unknown refl is h)))
+pub end_stops : (known : KnownRuns) (rigs plan plan' : List Rig) (s : Step) → plan' ≡ plan → s ≡ step.Unknown → IsStep known rigs plan' s → walk_from known rigs 0 plan ≡ None
+end_stops known rigs plan plan' s e is h = no_step known rigs 0 plan (told_step known rigs plan plan' s step.Unknown e is h)
 
-pub end_ends : (known : KnownRuns) (rigs plan : List Rig) (s : Step) (v : Verdict) → s ≡ step.Ends v → IsStep known rigs plan s → Some v ≡ verdict_ended known rigs plan
-end_ends known rigs plan s v is h =
-    let k = told_step known rigs plan plan s (step.Ends v) refl is h in
-    sym k.1 ∙ ap (verdict_at known) (sym (last_step known rigs 0 plan k.0))
+pub end_ends : (known : KnownRuns) (rigs plan plan' : List Rig) (s : Step) (v : Verdict) → plan' ≡ plan → s ≡ step.Ends v → IsStep known rigs plan' s → CameTo known (walk_from known rigs 0 plan) plan (Some v)
+end_ends known rigs plan plan' s v e is h =
+    let k = told_step known rigs plan plan' s (step.Ends v) e is h in
+    (last_step known rigs 0 plan k.0, k.1)
 
-pub end_acts : (known : KnownRuns) (rigs plan : List Rig) (s : Step) (r : Rig) (o : Option Verdict) → s ≡ step.Acts r → IsStep known rigs plan s → o ≡ verdict_at known (onward_walked known rigs plan) → o ≡ verdict_ended known rigs plan
-end_acts known rigs plan s r o is h e = e ∙ ap (verdict_at known) (sym (too_far known rigs plan r (told_step known rigs plan plan s (step.Acts r) refl is h)))
+pub end_acts : (known : KnownRuns) (rigs plan plan' last : List Rig) (s : Step) (r : Rig) (o : Option Verdict) → plan' ≡ plan → s ≡ step.Acts r → IsStep known rigs plan' s → CameTo known (onward_walked known rigs plan) last o
+    → CameTo known (walk_from known rigs 0 plan) last o
+end_acts known rigs plan plan' last s r o e is h came =
+    subst (λ (w : Option (List Rig)). CameTo known w last o) (sym (too_far known rigs plan r (told_step known rigs plan plan' s (step.Acts r) e is h))) came
 
-pub walk_ends : (known : KnownRuns) (rigs : List Rig) (d left : ℕ) (plan plan' : List Rig) (o : Option Verdict) → plan' ≡ plan → left ≡ 0 → o ≡ verdict_ended known rigs plan' → Leads known rigs d left plan → o ≡ verdict_walked known rigs d
-walk_ends known rigs d left plan plan' o e zeroth is l =
-    is ∙ ap (λ (p : List Rig). verdict_at known (walk_from known rigs 0 p)) e ∙ ap (λ (n : ℕ). verdict_at known (walk_from known rigs n plan)) (sym zeroth) ∙ ap (verdict_at known) l
+pub walk_ends : (known : KnownRuns) (rigs : List Rig) (d left : ℕ) (plan last : List Rig) (o : Option Verdict) → left ≡ 0 → CameTo known (walk_from known rigs 0 plan) last o → Leads known rigs d left plan → CameTo known (walk known rigs d) last o
+walk_ends known rigs d left plan last o zeroth came l =
+    subst (λ (w : Option (List Rig)). CameTo known w last o) (sym (ap (λ (n : ℕ). walk_from known rigs n plan) zeroth) ∙ l) came
+
+-- what a walk came to has the verdict of the walk
+pub came_verdict : (known : KnownRuns) (rigs : List Rig) (d : ℕ) (plan : List Rig) (o : Option Verdict) → CameTo known (walk known rigs d) plan o → o ≡ verdict_walked known rigs d
+came_verdict known rigs d plan None came = sym (ap (verdict_at known) came)
+came_verdict known rigs d plan (Some v) came = sym (ap (verdict_at known) came.0 ∙ came.1)
 
 -- ---- the plan with a sticky last fault
 
@@ -155,25 +163,26 @@ alike_sites rigs others n (s ∷ ss) =
     once_more (is_alike (doing rigs s) (doing others s)) (do_alike rigs others (grew_at (flat_map (kept_at (usual_at None) n) ss))) ∙ ap (λ (b : Bool). is_alike (doing rigs s) (doing others s) && b) (alike_sites rigs others n ss)
 
 pub sees_alike : (known : KnownRuns) (rigs plan : List Rig) (hits : List ℕ) (s : Look) (v : Verdict) (children : List Grew) (b : Bool) → s ≡ look.Seen v → IsLook (known plan) hits s → children ≡ kept_children (usual_at None) 0 [] hits
-    → do_alike rigs plan (grew_at children) ≡ b → cond b (Some v) None ≡ verdict_at known (if_alike rigs plan (hits_of known plan))
+    → do_alike rigs plan (grew_at children) ≡ b → CameTo known (if_alike rigs plan (hits_of known plan)) plan (cond b (Some v) None)
 sees_alike known rigs plan hits s v children b is h kept alike =
     let k = seen_hits known plan hits s v is h in
     let same : do_alike rigs plan (sites_from [] hits) ≡ b = sym (alike_sites rigs plan 0 (sites_from [] hits)) ∙ ap (λ (gs : List Grew). do_alike rigs plan (grew_at gs)) (sym kept) ∙ alike in
-    by_test b k
-    ∙ ap (λ (c : Bool). verdict_at known (cond c (Some plan) None)) (sym same) ∙ ap (λ (o : Option Told). verdict_at known (if_alike rigs plan (hits_told o))) (sym k)
+    subst (λ (w : Option (List Rig)). CameTo known w plan (cond b (Some v) None))
+    (sym (ap (λ (o : Option Told). if_alike rigs plan (hits_told o)) k ∙ ap (λ (c : Bool). cond c (Some plan) None) same)) (by_test b k)
   where
-    by_test : (c : Bool) → known plan ≡ Some (told v (Some hits)) → cond c (Some v) None ≡ verdict_at known (cond c (Some plan) None)
-    by_test true k = sym (ap verdict_told k)
+    by_test : (c : Bool) → known plan ≡ Some (told v (Some hits)) → CameTo known (cond c (Some plan) None) plan (cond c (Some v) None)
+    by_test true k = (refl, ap verdict_told k)
     by_test false k = refl
 
 -- The one plan with a sticky last fault, or none.
-pub no_onward : (known : KnownRuns) (rigs plan : List Rig) → onward_told plan (hits_of known plan) ≡ [] → None ≡ verdict_at known (onward_walked known rigs plan)
-no_onward known rigs plan e = sym (ap (λ (ps : List (List Rig)). verdict_at known (alike_of known rigs ps)) e)
+pub no_onward : (known : KnownRuns) (rigs plan : List Rig) → onward_told plan (hits_of known plan) ≡ [] → onward_walked known rigs plan ≡ None
+no_onward known rigs plan e = ap (alike_of known rigs) e
 
-pub one_onward : (known : KnownRuns) (rigs plan onward slice : List Rig) (o : Option Verdict) → onward_told plan (hits_of known plan) ≡ onward ∷ [] → slice ≡ onward → o ≡ verdict_at known (if_alike rigs slice (hits_of known slice))
-    → o ≡ verdict_at known (onward_walked known rigs plan)
-one_onward known rigs plan onward slice o e same is =
-    is ∙ ap (λ (p : List Rig). verdict_at known (if_alike rigs p (hits_of known p))) same ∙ sym (ap (λ (ps : List (List Rig)). verdict_at known (alike_of known rigs ps)) e)
+pub one_onward : (known : KnownRuns) (rigs plan onward slice : List Rig) (o : Option Verdict) → onward_told plan (hits_of known plan) ≡ onward ∷ [] → slice ≡ onward → CameTo known (if_alike rigs slice (hits_of known slice)) slice o
+    → CameTo known (onward_walked known rigs plan) onward o
+one_onward known rigs plan onward slice o e same came =
+    subst (λ (w : Option (List Rig)). CameTo known w onward o) (sym (ap (alike_of known rigs) e))
+    (subst (λ (p : List Rig). CameTo known (if_alike rigs p (hits_of known p)) p o) same came)
 
 -- ---- the verdict of each subject that agrees
 

@@ -56,8 +56,10 @@ fn find_rest<'a, T: RunTable>(
     plans: &GrownPlans,
     runs: &mut Vec<Option<&'a T::Run>>,
 ) -> Result<(), AllocError>
-    requires { map (option_map (λ r. T.tells r.now)) runs.old.items ≡ map (T.known table.now) (take (length runs.old.items) plans.now) }
-    ensures { OnOk result (map (option_map (λ r. T.tells r.now)) runs.new.items ≡ map (T.known table.now) plans.now) }
+    requires found { map (option_map (λ r. T.tells r.now)) runs.old.items ≡ map (T.known table.now) (take (length runs.old.items) plans.now) }
+    requires kept { map (option_map (λ r. r.now)) runs.old.items ≡ map (T.keeps table.now) (take (length runs.old.items) plans.now) }
+    ensures found { OnOk result (map (option_map (λ r. T.tells r.now)) runs.new.items ≡ map (T.known table.now) plans.now) }
+    ensures kept { OnOk result (map (option_map (λ r. r.now)) runs.new.items ≡ map (T.keeps table.now) plans.now) }
 {
     let mut faults = Vec::new(alloc);
     for number in runs.len()..plans.len() {
@@ -179,6 +181,7 @@ fn grow_levels<'a, T: RunTable>(
     requires { most ≤ 65536 }
     ensures levels { IfOk result (λ r. AreLevels (level_known (kinds_at kinds.now) (T.known table.now)) depth r.0) }
     ensures found { IfOk result (λ r. map (option_map (λ run. T.tells run.now)) r.1.items ≡ map (T.known table.now) r.0.plans) }
+    ensures kept { IfOk result (λ r. map (option_map (λ run. run.now)) r.1.items ≡ map (T.keeps table.now) r.0.plans) }
     ensures few { IfOk result (λ r. length r.0.plans ≤ most) }
     ensures many { IsErrOf result PlanFault.TooManyPlans → most < length (levels_known (kinds_at kinds.now) (T.known table.now) depth) }
 {
@@ -225,6 +228,7 @@ pub fn known_plans<'a, T: RunTable>(
         → AreKnown t depth (T.known table.now) told.list) }
     ensures grown { IfOk result (λ told. told.list.plans ≡ part_known (kinds_at kinds.now) (T.known table.now) depth) }
     ensures found { IfOk result (λ told. map (option_map (λ run. T.tells run.now)) told.runs.items ≡ map (T.known table.now) told.list.plans) }
+    ensures kept { IfOk result (λ told. map (option_map (λ run. run.now)) told.runs.items ≡ map (T.keeps table.now) told.list.plans) }
     ensures short { IfOk result (λ told. AllByRecursion (λ plan. length plan ≤ depth) told.list.plans) }
     ensures few { IfOk result (λ told. length told.list.plans ≤ most) }
     ensures many { IsErrOf result PlanFault.TooManyPlans → most < length (part_known (kinds_at kinds.now) (T.known table.now) depth) }

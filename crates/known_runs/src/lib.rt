@@ -15,4 +15,4 @@ pub use laws::{
     unbroken_runs_have_a_subject,
 };
 pub use table::{Look, RunTable, look_up, read_found};
-pub use walking::verdict_of;
+pub use walking::{plan_of, verdict_of};

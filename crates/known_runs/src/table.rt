@@ -20,6 +20,8 @@ pub enum Look {
 
 /// The recorded runs of plans. A run is found by the plan's faults, of which the one that acts last comes first.
 pub trait RunTable {
+    ghost use Rattle.std.specs.Prelude.{List, Option};
+    ghost use Rattle.action_eval.specs.declared.rig.Rig.{Rig};
     ghost use Rattle.known_runs.specs.Known.{KnownRuns, Told};
 
     /// What a table keeps of a run.
@@ -31,9 +33,13 @@ pub trait RunTable {
     /// What is recorded of each plan's run.
     ghost known: { Self → KnownRuns };
 
+    /// The recorded run of each plan, as the table keeps it.
+    ghost keeps: { Self → List Rig → Option Self.Run };
+
     /// The recorded run of a plan, if there is one. An error means that memory was refused.
     fn find(&self, faults: &[Rig]) -> Result<Option<&Self::Run>, AllocError>
-        ensures { IfOk result (λ run. option_map (λ r. tells r.now) run ≡ known self.now faults.now) };
+        ensures told { IfOk result (λ run. option_map (λ r. tells r.now) run ≡ known self.now faults.now) }
+        ensures kept { IfOk result (λ run. option_map (λ r. r.now) run ≡ keeps self.now faults.now) };
 
     /// Reads a run. If its hits are recorded, their points are put into the list in order, in place of what stood there. An error means that memory
     /// was refused.

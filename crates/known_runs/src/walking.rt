@@ -8,9 +8,9 @@ ghost use Rattle.grown_plans.specs.Kept.{kept_children};
 ghost use Rattle.grown_plans.specs.Promises.{IsLawful, verdict_of_rigs};
 ghost use Rattle.known_runs.specs.Known.{Agrees, hits_of};
 ghost use Rattle.known_runs.specs.ToldPart.{onward_told};
-ghost use Rattle.known_runs.specs.Walks.{do_alike, first_acting, if_alike, are_alike, is_alike, is_return, once, onward_walked, verdict_at, verdict_walked};
+ghost use Rattle.known_runs.specs.Walks.{do_alike, first_acting, if_alike, are_alike, is_alike, is_return, once, onward_walked, verdict_walked, walk, walk_from};
 ghost use Rattle.known_runs.specs.inside.Grown.{again_told};
-ghost use Rattle.known_runs.specs.inside.WalkSteps.{IsOnward, IsStep, grew_at, verdict_ended};
+ghost use Rattle.known_runs.specs.inside.WalkSteps.{CameTo, IsOnward, IsStep, grew_at};
 
 use crate::growing::Workspace;
 use crate::table::{Look, RunTable, look_up};
@@ -180,7 +180,7 @@ fn verdict_alike<T: RunTable>(
     workspace: &mut Workspace,
     children: &mut Vec<Child>,
 ) -> Result<Option<Verdict>, AllocError>
-    ensures { IfOk result (λ verdict. verdict ≡ verdict_at (T.known table.now) (if_alike rigs.now plan.now (hits_of (T.known table.now) plan.now))) }
+    ensures { IfOk result (CameTo (T.known table.now) (if_alike rigs.now plan.now (hits_of (T.known table.now) plan.now)) plan.now) }
 {
     let Look::Seen(verdict) = look_up(table, plan, &mut workspace.hits)? else {
         return Ok(None);
@@ -240,45 +240,88 @@ fn put_onward<T: RunTable>(
     Ok(true)
 }
 
-/// The verdict of rigged hits by the plan that a walk has come to, with its last fault as a sticky fault.
-fn verdict_onward<T: RunTable>(
+/// Goes on to the plan that a walk has come to, with its last fault as a sticky fault. Returns its verdict, if the walk comes to it.
+fn go_onward<T: RunTable>(
     alloc: Global,
     table: &T,
     rigs: &[Rig],
-    plan: &[Rig],
+    plan: &mut Vec<Rig>,
     workspace: &mut Workspace,
     children: &mut Vec<Child>,
 ) -> Result<Option<Verdict>, AllocError>
-    ensures { IfOk result (λ verdict. verdict ≡ verdict_at (T.known table.now) (onward_walked (T.known table.now) rigs.now plan.now)) }
+    ensures { IfOk result (CameTo (T.known table.now) (onward_walked (T.known table.now) rigs.now plan.old.items) plan.new.items) }
 {
     let mut onward = Vec::new(alloc);
-    if !put_onward(table, plan, &mut onward, workspace, children)? {
+    if !put_onward(table, plan.as_slice(), &mut onward, workspace, children)? {
         return Ok(None);
     }
-    verdict_alike(table, rigs, onward.as_slice(), workspace, children)
+    let verdict = verdict_alike(table, rigs, onward.as_slice(), workspace, children)?;
+    *plan = onward;
+    Ok(verdict)
 }
 
-/// The verdict where a walk has come to a plan with as many faults as the depth allows.
-fn verdict_after<T: RunTable>(
+/// Ends a walk that has come to a plan with as many faults as the depth allows. Returns the verdict of the plan that it ends at.
+fn end_walk<T: RunTable>(
     alloc: Global,
     table: &T,
     rigs: &[Rig],
-    plan: &[Rig],
+    plan: &mut Vec<Rig>,
     workspace: &mut Workspace,
     children: &mut Vec<Child>,
 ) -> Result<Option<Verdict>, AllocError>
-    ensures { IfOk result (λ verdict. verdict ≡ verdict_ended (T.known table.now) rigs.now plan.now) }
+    ensures { IfOk result (CameTo (T.known table.now) (walk_from (T.known table.now) rigs.now 0 plan.old.items) plan.new.items) }
 {
-    match next_step(table, rigs, plan, workspace, children)? {
+    match next_step(table, rigs, plan.as_slice(), workspace, children)? {
         Step::Unknown => Ok(None),
         Step::Ends(verdict) => Ok(Some(verdict)),
-        Step::Acts(_) => verdict_onward(alloc, table, rigs, plan, workspace, children),
+        Step::Acts(_) => go_onward(alloc, table, rigs, plan, workspace, children),
     }
 }
 
-/// The verdict of rigged hits, which are in order, if recorded runs lead to it with at most `depth` faults. The walk begins at the plan without
-/// faults, and the next rigged hit to act becomes the plan's next fault. If more than `depth` of them act, the last fault becomes a sticky one.
-/// `None` if a run on the way isn't recorded with its hits, or if the plan with the sticky fault doesn't do the same as the rigged hits.
+/// Walks from the plan without faults, which is put into the list in place of what stood there. The next rigged hit to act becomes the plan's next
+/// fault. If more than `depth` of them act, the last fault becomes a sticky one. Returns the verdict of the plan that the walk comes to; `None` if a
+/// run on the way isn't recorded with its hits, or if the plan with the sticky fault doesn't do the same as the rigged hits.
+fn walk<T: RunTable>(
+    alloc: Global,
+    table: &T,
+    rigs: &[Rig],
+    depth: u32,
+    plan: &mut Vec<Rig>,
+) -> Result<Option<Verdict>, AllocError>
+    ensures { IfOk result (CameTo (T.known table.now) (walk (T.known table.now) rigs.now depth) plan.new.items) }
+{
+    plan.clear();
+    let mut workspace = Workspace::new(alloc);
+    let mut children = Vec::new(alloc);
+    for _ in 0..depth {
+        match next_step(table, rigs, plan.as_slice(), &mut workspace, &mut children)? {
+            Step::Unknown => return Ok(None),
+            Step::Ends(verdict) => return Ok(Some(verdict)),
+            Step::Acts(fault) => put_first(plan, fault)?,
+        }
+    }
+    end_walk(alloc, table, rigs, plan, &mut workspace, &mut children)
+}
+
+/// The plan whose run rigged hits have, which are in order, if recorded runs lead to it with at most `depth` faults. It is the plan at which a walk
+/// over the recorded runs ends, so the hits of its run are recorded. In the list of its faults the one that acts last comes first. An error means
+/// that memory was refused.
+pub fn plan_of<T: RunTable>(
+    alloc: Global,
+    table: &T,
+    rigs: &[Rig],
+    depth: u32,
+) -> Result<Option<Vec<Rig>>, AllocError>
+    ensures { IfOk result (λ plan. option_map (λ p. p.items) plan ≡ walk (T.known table.now) rigs.now depth) }
+{
+    let mut plan = Vec::new(alloc);
+    match walk(alloc, table, rigs, depth, &mut plan)? {
+        Some(_) => Ok(Some(plan)),
+        None => Ok(None),
+    }
+}
+
+/// The verdict of the plan whose run rigged hits have, as by [`plan_of`].
 ///
 /// It is the verdict of each lawful subject that agrees with the table and tries each rigged hit's kind at its point. An error means that memory was
 /// refused.
@@ -294,16 +337,5 @@ pub fn verdict_of<T: RunTable>(
         → IfSome verdict (λ v. (seed stream : ℕ) → verdict_of_rigs t seed stream rigs.now ≡ v)) }
 {
     let mut plan = Vec::new(alloc);
-    let mut workspace = Workspace::new(alloc);
-    let mut children = Vec::new(alloc);
-    for _ in 0..depth {
-        match next_step(table, rigs, plan.as_slice(), &mut workspace, &mut children)? {
-            Step::Unknown => return Ok(None),
-            Step::Ends(verdict) => return Ok(Some(verdict)),
-            Step::Acts(fault) => put_first(&mut plan, fault)?,
-        }
-    }
-    let plan = plan.as_slice();
-    let verdict = verdict_after(alloc, table, rigs, plan, &mut workspace, &mut children)?;
-    Ok(verdict)
+    walk(alloc, table, rigs, depth, &mut plan)
 }

@@ -1,11 +1,11 @@
 -- One step of a walk. Private contracts cite it.
-use Rattle.std.specs.Prelude.{◌≡◌, Bool, true, false, List, [], ◌∷◌, Option, Some, map}
+use Rattle.std.specs.Prelude.{◌≡◌, Bool, true, false, List, [], ◌∷◌, Option, None, Some, map}
 use Rattle.action_eval.specs.declared.rig.Rig.{Rig}
 use Rattle.action_eval.specs.declared.rig.Site.{Site}
 use Rattle.target_trait.specs.declared.judgement.Verdict.{Verdict}
 use Rattle.grown_plans.specs.Kept.{Grew}
 use Rattle.known_runs.specs.Known.{KnownRuns, hits_of}
-use Rattle.known_runs.specs.Walks.{Unknown, Nothing, Acts, next_told, verdict_at, verdict_told, walk_from}
+use Rattle.known_runs.specs.Walks.{Unknown, Nothing, Acts, next_told, verdict_told}
 use Rattle.known_runs.specs.declared.walking.Step.{Step}
 use Rattle.known_runs.specs.declared.walking.Step.TheVariants as step
 
@@ -19,9 +19,10 @@ IsStep known rigs plan step.Unknown = next_told rigs plan (hits_of known plan) �
 IsStep known rigs plan (step.Ends verdict) = (next_told rigs plan (hits_of known plan) ≡ Nothing) × (verdict_told (known plan) ≡ Some verdict)
 IsStep known rigs plan (step.Acts fault) = next_told rigs plan (hits_of known plan) ≡ Acts fault
 
--- The verdict that a walk ends with if the plans that it comes to may have no more faults.
-abbrev pub verdict_ended : KnownRuns → List Rig → List Rig → Option Verdict
-verdict_ended known rigs plan = verdict_at known (walk_from known rigs 0 plan)
+-- A walk came to this plan, and the plan has this verdict; or it came to none.
+abbrev pub CameTo : KnownRuns → Option (List Rig) → List Rig → Option Verdict → Type 0
+CameTo known walked plan None = walked ≡ None
+CameTo known walked plan (Some v) = (walked ≡ Some plan) × (verdict_told (known plan) ≡ Some v)
 
 -- Whether there is a plan with its last fault sticky, and if so, its faults are these.
 abbrev pub IsOnward : List (List Rig) → List Rig → Bool → Type 0

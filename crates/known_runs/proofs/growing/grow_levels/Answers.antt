@@ -19,7 +19,7 @@ loop-init g c =
     let kinds = kinds_at c.args.kinds.now in
     let known = g.T.RunTable.known c.args.table.now in
     let one = ap length c.in_ok-levels.ensures.plans in
-    record { are = c.in_ok-levels.ensures.levels (level_known kinds known) (level_zero kinds known); few = let room = c.in_ok-levels.ensures.few in omega (arith, one, room); found = c.in_ok-find_rest.ensures }
+    record { are = c.in_ok-levels.ensures.levels (level_known kinds known) (level_zero kinds known); few = let room = c.in_ok-levels.ensures.few in omega (arith, one, room); found = c.in_ok-find_rest.ensures.found; kept = c.in_ok-find_rest.ensures.kept }
 
 pub add-requires-clause-parents : goal.add-requires-clause-parents
 add-requires-clause-parents g c =
@@ -48,7 +48,8 @@ loop-preserved g c =
           (c.in_ok-add.ensures.levels (level_known kinds known) c.loop.counter c.loop.invariant.are
           (ap (map (plan_of l.plans)) (c.as_slice-in-loop.ensures.value ∙ c.in_ok-children.ensures) ∙ next_level kinds known c.loop.counter l c.loop.invariant.are));
       few = c.in_ok-add.ensures.few;
-      found = c.in_ok-find_rest-2.ensures;
+      found = c.in_ok-find_rest-2.ensures.found;
+      kept = c.in_ok-find_rest-2.ensures.kept;
     }
 
 pub returns-clause-levels : goal.returns-clause-levels
@@ -61,6 +62,10 @@ pub invariant_of-looked-clause-found : goal.invariant_of-looked-clause-found
 invariant_of-looked-clause-found g c =
     ap (map (option_map (λ r. g.T.RunTable.tells r.now))) c.as_slice.ensures.value ∙ c.loop.invariant.found
 
-pub find_rest-requires-in-loop : goal.find_rest-requires-in-loop
-find_rest-requires-in-loop g c =
+pub find_rest-requires-in-loop-clause-found : goal.find_rest-requires-in-loop-clause-found
+find_rest-requires-in-loop-clause-found g c =
     found_before (option_map (λ r. g.T.RunTable.tells r.now)) (g.T.RunTable.known c.args.table.now) c.loop.runs.items c.loop.levels.plans _ c.add.new.self.plans c.loop.invariant.found c.in_ok-add.ensures.plans
+
+pub find_rest-requires-in-loop-clause-kept : goal.find_rest-requires-in-loop-clause-kept
+find_rest-requires-in-loop-clause-kept g c =
+    found_before (option_map (λ r. r.now)) (g.T.RunTable.keeps c.args.table.now) c.loop.runs.items c.loop.levels.plans _ c.add.new.self.plans c.loop.invariant.kept c.in_ok-add.ensures.plans

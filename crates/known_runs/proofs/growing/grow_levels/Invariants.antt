@@ -10,4 +10,5 @@ invariant-loop g l = record {
   are : AreLevels (level_known (kinds_at l.kinds) (g.T.RunTable.known l.table)) l.counter l.levels;
   few : length l.levels.plans ≤ l.most;
   found : map (option_map (λ run. g.T.RunTable.tells run.now)) l.runs.items ≡ map (g.T.RunTable.known l.table) l.levels.plans;
+  kept : map (option_map (λ run. run.now)) l.runs.items ≡ map (g.T.RunTable.keeps l.table) l.levels.plans;
 }

@@ -49,7 +49,12 @@ returns-in_err-list-clause-many g c = λ is.
     whole_many (kinds_at c.args.kinds.now) (g.T.RunTable.known c.args.table.now) c.args.depth c.args.most l c.as_slice-2.result.now c.in_ok-levels.ensures.levels
     (ap (map (plan_of l.plans)) c.as_slice-2.ensures.value ∙ c.in_ok-ends.ensures.plans) (c.in_err-list.ensures.many (search (is, rules)))
 
-pub find_rest-requires : goal.find_rest-requires
-find_rest-requires g c =
+pub find_rest-requires-clause-found : goal.find_rest-requires-clause-found
+find_rest-requires-clause-found g c =
     found_before (option_map (λ r. g.T.RunTable.tells r.now)) (g.T.RunTable.known c.args.table.now) c.in_ok-levels.runs.items c.in_ok-levels.levels.plans _ c.in_ok-list.list.plans
     c.in_ok-levels.ensures.found c.in_ok-list.ensures.plans
+
+pub find_rest-requires-clause-kept : goal.find_rest-requires-clause-kept
+find_rest-requires-clause-kept g c =
+    found_before (option_map (λ r. r.now)) (g.T.RunTable.keeps c.args.table.now) c.in_ok-levels.runs.items c.in_ok-levels.levels.plans _ c.in_ok-list.list.plans
+    c.in_ok-levels.ensures.kept c.in_ok-list.ensures.plans
