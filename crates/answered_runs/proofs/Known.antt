@@ -5,7 +5,7 @@ use Rattle.std.specs.List.{AllByRecursion, list_all}
 use Rattle.std.specs.Str.{bytes_eq}
 use Rattle.std.proofs.lemmas.Bool.{eqb-true, leb-true, ltb-true}
 use Rattle.std.proofs.lemmas.Slice.Eq.{bytes_eq-Decides}
-use Rattle.scenario_values.specs.Scenario.{Entries, is_argument}
+use Rattle.scenario_values.specs.Scenario.{Entries, IsScenario, is_argument}
 use Rattle.scenario_values.specs.Printed.{printed}
 use Rattle.action_eval.specs.Answers.{given_of}
 use Rattle.action_eval.specs.Catalogue.{IsCatalogue}
@@ -72,10 +72,10 @@ in_order (r ∷ rs) e =
 
 -- ---- a component that tries the faults of rigged hits at each point, with the same runs
 
-abbrev with_any : Subject → List Rig → Subject
+abbrev pub with_any : Subject → List Rig → Subject
 with_any t rigs = record { asks = t.asks; names = t.names; limit = t.limit; kinds = any_kinds rigs }
 
-lawful_any : (t : Subject) (rigs : List Rig) → IsLawful t → HaveLawfulTexts rigs → IsLawful (with_any t rigs)
+pub lawful_any : (t : Subject) (rigs : List Rig) → IsLawful t → HaveLawfulTexts rigs → IsLawful (with_any t rigs)
 lawful_any t rigs l texts = record {
   catalogue = l.catalogue;
   within = l.within;
@@ -88,7 +88,7 @@ true_any : (t : Subject) (rigs : List Rig) (s : Entries) (o : Option ToldRun) �
 true_any t rigs s None h = tt
 true_any t rigs s (Some r) h = record { verdict = h.verdict; hits = h.hits }
 
-agrees_any : (t : Subject) (rigs : List Rig) (told : KnownRuns) → AgreesWithRuns t told → AgreesWithRuns (with_any t rigs) told
+pub agrees_any : (t : Subject) (rigs : List Rig) (told : KnownRuns) → AgreesWithRuns t told → AgreesWithRuns (with_any t rigs) told
 agrees_any t rigs told agrees = λ s lawful. true_any t rigs s (told s) (agrees s lawful)
 
 -- ---- the rigged hits of a scenario
@@ -107,11 +107,11 @@ made points s rigs e = by_found (points_into s 0 points []) e
     by_found None f = absurd cc
     by_found (Some rs) f = by_test rs (make points rs s) refl f
 
-record Lawful (rigs : List Rig) : Type 0 where
-  few : length rigs ≤ 64
-  small : AllByRecursion (λ r. r.site.hit < 2 ^ 32) rigs
-  texts : HaveLawfulTexts rigs
-  ordered : AreInOrder (map (λ (r : Rig). r.site) rigs)
+pub record Lawful (rigs : List Rig) : Type 0 where
+  pub few : length rigs ≤ 64
+  pub small : AllByRecursion (λ r. r.site.hit < 2 ^ 32) rigs
+  pub texts : HaveLawfulTexts rigs
+  pub ordered : AreInOrder (map (λ (r : Rig). r.site) rigs)
 
 short_text : (kind : Kind) → is_short (text_of kind) ≡ true → HasLawfulText kind
 short_text kind e = at (text_of kind) e
@@ -134,6 +134,18 @@ lawful rigs e =
       ordered = in_order rigs (right (nat_le (length rigs) 64 && are_small rigs && are_short rigs) (are_in_order rigs) e);
     }
 
+-- a scenario that is made of rigged hits is just that of these
+pub record AreRigsOf (points : List (List ℕ)) (s : Entries) (rigs : List Rig) : Type 0 where
+  pub lawful : Lawful rigs
+  pub same : rigged_scenario points rigs ≡ s
+
+pub rigs_give : (points : List (List ℕ)) (s : Entries) (rigs : List Rig) → IsCatalogue points → IsScenario s → rigs_of_scenario points s ≡ Some rigs → AreRigsOf points s rigs
+rigs_give points s rigs catalogue ok e =
+    let m = made points s rigs e in
+    let l = lawful rigs (left (are_lawful rigs) (bytes_eq (printed (rigged_scenario points rigs)) (printed s)) m) in
+    let prints : printed (rigged_scenario points rigs) ≡ printed s = (bytes_eq-Decides (printed (rigged_scenario points rigs)) (printed s)).0 (right (are_lawful rigs) (bytes_eq (printed (rigged_scenario points rigs)) (printed s)) m) in
+    record { lawful = l; same = same_printed (rigged_scenario points rigs) s (rigged_scenario_keeps points rigs catalogue l.few l.small l.texts) ok prints }
+
 verdict_some : (v w : Verdict) → Some v ≡ Some w → v ≡ w
 verdict_some v w e = cc
 
@@ -148,14 +160,12 @@ true_of t points listed told depth is low agrees s v ok known seed stream = by_t
     by_rigs : (o : Option (List Rig)) → rigs_of_scenario points s ≡ o → walked_by (plan_runs points told) depth o ≡ Some v → (outcome t.asks (given_of s t.names seed stream t.limit)).verdict ≡ v
     by_rigs None e k = absurd cc
     by_rigs (Some rigs) e k =
-        let m = made points s rigs e in
-        let l = lawful rigs (left (are_lawful rigs) (bytes_eq (printed (rigged_scenario points rigs)) (printed s)) m) in
-        let prints : printed (rigged_scenario points rigs) ≡ printed s = (bytes_eq-Decides (printed (rigged_scenario points rigs)) (printed s)).0 (right (are_lawful rigs) (bytes_eq (printed (rigged_scenario points rigs)) (printed s)) m) in
-        let same : rigged_scenario points rigs ≡ s = same_printed (rigged_scenario points rigs) s (rigged_scenario_keeps points rigs catalogue l.few l.small l.texts) ok prints in
+        let of = rigs_give points s rigs catalogue ok e in
+        let l = of.lawful in
         let any = lawful_any t rigs is.lawful l.texts in
         let known = agree_lawful (with_any t rigs) points told depth any is.names is.few low (agrees_any t rigs told agrees) in
         let w : (seed stream : ℕ) → verdict_of_rigs t seed stream rigs ≡ v = same_verdict (plan_runs points told) rigs depth (Some v) (sym k) (with_any t rigs) any known l.ordered (any_in rigs) in
-        sym (verdict_is t.asks t.names seed t.limit stream s) ∙ ap (verdict_with t.asks t.names seed t.limit stream) (sym same ∙ ap (λ (names : List (List ℕ)). rigged_scenario names rigs) (sym is.names)) ∙ w seed stream
+        sym (verdict_is t.asks t.names seed t.limit stream s) ∙ ap (verdict_with t.asks t.names seed t.limit stream) (sym of.same ∙ ap (λ (names : List (List ℕ)). rigged_scenario names rigs) (sym is.names)) ∙ w seed stream
 
     by_told : (o : Option ToldRun) → IfSome o (IsTrueRun t s) → told_or (walked_by (plan_runs points told) depth (rigs_of_scenario points s)) o ≡ Some v → (outcome t.asks (given_of s t.names seed stream t.limit)).verdict ≡ v
     by_told (Some r) h k = h.verdict seed stream ∙ verdict_some r.verdict v k

@@ -4,6 +4,9 @@ pub mod Known
 pub mod EndedRuns
 pub mod Found
 pub mod Breaks
+pub mod Differences
+pub mod LineReading
+pub mod Contradicting
 pub mod WholeLists
 pub mod Within
 pub mod KnownLists

@@ -45,6 +45,10 @@ hits_by hits = if list_all is_low hits && nat_le (length (points_of hits)) most_
 abbrev pub told_of : ToldRun → Told
 told_of r = told r.verdict (option_and_then hits_by r.hits)
 
+-- What is recorded of the tidied scenario of a plan with at most 64 faults.
+abbrev pub plan_told : Answered → List Rig → Option ToldRun
+plan_told a plan = if nat_le (length plan) 64 then told_in a.book (tidied (grown_scenario a.points plan)) else None
+
 -- The recorded run of a plan with at most 64 faults: that of its tidied scenario.
 abbrev pub plan_runs : List (List ℕ) → KnownRuns → PlanRuns
 plan_runs points known plan = if nat_le (length plan) 64 then option_map told_of (known (tidied (grown_scenario points plan))) else None

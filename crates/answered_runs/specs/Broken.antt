@@ -14,6 +14,8 @@ use Rattle.campaign_plans.specs.GrownScenarios.{grown_scenario}
 use Rattle.answer_text.specs.Runs.{told_in}
 use Rattle.answered_runs.specs.Answered.{Answered, runs_in}
 use Rattle.answered_runs.specs.declared.broken.BrokenRun.{BrokenRun}
+use Rattle.answered_runs.specs.declared.broken.Conflict.{Conflict}
+use Rattle.answered_runs.specs.declared.broken.Conflict.TheVariants.{Hits, Verdict}
 
 -- The break of a run's hits with those of another run, if both are recorded.
 abbrev pub break_told : Site → Option (List ℕ) → Option (List ℕ) → Option Break
@@ -34,24 +36,28 @@ IsUnbroken runs plan = break_at runs plan ≡ None
 abbrev pub line_told : Answered → List Rig → ℕ
 line_told a plan = option_map_or (λ run. run.line) (told_in a.book (tidied (grown_scenario a.points plan))) 0
 
--- The first of these plans whose run breaks: its number, how it breaks, and the lines of its run and of the run that it has to begin like.
+-- The first of these plans whose run breaks: how it breaks, and the lines of its run and of the run that it has to begin like.
 pub record IsFirstBreak (a : Answered) (plans : List (List Rig)) (b : BrokenRun) : Type 0 where
-  pub within : b.number < length plans
-  pub breaks : break_at (runs_in a) (slice_index_or plans b.number []) ≡ Some b.how
-  pub first : AllByRecursion (IsUnbroken (runs_in a)) (take b.number plans)
-  pub line : b.line ≡ line_told a (slice_index_or plans b.number [])
-  pub earlier : b.earlier ≡ line_told a (forerunner_of (slice_index_or plans b.number []))
+  pub number : ℕ
+  pub how : Break
+  pub within : number < length plans
+  pub breaks : break_at (runs_in a) (slice_index_or plans number []) ≡ Some how
+  pub first : AllByRecursion (IsUnbroken (runs_in a)) (take number plans)
+  pub how_is : b.how ≡ Hits how
+  pub line : b.line ≡ line_told a (slice_index_or plans number [])
+  pub earlier : b.earlier ≡ line_told a (forerunner_of (slice_index_or plans number []))
 
 -- The first plan whose run breaks, or none if each run is unbroken.
 abbrev pub AreBroken : Answered → List (List Rig) → Option BrokenRun → Type 0
 AreBroken a plans None = AllByRecursion (IsUnbroken (runs_in a)) plans
 AreBroken a plans (Some b) = IsFirstBreak a plans b
 
--- The line that reports the break.
-abbrev pub text_by : ℕ → ℕ → Break → List ℕ
-text_by line earlier (Differs hit) =
+-- The line that reports it.
+abbrev pub text_by : ℕ → ℕ → Conflict → List ℕ
+text_by line earlier (Hits (Differs hit)) =
     codes "answers: line " ++ (decimal line ++ (codes ": hits differ from line " ++ (decimal earlier ++ (codes " at hit " ++ decimal hit))))
-text_by line earlier NotMet = codes "answers: line " ++ (decimal line ++ codes ": fault not met")
+text_by line earlier (Hits NotMet) = codes "answers: line " ++ (decimal line ++ codes ": fault not met")
+text_by line earlier Verdict = codes "answers: line " ++ (decimal line ++ (codes ": verdict differs from line " ++ decimal earlier))
 
 abbrev pub broken_text : BrokenRun → List ℕ
 broken_text b = text_by b.line b.earlier b.how

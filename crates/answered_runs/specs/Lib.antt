@@ -1,7 +1,9 @@
 pub mod Answered
 pub mod Broken
 pub mod Components
+pub mod Contradictions
 pub mod EndedRuns
+pub mod Lines
 pub mod Rigged
 pub mod Verdicts
 pub mod WholeList

@@ -9,6 +9,7 @@ ghost use Rattle.answered_runs.specs.Broken.{AreBroken, break_at, broken_text, l
 ghost use Rattle.known_runs.specs.Breaks.{forerunner_of};
 ghost use Rattle.known_runs.specs.Looks.{IsLook};
 ghost use Rattle.answered_runs.specs.Components.{AgreesWithRuns, IsComponent};
+ghost use Rattle.answered_runs.specs.declared.broken.Conflict.TheVariants.{Hits};
 
 use crate::plans::KnownPlans;
 use crate::scenarios::plan_scenario;
@@ -118,17 +119,24 @@ fn line_told(alloc: Global, runs: &AnsweredRuns<'_>, faults: &[Rig]) -> Result<u
     }
 }
 
-/// A run that breaks with that of its plan's forerunner: it doesn't begin like it.
+/// How a recorded run contradicts another one.
+#[derive(Clone, Copy, Debug, PartialEq, Eq)]
+pub enum Conflict {
+    /// Its hits aren't those of the other run, as far as the two have to have the same hits.
+    Hits(Break),
+    /// It has the same hits, or hits that nobody knows, and another verdict.
+    Verdict,
+}
+
+/// A recorded run that contradicts another one, so that no component has both.
 #[derive(Clone, Copy, Debug, PartialEq, Eq)]
 pub struct BrokenRun {
-    /// The number of its plan among those that are known by now.
-    pub number: usize,
     /// The number of the line that records it, from 1.
     pub line: u32,
-    /// The number of the line that records the forerunner's run.
+    /// The number of the line that records the other run.
     pub earlier: u32,
-    /// How it breaks.
-    pub how: Break,
+    /// How the two contradict each other.
+    pub how: Conflict,
 }
 
 impl fmt::Display for BrokenRun {
@@ -138,41 +146,43 @@ impl fmt::Display for BrokenRun {
         let line = self.line;
         let earlier = self.earlier;
         match self.how {
-            Break::Differs(hit) => {
+            Conflict::Hits(how) => match how {
+                Break::Differs(hit) => {
+                    write!(
+                        f,
+                        "answers: line {line}: hits differ from line {earlier} at hit {hit}"
+                    )
+                }
+                Break::NotMet => write!(f, "answers: line {line}: fault not met"),
+            },
+            Conflict::Verdict => {
                 write!(
                     f,
-                    "answers: line {line}: hits differ from line {earlier} at hit {hit}"
+                    "answers: line {line}: verdict differs from line {earlier}"
                 )
             }
-            Break::NotMet => write!(f, "answers: line {line}: fault not met"),
         }
     }
 }
 
-/// The broken run of the plan of this number, with the lines that record it and its forerunner's.
+/// The broken run of a plan, with the lines that record it and its forerunner's.
 fn told_broken(
     alloc: Global,
     runs: &AnsweredRuns<'_>,
-    number: usize,
     faults: &[Rig],
     forerunner: &[Rig],
     how: Break,
 ) -> Result<BrokenRun, AllocError>
     requires plan { length faults.now ≤ 64 }
     requires forerunner { length forerunner.now ≤ 64 }
-    ensures number { IfOk result (λ broken. broken.number ≡ number) }
-    ensures how { IfOk result (λ broken. broken.how ≡ how) }
+    ensures how { IfOk result (λ broken. broken.how ≡ Hits how) }
     ensures line { IfOk result (λ broken. broken.line ≡ line_told runs.now faults.now) }
     ensures earlier { IfOk result (λ broken. broken.earlier ≡ line_told runs.now forerunner.now) }
 {
     let line = line_told(alloc, runs, faults)?;
     let earlier = line_told(alloc, runs, forerunner)?;
-    Ok(BrokenRun {
-        number,
-        line,
-        earlier,
-        how,
-    })
+    let how = Conflict::Hits(how);
+    Ok(BrokenRun { line, earlier, how })
 }
 
 /// The first plan whose recorded run breaks with that of its forerunner, with the lines that record the two.
@@ -197,7 +207,7 @@ pub fn broken_run(alloc: Global, known: &KnownPlans<'_>) -> Result<Option<Broken
         if let Some(how) = break_at(known, number, &mut lists)? {
             let faults = lists.faults.as_slice();
             let forerunner = lists.forerunner.as_slice();
-            let broken = told_broken(alloc, known.runs(), number, faults, forerunner, how)?;
+            let broken = told_broken(alloc, known.runs(), faults, forerunner, how)?;
             return Ok(Some(broken));
         }
     }

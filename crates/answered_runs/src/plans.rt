@@ -2,7 +2,8 @@
 ghost use Rattle.std.specs.Prelude.{◌≡◌, ◌≤◌, ◌<◌, ◌^◌, [], length, map, option_map, slice_index_or, IfOk, IsErrOf, OnOk};
 ghost use Rattle.std.specs.List.{AllByRecursion};
 ghost use Rattle.known_runs.specs.Looks.{IsLook};
-ghost use Rattle.answered_runs.specs.Answered.{known_plans, runs_in, told_of};
+ghost use Rattle.answered_runs.specs.Answered.{known_plans, plan_told, runs_in, told_of};
+ghost use Rattle.answered_runs.specs.Broken.{line_told};
 ghost use Rattle.answered_runs.specs.KnownLists.{IsKnownList, known_list, verdict_told};
 ghost use Rattle.answered_runs.specs.WholeList.{AreTold, unseen_count};
 
@@ -29,7 +30,7 @@ pub struct KnownPlans<'a> {
 
 impl<'a> Model for KnownPlans<'a> {
     ghost use Rattle.std.specs.Prelude.{◌≡◌, ◌≤◌, length, map, option_map};
-    ghost use Rattle.answered_runs.specs.Answered.{runs_in, told_of};
+    ghost use Rattle.answered_runs.specs.Answered.{plan_told, runs_in, told_of};
     ghost use Rattle.answered_runs.specs.KnownLists.{IsKnownList, KnownList, known_list};
 
     ghost Value = { KnownList };
@@ -37,7 +38,8 @@ impl<'a> Model for KnownPlans<'a> {
     ghost view = { λ k. known_list k.runs.now k.depth k.told.list };
 
     ghost invariant = { λ k. (k.depth ≤ 64) × IsKnownList k.runs.now k.depth k.told.list × (length k.told.list.plans ≤ 65536)
-        × (map (option_map (λ r. told_of r.now)) k.told.runs.items ≡ map (runs_in k.runs.now) k.told.list.plans) };
+        × (map (option_map (λ r. told_of r.now)) k.told.runs.items ≡ map (runs_in k.runs.now) k.told.list.plans)
+        × (map (option_map (λ r. r.now)) k.told.runs.items ≡ map (plan_told k.runs.now) k.told.list.plans) };
 }
 
 /// The plans that are known, each with its recorded run, if there is one.
@@ -49,6 +51,7 @@ fn found_plans<'a>(
     requires { depth ≤ 64 }
     ensures list { IfOk result (λ told. IsKnownList runs.now depth told.list) }
     ensures found { IfOk result (λ told. map (option_map (λ r. told_of r.now)) told.runs.items ≡ map (runs_in runs.now) told.list.plans) }
+    ensures kept { IfOk result (λ told. map (option_map (λ r. r.now)) told.runs.items ≡ map (plan_told runs.now) told.list.plans) }
     ensures few { IfOk result (λ told. length told.list.plans ≤ 65536) }
     ensures many { IsErrOf result PlanFault.TooManyPlans → 65536 < length (known_plans runs.now depth) }
 {
@@ -113,6 +116,17 @@ impl<'a> KnownPlans<'a> {
         match self.told.runs[number] {
             Some(run) => Some(run.verdict),
             None => None,
+        }
+    }
+
+    /// The number of the line that records the run of the plan of this number; 0 if none does.
+    pub(crate) fn line_told(&self, number: usize) -> u32
+        requires { number < length self.now.list.plans }
+        ensures { result ≡ line_told self.now.answered (slice_index_or self.now.list.plans number []) }
+    {
+        match self.told.runs[number] {
+            Some(run) => run.line,
+            None => 0,
         }
     }
 

@@ -8,7 +8,9 @@ ghost use Rattle.answer_text.specs.Runs.{told_in};
 ghost use Rattle.grown_plans.specs.Promises.{CanBeTried};
 ghost use Rattle.known_runs.specs.Looks.{IsLook};
 ghost use Rattle.answered_runs.specs.Answered.{CanBeListed, answered, is_low, told_of};
+ghost use Rattle.answered_runs.specs.Lines.{AreLinesOf};
 
+use crate::lines::AnswerLines;
 use crate::scenarios::plan_scenario;
 use action_eval::{Kind, Rig};
 use answer_text::{MOST_HITS, Runs, Stretch, ToldRun};
@@ -31,6 +33,7 @@ pub struct AnsweredRuns<'a> {
     points: &'a [&'a str],
     listed: &'a [Vec<Kind>],
     runs: &'a Runs,
+    lines: AnswerLines<'a>,
 }
 
 impl<'a> Model for AnsweredRuns<'a> {
@@ -39,25 +42,29 @@ impl<'a> Model for AnsweredRuns<'a> {
     ghost use Rattle.action_eval.specs.Answers.{texts};
     ghost use Rattle.action_eval.specs.Catalogue.{IsCatalogue};
     ghost use Rattle.answered_runs.specs.Answered.{Answered, CanBeListed};
+    ghost use Rattle.answered_runs.specs.Lines.{AreLinesOf};
 
     ghost Value = { Answered };
 
     ghost view = { λ a. record { points = texts a.points.now; listed = map (λ kinds. kinds.items) a.listed.now; book = a.runs.now } };
 
-    ghost invariant = { λ a. IsCatalogue (texts a.points.now) × AllByRecursion (λ kinds. CanBeListed kinds.items) a.listed.now };
+    ghost invariant = { λ a. IsCatalogue (texts a.points.now) × AllByRecursion (λ kinds. CanBeListed kinds.items) a.listed.now
+        × AreLinesOf a.lines.codes.now a.lines.points.now a.lines.text.now a.runs.now };
 }
 
 impl<'a> AnsweredRuns<'a> {
     /// The runs that were read, of a component with these points. `listed` has the kinds of faults that are tried at the hits of each point, in their
-    /// order. A point whose list is empty or missing has the usual kinds.
+    /// order. A point whose list is empty or missing has the usual kinds. `lines` is the text that the runs were read from.
     pub fn new(
         alloc: Global,
         points: &'a [&'a str],
         listed: &'a [Vec<Kind>],
         runs: &'a Runs,
+        lines: AnswerLines<'a>,
     ) -> Self
         requires points { IsCatalogue (texts points.now) }
         requires listed { AllByRecursion (λ kinds. CanBeListed kinds.items) listed.now }
+        requires lines { AreLinesOf lines.codes.now lines.points.now lines.text.now runs.now }
         ensures { result ≡ answered (texts points.now) (map (λ kinds. kinds.items) listed.now) runs.now }
     {
         AnsweredRuns {
@@ -65,6 +72,7 @@ impl<'a> AnsweredRuns<'a> {
             points,
             listed,
             runs,
+            lines,
         }
     }
 
@@ -90,6 +98,13 @@ impl<'a> AnsweredRuns<'a> {
         ensures { result.now ≡ self.now.book }
     {
         self.runs
+    }
+
+    /// The text that the runs were read from.
+    pub(crate) fn lines(&self) -> AnswerLines<'a>
+        ensures { AreLinesOf result.codes.now result.points.now result.text.now self.now.book }
+    {
+        self.lines
     }
 
     /// What is recorded of the run of a scenario, once it is tidied. An error means that memory was refused.
@@ -134,13 +149,15 @@ fn look_at(run: &ToldRun, hits: &mut Vec<u32>) -> Result<Look, AllocError>
 }
 
 impl<'a> RunTable for AnsweredRuns<'a> {
-    ghost use Rattle.answered_runs.specs.Answered.{runs_in, told_of};
+    ghost use Rattle.answered_runs.specs.Answered.{plan_told, runs_in, told_of};
 
     type Run = ToldRun;
 
     ghost tells = { told_of };
 
     ghost known = { runs_in };
+
+    ghost keeps = { plan_told };
 
     fn find(&self, faults: &[Rig]) -> Result<Option<&ToldRun>, AllocError> {
         if faults.len() > MOST_FAULTS {

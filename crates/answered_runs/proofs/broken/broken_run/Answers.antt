@@ -1,5 +1,4 @@
-use Rattle.std.proofs.Common.{◌≡◌, ap, [], get_or, ◌<◌, ◌≤◌, ◌∙◌, List, length, arith, subst, sym, refl}
-use Rattle.action_eval.specs.declared.rig.Rig.{Rig}
+use Rattle.std.proofs.Common.{ap, [], get_or, ◌<◌, ◌∙◌, length, arith, sym, refl}
 use Rattle.grown_plans.specs.declared.grown_list.GrownList.{GrownList}
 use Rattle.answered_runs.specs.Answered.{runs_in}
 use Rattle.answered_runs.proofs.Breaks.{never_breaks, short_at, short_forerunner, unbroken_more, unbroken_all}
