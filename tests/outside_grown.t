@@ -345,6 +345,61 @@ The first of them by the plans' order is told, whatever the lines' order; and no
   $ sed '3,4d' broken | paklour asks three.toml
   none
 
+Two lines with one run
+----------------------
+
+Where the faults of a scenario act as those of a plan do, it has the plan's run. Its line has to say so, whether the settings list it or nobody asked. Here both
+hits of `a` return one by one, and that is what a return from then on does.
+
+  $ cat > both.toml << END
+  > target = "outside"
+  > depth = 1
+  > scenarios = ["a=1*return->1*return"]
+  > [outside]
+  > label = "both"
+  > codes = ["bad"]
+  > points = ["a", "b"]
+  > END
+  $ { line pass none '2*a'; line pass a=1*return '2*a'; line pass a=1*panic a; line pass 'a=1*off->1*return' '2*a'; } > both
+  $ { line pass 'a=1*off->1*panic' '2*a'; line pass a=return '2*a'; } >> both
+  $ both() { { cat both; line "$@"; } > told; for words in asks report 'report --partial'; do paklour $words both.toml < told; done; }
+  $ both 'fail bad' 'a=1*return->1*return' '2*a'
+  answers: line 7: verdict differs from line 6
+  answers: line 7: verdict differs from line 6
+  answers: line 7: verdict differs from line 6
+  [2]
+  $ both unresolved 'a=1*return->1*return' - 2>&1 | sort -u
+  answers: line 7: verdict differs from line 6
+  $ both 'fail bad' 'a=1*return->1*return' 'a;b' 2>&1 | sort -u
+  answers: line 7: hits differ from line 6 at hit 2
+  $ both pass 'a=1*return->1*return' '2*a;b' 2>&1 | sort -u
+  answers: line 7: hits differ from line 6 at hit 3
+  $ both pass 'a=1*return->1*return' a 2>&1 | sort -u
+  answers: line 7: hits differ from line 6 at hit 2
+  $ both pass 'a=2*off->1*panic;b=1*return' '2*a;b' 2>&1 | sort -u
+  answers: line 7: hits differ from line 1 at hit 3
+
+The first such line is told, by the lines' order. It is told once the plan's line is there, and may stand before that.
+
+  $ { line 'fail bad' 'a=1*return->1*return' '2*a'; line 'fail bad' b=1*return '2*a'; cat both; } | paklour asks both.toml
+  answers: line 1: verdict differs from line 8
+  [2]
+  $ { head -n 5 both; line 'fail bad' 'a=1*return->1*return' '2*a'; line 'fail bad' b=1*return '2*a'; } | paklour asks both.toml
+  answers: line 7: verdict differs from line 1
+  [2]
+  $ { head -n 5 both; line 'fail bad' 'a=1*return->1*return' '2*a'; } | paklour asks both.toml
+  a=return
+
+Lines that say the same are taken, and so is a scenario whose run is that of no plan: two faults that act, where a plan has one.
+
+  $ { cat both; line pass b=1*return '2*a'; line pass 'a=1*return->1*return' '2*a'; cat both; } > told
+  $ paklour asks both.toml < told
+  $ paklour report --brief both.toml < told | grep -E '^(plans|counts|first)'
+  plans 7
+  counts pass 7 unresolved 0
+  first none
+  $ { cat told; line 'fail bad' 'a=1*return->1*panic' '2*a'; } | paklour asks both.toml
+
 Runs that were ended
 --------------------
 

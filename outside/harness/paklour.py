@@ -55,7 +55,7 @@ class Paklour:
 
     def name_differing_run(self, told: str) -> None:
         """Names the scenario whose run didn't repeat the run that it grew from."""
-        found = re.search(r"^answers: line (\d+): (fault not met|hits differ from line \d+ at hit \d+|contradicts line \d+, .*)$", told, re.M)
+        found = re.search(r"^answers: line (\d+): (fault not met|hits differ from line \d+ at hit \d+|verdict differs from line \d+|contradicts line \d+, .*)$", told, re.M)
         if found and len(fields := self.fields(found[1])) > 1:
             why = "look for clocks, threads, random names, or a port that runs share (-j 1)"
             show(f"loop: line {found[1]} is the run of {fields[1]}, which doesn't repeat an earlier run: {why}")

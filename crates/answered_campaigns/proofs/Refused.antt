@@ -28,6 +28,9 @@ use Rattle.outside_campaign.specs.declared.refusal.OutsideFault.TheVariants as r
 use Rattle.outside_grown.specs.Asked.{to_try, undecided, unrun}
 use Rattle.outside_grown.specs.Further.{further_told}
 use Rattle.answered_campaigns.specs.Grown.{candidates, known, listed, or_else, untried}
+use Rattle.answered_runs.specs.Broken.{AreBroken}
+use Rattle.answered_runs.specs.Contradictions.{AreContradicted, IsFirstContradiction}
+use Rattle.answered_runs.specs.declared.broken.BrokenRun.{BrokenRun}
 use Rattle.answered_campaigns.specs.Questions.{RefusesAsks, RefusesBy}
 use Rattle.answered_campaigns.specs.declared.fault.QuestionFault.{QuestionFault}
 use Rattle.answered_campaigns.specs.declared.fault.QuestionFault.TheVariants as fault
@@ -40,6 +43,14 @@ known_short a depth plans is low =
     subst (AllByRecursion (λ (plan : List Rig). length plan ≤ 64)) (sym is)
     (all_weaker (λ (plan : List Rig). length plan ≤ depth) (λ (plan : List Rig). length plan ≤ 64) (λ plan le. omega (arith, le, low)) (known_plans a depth)
     (part_short (kinds_over a.points a.listed) (runs_in a) depth))
+
+-- a line that contradicts a plan, where no run breaks
+pub contradicted : (a b : Answered) (d e : ℕ) (plans : List (List Rig)) (broken found : Option BrokenRun) (x : BrokenRun) → a ≡ b → d ≡ e → plans ≡ known_plans a d → broken ≡ None → AreBroken a plans broken → found ≡ Some x → AreContradicted a d found
+    → AreBroken b (known_plans b e) None × IsFirstContradiction b e x
+contradicted a b d e plans broken found x same deep all none first some contradicts =
+    subst (λ (y : Answered). AreBroken y (known_plans y e) None × IsFirstContradiction y e x) same
+    (subst (λ (n : ℕ). AreBroken a (known_plans a n) None × IsFirstContradiction a n x) deep
+    (subst (λ (ps : List (List Rig)). AreBroken a ps None) all (subst (AreBroken a plans) none first), subst (AreContradicted a d) some contradicts))
 
 -- ---- what is in a list
 

@@ -1,5 +1,5 @@
 -- Texts that answer questions on a component that somebody else runs, of a campaign with or without a depth, by the settings and a text of answers.
-use Rattle.std.specs.Prelude.{◌≡◌, ◌≤◌, ◌<◌, ℕ, Bool, true, List, [], ◌∷◌, Option, None, Some, Ok, Err, length, Contains}
+use Rattle.std.specs.Prelude.{◌≡◌, ◌⊎◌, ◌≤◌, ◌<◌, ℕ, Bool, true, List, [], ◌∷◌, Option, None, Some, Ok, Err, length, Contains}
 use Rattle.scenario_values.specs.Scenario.{Entries}
 use Rattle.plan_gen.specs.PlanList.{Asked, most_plans}
 use Rattle.asked_lines.specs.Lines.{lines_for}
@@ -10,6 +10,7 @@ use Rattle.answer_text.specs.Runs.{known_runs, known_strangers, runs_of, told_in
 use Rattle.answer_text.specs.declared.runs.RunLine.{RunLine}
 use Rattle.answered_runs.specs.Answered.{Answered, known_plans, runs_in}
 use Rattle.answered_runs.specs.Broken.{AreBroken, IsFirstBreak}
+use Rattle.answered_runs.specs.Contradictions.{AreContradicted, IsFirstContradiction}
 use Rattle.campaign_given.specs.Description.{Description}
 use Rattle.campaign_given.specs.Given.{Given}
 use Rattle.campaign_core.specs.declared.ending.CampaignFault.TheVariants as campaign
@@ -54,9 +55,10 @@ IsReadingFault outside answers (fault.Unseen line) = ⊥
 abbrev pub grown_lines : Given → ℕ → Answered → List (List ℕ)
 grown_lines given depth a = lines_for (grown.untried a depth given.plans)
 
--- Each recorded run begins like that of its plan's forerunner.
-abbrev pub AreUnbroken : Answered → ℕ → Type 0
-AreUnbroken a depth = AreBroken a (known_plans a depth) None
+-- Each recorded run of a plan begins like that of the plan's forerunner, and no other recorded run contradicts that of a plan.
+pub record AreUnbroken (a : Answered) (depth : ℕ) : Type 0 where
+  pub begin : AreBroken a (known_plans a depth) None
+  pub agree : AreContradicted a depth None
 
 -- A text asks for a part of what is still to be tried.
 pub record IsAskedText (part : AskedPart) (outside : Description) (given : Given) (depth : ℕ) (answers text : List ℕ) : Type 0 where
@@ -75,10 +77,11 @@ pub record IsReportedText (form : Form) (outside : Description) (given : Given) 
   pub each : (t : Subject) → grown.AgreesWithAnswers outside answers t
       → IsReportAsSeen form (grown.campaign outside given depth t) (told_in runs.book) depth (runs_in runs) text first
 
--- Why there is no report, by recorded runs: one doesn't begin like that of its plan's forerunner; something is still to be tried, and this scenario
--- is part of it; or too many plans are known.
+-- Why there is no report, by recorded runs: one doesn't begin like that of its plan's forerunner, or all do, and one contradicts that of a plan;
+-- something is still to be tried, and this scenario is part of it; or too many plans are known.
 abbrev pub RefusesBy : Answered → ℕ → Asked → QuestionFault → Type 0
-RefusesBy a depth asked (fault.Broken b) = IsFirstBreak a (known_plans a depth) b
+RefusesBy a depth asked (fault.Broken b) =
+    IsFirstBreak a (known_plans a depth) b ⊎ (AreBroken a (known_plans a depth) None × IsFirstContradiction a depth b)
 RefusesBy a depth asked (fault.Outside (refusal.NotAnswered t)) = Contains (grown.untried a depth asked) t
 RefusesBy a depth asked (fault.Outside (refusal.Campaign campaign.TooManyPlans)) = AreTooMany a asked (length (known_plans a depth))
 RefusesBy a depth asked (fault.Outside (refusal.Campaign campaign.Memory)) = Unit {0}

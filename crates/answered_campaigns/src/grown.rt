@@ -14,7 +14,7 @@ ghost use Rattle.answered_campaigns.specs.inside.Outcomes.{IsGapFault};
 
 use crate::fault::QuestionFault;
 use crate::table::KnownByRuns;
-use answered_runs::{AnsweredRuns, KnownPlans, broken_run, plan_scenario};
+use answered_runs::{AnsweredRuns, KnownPlans, broken_run, contradiction, plan_scenario};
 use campaign_plans::CampaignPlans;
 use outside_campaign::{OutsideFault, VerdictTable};
 use plan_gen::PlanList;
@@ -22,7 +22,8 @@ use scenario_values::{Scenario, tidy};
 use std::alloc::{AllocError, Global};
 use target_trait::Verdict;
 
-/// The plans that are known by now. Answers are refused if a run doesn't begin like that of its plan's forerunner.
+/// The plans that are known by now. Answers are refused if a run doesn't begin like that of its plan's forerunner, or else if a line contradicts the run
+/// of a plan: its scenario has that run, by a walk over the recorded runs, and the line records other hits or another verdict.
 pub fn known_plans<'a>(
     alloc: Global,
     runs: &'a AnsweredRuns<'a>,
@@ -35,7 +36,10 @@ pub fn known_plans<'a>(
 {
     let known = KnownPlans::of(alloc, runs, depth)?;
     let _ = known.list();
-    match broken_run(alloc, &known)? {
+    if let Some(broken) = broken_run(alloc, &known)? {
+        return Err(QuestionFault::Broken(broken));
+    }
+    match contradiction(alloc, &known)? {
         Some(broken) => Err(QuestionFault::Broken(broken)),
         None => Ok(known),
     }
