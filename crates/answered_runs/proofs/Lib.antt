@@ -7,6 +7,7 @@ pub mod Breaks
 pub mod Differences
 pub mod LineReading
 pub mod Contradicting
+pub mod Taken
 pub mod WholeLists
 pub mod Within
 pub mod KnownLists

@@ -2,11 +2,15 @@
 -- a plan do, it has the plan's run. So its line has to say what the plan's line says.
 use Rattle.std.specs.Prelude.{◌≡◌, ℕ, ◌+◌, ◌<◌, ◌==◌, ◌⊎◌, List, [], ◌∷◌, Option, None, Some, Contains, IfSome, map, option_map, option_and_then, if◌then◌else◌}
 use Rattle.scenario_values.specs.Scenario.{Entries, IsScenario}
+use Rattle.action_eval.specs.Answers.{given_of}
+use Rattle.action_eval.specs.RiggedScenario.{CanBeRigged}
 use Rattle.action_eval.specs.declared.rig.Rig.{Rig}
+use Rattle.target_trait.specs.Outcomes.{outcome}
 use Rattle.target_trait.specs.declared.judgement.Verdict.{Verdict}
+use Rattle.grown_plans.specs.GrownPlans.{Subject, rigs_of}
 use Rattle.answer_text.specs.Runs.{same_verdict, told_in}
 use Rattle.answer_text.specs.declared.runs.ToldRun.{ToldRun}
-use Rattle.known_runs.specs.Known.{Told}
+use Rattle.known_runs.specs.Known.{IsTrueOf, Told}
 use Rattle.known_runs.specs.Walks.{walk}
 use Rattle.known_runs.specs.declared.breaks.Break.TheVariants.{Differs}
 use Rattle.answered_runs.specs.Answered.{Answered, known_plans, runs_in, told_of}
@@ -70,3 +74,21 @@ pub record IsFirstContradiction (a : Answered) (depth : ℕ) (b : BrokenRun) : T
 abbrev pub AreContradicted : Answered → ℕ → Option BrokenRun → Type 0
 AreContradicted a depth None = (s : Entries) → IsScenario s → IfSome (told_in a.book s) (Fits a depth s)
 AreContradicted a depth (Some b) = IsFirstContradiction a depth b
+
+-- ---- what is known of a line that contradicts no plan
+
+-- What is recorded of plans is true of a component, whatever kinds of faults they have.
+abbrev pub AgreesWithPlans : Subject → Answered → Type 0
+AgreesWithPlans t a = (plan : List Rig) → CanBeRigged (rigs_of plan) → IfSome (runs_in a plan) (IsTrueOf t plan)
+
+-- A component's run under a scenario has this verdict and, if they are known, these hits.
+pub record HasRun (t : Subject) (s : Entries) (run : Told) : Type 0 where
+  pub verdict : (seed stream : ℕ) → (outcome t.asks (given_of s t.names seed stream t.limit)).verdict ≡ run.verdict
+  pub hits : (seed stream : ℕ) → IfSome run.hits (λ hits. (outcome t.asks (given_of s t.names seed stream t.limit)).asked ≡ hits)
+
+-- If the walk comes from a scenario to a plan, and the scenario's line doesn't contradict the plan's, the line is true of each component of which the
+-- lines of plans are true.
+abbrev pub TellsTruth : Subject → Answered → ℕ → Type 0
+TellsTruth t a depth =
+    (s : Entries) (run : ToldRun) (plan : List Rig) → IsScenario s → told_in a.book s ≡ Some run → plan_played a depth s ≡ Some plan
+    → contradiction_at a depth s ≡ None → HasRun t s (told_of run)

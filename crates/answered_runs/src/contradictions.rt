@@ -1,13 +1,13 @@
 //! Recorded runs that contradict the run of a plan.
-ghost use Rattle.std.specs.Prelude.{◌≡◌, ◌<◌, ◌^◌, ◌⊎◌, ℕ, List, Some, false, length, option_map, slice_index_or, true, IfOk, IfSome, OnOk};
+ghost use Rattle.std.specs.Prelude.{◌≡◌, ◌<◌, ◌≤◌, ◌^◌, ◌⊎◌, ℕ, List, Some, false, length, option_map, slice_index_or, true, IfOk, IfSome, OnOk};
 ghost use Rattle.scenario_values.specs.Tidied.{tidied};
 ghost use Rattle.answer_text.specs.Runs.{same_verdict, told_in};
 ghost use Rattle.grown_plans.specs.GrownPlans.{Subject};
 ghost use Rattle.known_runs.specs.Known.{Told};
 ghost use Rattle.known_runs.specs.Looks.{IsLook};
-ghost use Rattle.answered_runs.specs.Answered.{told_of};
+ghost use Rattle.answered_runs.specs.Answered.{Answered, told_of};
 ghost use Rattle.answered_runs.specs.Components.{AgreesWithRuns, IsComponent};
-ghost use Rattle.answered_runs.specs.Contradictions.{AreContradicted, against, conflict_by, conflict_of, differ_at, plan_played};
+ghost use Rattle.answered_runs.specs.Contradictions.{AgreesWithPlans, AreContradicted, TellsTruth, against, conflict_by, conflict_of, differ_at, plan_played};
 ghost use Rattle.answered_runs.specs.inside.LineSteps.{AreOwn, IsFoundOn, IsOnLine};
 
 use crate::broken::{BrokenRun, Conflict};
@@ -223,3 +223,9 @@ pub fn contradiction(alloc: Global, known: &KnownPlans<'_>) -> Result<Option<Bro
     }
     Ok(None)
 }
+
+/// A line that contradicts no plan is true where the walk comes to a plan: the run that it records is that of each component of which the recorded runs
+/// of plans are true.
+pub fn lines_that_are_taken_are_true()
+    ensures { (t : Subject) (a : Answered) (depth : ℕ) → IsComponent a.points a.listed t → depth ≤ 64 → AgreesWithPlans t a → TellsTruth t a depth }
+{}

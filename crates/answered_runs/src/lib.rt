@@ -13,7 +13,7 @@ mod table;
 mod verdicts;
 
 pub use broken::{BrokenRun, Conflict, broken_run};
-pub use contradictions::contradiction;
+pub use contradictions::{contradiction, lines_that_are_taken_are_true};
 pub use laws::{
     answers_tell_plans, answers_tell_verdicts, ended_runs_have_a_component,
     unbroken_runs_have_a_component,
