@@ -6,7 +6,7 @@ report are worked out here by the definitions alone; however the answers come, t
 
 `paklour` has to be on the PATH. Of each campaign the answers come in rounds, each a part of what is asked, in any order, some again, some unasked, scenarios
 spelled otherwise, hits in a row told as `2*a`. Between rounds it is looked at which lines a shard has, how many are left, and what is known. Of what a failure is reduced to it is looked at that it fails so, and without any one of its faults doesn't;
-how many tests that took isn't. Some components hide the hits of their unresolved runs: nothing grows from these, and the report counts them. Then one answer is changed so that the component isn't one: the lines that are told are worked out too. Prints each
+how many tests that took isn't. Some components hide the hits of their unresolved runs: nothing grows from these, and the report counts them. Then one answer is changed so that the component isn't one, or one is added that contradicts a plan's: the lines that are told are worked out too. Prints each
 difference, and at last how many campaigns there were, with how many plans. Fails where something differs.
 """
 import hashlib
@@ -265,6 +265,7 @@ class Campaign:
         self.expect("each plan of the levels was asked", set(), {text_of(self.component.points, plan) for plan in sum(expected.levels, [])} - set(known))
         if len(expected.plans) > 1 and not self.differs:
             self.break_one(expected, {**known, **unasked})
+            self.contradict_one(expected, {**known, **unasked})
         return len(expected.plans)
 
     def look_at_parts(self, asked, known, given):
@@ -324,6 +325,27 @@ class Campaign:
         wanted = (2, "", f"answers: line {list(known).index(text) + 1}: {why}\n")
         for command in ("asks", "report"):
             self.expect(f"{command}: {text} is broken", wanted, paklour([command, self.settings], given))
+
+    def contradict_one(self, expected, known):
+        """With one more fault, which never acts, a scenario has a plan's run: another verdict or other hits contradict the plan's line."""
+        points = self.component.points
+        plan = self.draw.choice([plan for plan in expected.plans if not expected.is_hidden(plan)] or [()])
+        hits, answers = expected.run(plan)
+        free = [point for point in points if (point, ONWARD) not in [(where, fault) for where, _, fault in plan]]
+        if not free or expected.is_hidden(plan):
+            return
+        point = self.draw.choice(free)
+        text = text_of(points, plan + ((point, hits.count(point) + self.draw.randint(1, 3), self.draw.choice([RETURN, PANIC])),))
+        if text in known:
+            return
+        line, at = list(known).index(text_of(points, plan)) + 1, self.draw.randint(0, len(hits))
+        told = {"verdict differs from line {line}": hits, "hits differ from line {line} at hit {hit}": hits[:at] + [self.draw.choice(points)] * (at == len(hits))}
+        why, other = self.draw.choice(list(told.items()))
+        verdict = next(verdict for verdict in ("pass", "fail lost") if verdict != self.component.verdict(answers))
+        given = "".join("\t".join(answer) + "\n" for answer in {**known, text: (verdict, text, hits_text(other))}.values())
+        wanted = (2, "", f"answers: line {len(known) + 1}: {why.format(line=line, hit=at + 1)}\n")
+        words = self.draw.choice([["asks"], ["report"], ["report", "--partial"]])
+        self.expect(f"{words}: {text} contradicts a plan", wanted, paklour([*words, self.settings], given))
 
 
 def perform(number, folder):
