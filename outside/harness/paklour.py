@@ -9,6 +9,10 @@ from .answers import Answers, Stopped
 from .settings import text_of
 from .shown import show, show_once
 
+# What the program says of a run that isn't that of a program which does the same each time.
+DIFFERS = re.compile(r"^answers: line (\d+): (fault not met|hits differ from line \d+ at hit \d+|verdict differs from line \d+|contradicts line \d+, .*)$",
+                     re.MULTILINE)
+
 
 class Paklour:
     def __init__(self, settings: str, answers: Answers, look_share: int = 20):
@@ -55,7 +59,7 @@ class Paklour:
 
     def name_differing_run(self, told: str) -> None:
         """Names the scenario whose run didn't repeat the run that it grew from."""
-        found = re.search(r"^answers: line (\d+): (fault not met|hits differ from line \d+ at hit \d+|verdict differs from line \d+|contradicts line \d+, .*)$", told, re.M)
+        found = DIFFERS.search(told)
         if found and len(fields := self.fields(found[1])) > 1:
             why = "look for clocks, threads, random names, or a port that runs share (-j 1)"
             show(f"loop: line {found[1]} is the run of {fields[1]}, which doesn't repeat an earlier run: {why}")
