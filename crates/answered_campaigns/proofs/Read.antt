@@ -12,10 +12,12 @@ use Rattle.known_runs.specs.KnownPart.{are_told, known_part, to_run}
 use Rattle.known_runs.specs.ToldPart.{part_known}
 use Rattle.known_runs.proofs.Listed.{filter_all, part_is}
 use Rattle.answered_runs.specs.KnownLists.{KnownList}
-use Rattle.answered_runs.specs.Answered.{Answered, known_plans, runs_in}
+use Rattle.action_eval.specs.Catalogue.{IsCatalogue}
+use Rattle.answered_runs.specs.Answered.{Answered, CanBeListed, known_plans, runs_in}
 use Rattle.answered_runs.specs.Components.{AgreesWithRuns, IsComponent}
 use Rattle.answered_runs.specs.WholeList.{AreAllTold}
 use Rattle.answered_runs.proofs.Runs.{agree}
+use Rattle.answered_runs.proofs.SomeComponent.{has_component}
 use Rattle.campaign_given.specs.Description.{Description}
 use Rattle.campaign_given.specs.Given.{Given}
 use Rattle.campaign_core.specs.Headline.{Campaign, grower}
@@ -76,13 +78,21 @@ as_seen form outside given a depth text first low same is_text is_first lawful t
     }
 
 pub reported : (form : Form) (outside : Description) (given : Given) (a : Answered) (depth : ℕ) (answers text : List ℕ) (first : Option ℕ) → depth ≤ 64 → Tells outside answers a
-    → IsTextOf form outside given a depth text → IsFirstNumberOf outside given a depth first → AreLawfulOf outside given a depth → AreUnbroken a depth → AreAllTold (runs_in a) (known_plans a depth) → untried a depth given.plans ≡ []
+    → IsCatalogue a.points → AllByRecursion CanBeListed a.listed → IsTextOf form outside given a depth text → IsFirstNumberOf outside given a depth first → AreLawfulOf outside given a depth → AreUnbroken a depth → AreAllTold (runs_in a) (known_plans a depth) → untried a depth given.plans ≡ []
     → IsReportedText form outside given depth answers text first
-reported form outside given a depth answers text first low t is_text is_first lawful unbroken told all = record {
+reported form outside given a depth answers text first low t points listed is_text is_first lawful unbroken told all = record {
   runs = a;
   tells = t;
   unbroken = unbroken;
   all = all;
+  some = has_component a depth low (record {
+    points = points;
+    listed = listed;
+    needed = true;
+    names = outside.codes;
+    text = answers;
+    read = t.told ∙ ap (λ (ps : List (List ℕ)). known_runs outside.codes ps answers) (sym t.points);
+  }) unbroken.begin;
   each =
       λ s agrees. as_seen form outside given a depth text first low t.points is_text is_first lawful told s
       (subst (λ (ps : List (List ℕ)). IsComponent ps a.listed s) (sym t.points) (subst (λ (ls : List (List Kind)). IsComponent outside.points ls s) (sym t.listed) agrees.component)) (subst (AgreesWithRuns s) (sym t.told) agrees.agrees);

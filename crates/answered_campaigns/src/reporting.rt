@@ -177,6 +177,7 @@ pub fn grown_report<'a>(
     ensures fault { IfErr result (RefusesBy known.now.answered known.now.depth campaign.now.settings.now.plans) }
 {
     let _ = known.list();
+    let _ = known.runs().points();
     let settings = campaign.settings;
     let further = further_behind(alloc, known, &settings.plan_settings())?;
     refuse_gap(alloc, known)?;

@@ -80,6 +80,7 @@ impl<'a> AnsweredRuns<'a> {
     pub fn points(&self) -> &'a [&'a str]
         ensures names { texts result.now ≡ self.now.points }
         ensures lawful { IsCatalogue self.now.points }
+        ensures listed { AllByRecursion CanBeListed self.now.listed }
     {
         self.points
     }

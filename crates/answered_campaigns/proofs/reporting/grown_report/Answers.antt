@@ -1,7 +1,9 @@
 use Rattle.std.proofs.Common.{◌≡◌, ◌∙◌, List, [], ap, subst}
 use Rattle.std.specs.Prelude.{option_map, slice_get}
 use Rattle.report.specs.Reports.{FindingFacts}
-use Rattle.answered_runs.specs.Answered.{known_plans, runs_in}
+use Rattle.std.specs.List.{AllByRecursion}
+use Rattle.action_eval.specs.Catalogue.{IsCatalogue}
+use Rattle.answered_runs.specs.Answered.{Answered, CanBeListed, known_plans, runs_in}
 use Rattle.answered_runs.specs.WholeList.{AreAllTold}
 use Rattle.answered_campaigns.specs.Grown.{known, untried}
 use Rattle.answered_campaigns.proofs.AsSeen.{lawful_seen}
@@ -74,5 +76,7 @@ returns-clause-report c =
     let none : untried k.answered k.depth asked ≡ [] =
     nothing_left k.answered k.depth asked (none_to_try k.answered k.depth asked plans (subst (AreAllTold (runs_in k.answered)) s.grown s.told) is verdicts.1)
     (no_candidates k.answered k.depth asked plans k.list.plans c.in-Told.told is s.grown told) in
-    λ answers tells. reported form outside given k.answered k.depth answers c.in_ok-text-in-Told.text.items c.first_number-first.result c.list.ensures.low tells c.in_ok-text-in-Told.ensures first
+    λ answers tells. reported form outside given k.answered k.depth answers c.in_ok-text-in-Told.text.items c.first_number-first.result c.list.ensures.low tells
+    (subst (λ (a : Answered). IsCatalogue a.points) c.runs.ensures c.points.ensures.lawful) (subst (λ (a : Answered). AllByRecursion CanBeListed a.listed) c.runs.ensures c.points.ensures.listed)
+    c.in_ok-text-in-Told.ensures first
     (lawful_seen outside given k c.in_ok-further.further plans all c.in-Told.told decided) c.requires.unbroken grown none
