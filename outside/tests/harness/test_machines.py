@@ -113,7 +113,7 @@ class Machines(Campaigns):
         self.whole()
         parts = self.here / "parts"
         shutil.copytree(self.here / "whole", parts / "1")
-        for line, told in (("pass", "loop: this line of the answers has no scenario: pass\n"), ("pass\tnone", "answers: line 1: no hits; ")):
+        for line, told in (("pass", "loop: this line of the answers has no scenario: pass\n"), ("pass\tnone", "answers: line 1: no hits")):
             (parts / "1" / "answers").write_text(f"{line}\n")
             done = self.loop(*WORDS, "--join", parts, "--into", self.here / "joined", NOTE)
             self.assertEqual(done.status, 2)
