@@ -14,7 +14,7 @@ use Rattle.target_trait.specs.declared.judgement.Verdict.{Verdict}
 use Rattle.target_trait.specs.declared.judgement.Verdict.TheVariants as verdict
 use Rattle.answer_text.specs.Answers.{most_bytes}
 use Rattle.answer_text.specs.FirstFault.{answer_in, or_fault}
-use Rattle.answer_text.specs.Hits.{count_in, count_of, counted_in, ends_with, field_by, field_in, hits_in, item_by, item_in, items_from, known_hits, most_hits, points_of, stretch, with_item}
+use Rattle.answer_text.specs.Hits.{count_in, count_of, counted_in, ends_with, field_by, field_in, hits_in, item_by, item_in, items_from, known_hits, most_hits, name_of, points_of, stretch, with_item}
 use Rattle.answer_text.specs.Runs.{ended, first_told, is_repeated, known_of, on_line, pieces_from, reading_of, run_in, run_line, told_run, with_line, with_run}
 use Rattle.answer_text.specs.declared.fault.AnswersFault.{AnswersFault}
 use Rattle.answer_text.specs.declared.fault.AnswersFault.TheVariants as faults
@@ -51,12 +51,13 @@ fault_ok fault (Some y) x e = let same : y ≡ x = cc in ap (λ z. Some z) same
 place_below : (p : List ℕ → Bool) (points : List (List ℕ)) (i : ℕ) → position p points ≡ Some i → i < length points
 place_below p points i e = (position-Some p points i [] e).0
 
-counted_below : (points : List (List ℕ)) (o : Option (List ℕ × List ℕ)) (s : Stretch) → counted_in points o ≡ Ok s → s.point < length points
-counted_below points None s e = absurd cc
-counted_below points (Some parts) s e =
-    let count = bind_ok (or_fault BadCount (count_in parts.0)) (λ count. or_fault UnknownPoint (position (bytes_eq parts.1) points) >>= λ point. Ok (stretch point count)) s e in
-    let point = bind_ok (or_fault UnknownPoint (position (bytes_eq parts.1) points)) (λ point. Ok (stretch point count.0)) s count.2 in
-    let at : point.0 < length points = place_below (bytes_eq parts.1) points point.0 (fault_ok UnknownPoint (position (bytes_eq parts.1) points) point.0 point.1) in
+counted_below : (points : List (List ℕ)) (item : List ℕ) (o : Option (List ℕ × List ℕ)) (s : Stretch) → counted_in points item o ≡ Ok s → s.point < length points
+counted_below points item None s e = absurd cc
+counted_below points item (Some parts) s e =
+    let strange : LineFault = UnknownPoint parts.1 in
+    let count = bind_ok (or_fault BadCount (count_in parts.0)) (λ count. or_fault strange (position (bytes_eq parts.1) points) >>= λ point. Ok (stretch point count)) s e in
+    let point = bind_ok (or_fault strange (position (bytes_eq parts.1) points)) (λ point. Ok (stretch point count.0)) s count.2 in
+    let at : point.0 < length points = place_below (bytes_eq parts.1) points point.0 (fault_ok strange (position (bytes_eq parts.1) points) point.0 point.1) in
     subst (λ (x : Stretch). x.point < length points) (ok_is (stretch point.0 count.0) s point.2) at
 
 item_below : (points : List (List ℕ)) (item : List ℕ) (s : Stretch) → item_in points item ≡ Ok s → s.point < length points
@@ -64,7 +65,7 @@ unfolding item_in
 item_below points item s e = by_place (position (bytes_eq item) points) refl e
   where
     by_place : (o : Option ℕ) → position (bytes_eq item) points ≡ o → item_by points item o ≡ Ok s → s.point < length points
-    by_place None f g = counted_below points (cut 42 item) s g
+    by_place None f g = counted_below points item (cut 42 item) s g
     by_place (Some point) f g = subst (λ (x : Stretch). x.point < length points) (ok_is (stretch point 1) s g) (place_below (bytes_eq item) points point f)
 
 -- ---- hits
@@ -78,11 +79,11 @@ count_more before s =
     let front = sum-map (λ (x : Stretch). x.count) before in
     omega (arith, whole, parts, one, none, front)
 
-with_few : (n : ℕ) (before after : List Stretch) (s : Stretch) → with_item before s ≡ Ok after → AreFew n before → s.point < n → AreFew n after
+with_few : (points : List (List ℕ)) (n : ℕ) (before after : List Stretch) (s : Stretch) → with_item points before s ≡ Ok after → AreFew n before → s.point < n → AreFew n after
 unfolding with_item
-with_few n before after s e few at = by_tests (ends_with before s.point) (nat_lt most_hits (count_of before + s.count)) refl e
+with_few points n before after s e few at = by_tests (ends_with before s.point) (nat_lt most_hits (count_of before + s.count)) refl e
   where
-    by_tests : (a b : Bool) → nat_lt most_hits (count_of before + s.count) ≡ b → cond a (Err NotJoined) (cond b (Err BadCount) (Ok (before ++ s ∷ []))) ≡ Ok after → AreFew n after
+    by_tests : (a b : Bool) → nat_lt most_hits (count_of before + s.count) ≡ b → cond a (Err (NotJoined (name_of points s.point))) (cond b (Err BadCount) (Ok (before ++ s ∷ []))) ≡ Ok after → AreFew n after
     by_tests true b f g = absurd cc
     by_tests false true f g = absurd cc
     by_tests false false f g =
@@ -95,9 +96,9 @@ items_few : (points : List (List ℕ)) (before : List Stretch) (items : List (Li
 unfolding items_from
 items_few points before [] hits e few = subst (AreFew (length points)) (ok_is before hits e) few
 items_few points before (item ∷ items) hits e few =
-    let s = bind_ok (item_in points item) (λ s. with_item before s >>= λ after. items_from points after items) hits e in
-    let after = bind_ok (with_item before s.0) (λ after. items_from points after items) hits s.2 in
-    items_few points after.0 items hits after.2 (with_few (length points) before after.0 s.0 after.1 few (item_below points item s.0 s.1))
+    let s = bind_ok (item_in points item) (λ s. with_item points before s >>= λ after. items_from points after items) hits e in
+    let after = bind_ok (with_item points before s.0) (λ after. items_from points after items) hits s.2 in
+    items_few points after.0 items hits after.2 (with_few points (length points) before after.0 s.0 after.1 few (item_below points item s.0 s.1))
 
 none_few : (n : ℕ) → AreFew n []
 none_few n = record { points = tt; count = omega arith }
