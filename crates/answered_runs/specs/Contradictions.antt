@@ -1,5 +1,5 @@
--- Recorded runs that contradict each other, though no two lines have the same scenario. Where a scenario is made of rigged hits that act as the faults of
--- a plan do, it has the plan's run. So its line has to say what the plan's line says.
+-- Recorded runs that contradict each other, though no two lines have the same scenario. If a scenario is made of rigged hits that act as the faults of a
+-- plan do, it has the plan's run. So its line has to say what the plan's line says.
 use Rattle.std.specs.Prelude.{◌≡◌, ℕ, ◌+◌, ◌<◌, ◌==◌, ◌⊎◌, List, [], ◌∷◌, Option, None, Some, Contains, IfSome, map, option_map, option_and_then, if◌then◌else◌}
 use Rattle.scenario_values.specs.Scenario.{Entries, IsScenario}
 use Rattle.action_eval.specs.Answers.{given_of}
