@@ -1,5 +1,5 @@
 -- What is told of a text of answers that was read.
-use Rattle.std.proofs.Common.{◌≡◌, ◌≤◌, ℕ, true, false, List, [], Some, None, Option, Ok, is_none, refl, ap, sym, ◌∙◌, subst}
+use Rattle.std.proofs.Common.{◌≡◌, ◌≤◌, ℕ, true, false, List, [], length, Some, None, Option, Ok, is_none, refl, ap, sym, ◌∙◌, subst}
 use Rattle.std.specs.List.{AllByRecursion}
 use Rattle.action_eval.specs.declared.rig.Rig.{Rig}
 use Rattle.action_eval.specs.declared.rig.Kind.{Kind}
@@ -18,12 +18,13 @@ use Rattle.answered_runs.specs.Components.{AgreesWithRuns, IsComponent}
 use Rattle.answered_runs.specs.WholeList.{AreAllTold}
 use Rattle.answered_runs.proofs.Runs.{agree}
 use Rattle.answered_runs.proofs.SomeComponent.{has_component}
+use Rattle.plan_gen.specs.PlanList.{most_plans}
 use Rattle.campaign_given.specs.Description.{Description}
 use Rattle.campaign_given.specs.Given.{Given}
 use Rattle.campaign_core.specs.Headline.{Campaign, grower}
 use Rattle.report_forms.specs.declared.forms.Form.{Form}
 use Rattle.answered_campaigns.specs.Kinds.{listed_kinds}
-use Rattle.answered_campaigns.specs.Grown.{campaign, untried}
+use Rattle.answered_campaigns.specs.Grown.{campaign, listed, untried}
 use Rattle.answered_campaigns.specs.Questions.{AreUnbroken, IsReportedText, Tells}
 use Rattle.answered_campaigns.specs.Seen.{IsReportAsSeen, first_number_seen, report_seen_in}
 use Rattle.answered_campaigns.specs.inside.Outcomes.{AreLawfulOf, IsFirstNumberOf, IsTextOf}
@@ -79,12 +80,13 @@ as_seen form outside given a depth text first low same is_text is_first lawful t
 
 pub reported : (form : Form) (outside : Description) (given : Given) (a : Answered) (depth : ℕ) (answers text : List ℕ) (first : Option ℕ) → depth ≤ 64 → Tells outside answers a
     → IsCatalogue a.points → AllByRecursion CanBeListed a.listed → IsTextOf form outside given a depth text → IsFirstNumberOf outside given a depth first → AreLawfulOf outside given a depth → AreUnbroken a depth → AreAllTold (runs_in a) (known_plans a depth) → untried a depth given.plans ≡ []
-    → IsReportedText form outside given depth answers text first
-reported form outside given a depth answers text first low t points listed is_text is_first lawful unbroken told all = record {
+    → length (listed a depth given.plans) ≤ most_plans → IsReportedText form outside given depth answers text first
+reported form outside given a depth answers text first low t points listed is_text is_first lawful unbroken told all few = record {
   runs = a;
   tells = t;
   unbroken = unbroken;
   all = all;
+  few = few;
   some = has_component a depth low (record {
     points = points;
     listed = listed;

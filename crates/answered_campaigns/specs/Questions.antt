@@ -69,13 +69,14 @@ pub record IsAskedText (part : AskedPart) (outside : Description) (given : Given
   pub text_is : text ≡ part_text part (grown_lines given depth runs)
 
 -- A text is the report of every component that agrees with the answers, as far as its runs were seen, and `first` is the number of its first plan
--- that fails. Some component agrees with what is recorded of plans, and if nothing else is recorded, with the answers. Each plan is answered, and
--- nothing is still to be tried.
+-- that fails. Some component agrees with what is recorded of plans, and if nothing else is recorded, with the answers. Each plan is answered, nothing
+-- is still to be tried, and the list isn't too long.
 pub record IsReportedText (form : Form) (outside : Description) (given : Given) (depth : ℕ) (answers text : List ℕ) (first : Option ℕ) : Type 0 where
   pub runs : Answered
   pub tells : Tells outside answers runs
   pub unbroken : AreUnbroken runs depth
   pub all : grown.untried runs depth given.plans ≡ []
+  pub few : length (grown.listed runs depth given.plans) ≤ most_plans
   pub some : HasComponent runs depth
   pub each : (t : Subject) → grown.AgreesWithAnswers outside answers t
       → IsReportAsSeen form (grown.campaign outside given depth t) (told_in runs.book) depth (runs_in runs) text first

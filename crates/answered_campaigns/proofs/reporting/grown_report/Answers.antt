@@ -1,5 +1,7 @@
-use Rattle.std.proofs.Common.{◌≡◌, ◌∙◌, List, [], ap, subst}
+use Rattle.std.proofs.Common.{◌≡◌, ◌≤◌, ◌∙◌, List, [], ap, length, subst}
 use Rattle.std.specs.Prelude.{option_map, slice_get}
+use Rattle.scenario_values.specs.Scenario.{Entries}
+use Rattle.plan_gen.specs.PlanList.{most_plans}
 use Rattle.report.specs.Reports.{FindingFacts}
 use Rattle.std.specs.List.{AllByRecursion}
 use Rattle.action_eval.specs.Catalogue.{IsCatalogue}
@@ -80,3 +82,4 @@ returns-clause-report c =
     (subst (λ (a : Answered). IsCatalogue a.points) c.runs.ensures c.points.ensures.lawful) (subst (λ (a : Answered). AllByRecursion CanBeListed a.listed) c.runs.ensures c.points.ensures.listed)
     c.in_ok-text-in-Told.ensures first
     (lawful_seen outside given k c.in_ok-further.further plans all c.in-Told.told decided) c.requires.unbroken grown none
+    (subst (λ (l : List Entries). length l ≤ most_plans) is c.in_ok-verdicts.ensures.few)
