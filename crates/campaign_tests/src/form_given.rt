@@ -12,7 +12,7 @@ use scenario_grammar::parse;
 use scenario_values::Scenario;
 use std::alloc::Global;
 use std::test::Fail;
-use target_trait::Target;
+use target_trait::{Target, Verdict};
 
 /// The names of points and codes, in the order of their numbers.
 #[derive(Drop)]
@@ -62,6 +62,20 @@ pub fn plans(alloc: Global, scenarios: &[Scenario]) -> Result<PlanList<'_>, Fail
     match further_plans(alloc, &census, Replace::catalogue(), &settings, 0) {
         Ok(plans) => Ok(plans),
         Err(_) => Err(Fail::from("no plans")),
+    }
+}
+
+/// A report of a campaign without a plan.
+pub fn empty_report<'a>(alloc: Global) -> Report<'a> {
+    Report {
+        label: "",
+        seed: 0,
+        clean: Verdict::Unresolved,
+        census: &[],
+        verdicts: &[],
+        unmet: 0,
+        findings: Vec::new(alloc),
+        growth: None,
     }
 }
 

@@ -1,6 +1,6 @@
 //! JSON documents.
 
-use crate::form_given::{Words, cause, finding, json_of, plans, scenarios};
+use crate::form_given::{Words, cause, empty_report, finding, json_of, plans, scenarios};
 use report::{Growth, Report};
 use serde_json::Value;
 use std::alloc::Global;
@@ -213,16 +213,7 @@ fn a_document_tells_an_empty_report(rt: HostRuntime) -> Result<(), Fail> {
         codes: &[],
     };
     let plans = plans(alloc, &[])?;
-    let report = Report {
-        label: "",
-        seed: 0,
-        clean: Verdict::Unresolved,
-        census: &[],
-        verdicts: &[],
-        unmet: 0,
-        findings: Vec::new(alloc),
-        growth: None,
-    };
+    let report = empty_report(alloc);
     let text = json_of(alloc, &words, &report, &plans)?;
     assert_eq!(rt; text.as_slice(), EMPTY.as_bytes());
     Ok(())

@@ -1,6 +1,6 @@
 //! JUnit documents.
 
-use crate::form_given::{Words, finding, junit_of, plans, scenarios};
+use crate::form_given::{Words, empty_report, finding, junit_of, plans, scenarios};
 use report::Report;
 use std::test::Fail;
 use target_trait::Verdict;
@@ -85,16 +85,7 @@ fn an_empty_report_is_an_empty_suite(rt: HostRuntime) -> Result<(), Fail> {
         codes: &[],
     };
     let plans = plans(alloc, &[])?;
-    let report = Report {
-        label: "",
-        seed: 0,
-        clean: Verdict::Unresolved,
-        census: &[],
-        verdicts: &[],
-        unmet: 0,
-        findings: Vec::new(alloc),
-        growth: None,
-    };
+    let report = empty_report(alloc);
     let text = junit_of(alloc, &words, &report, &plans)?;
     assert_eq!(rt; text.as_slice(), EMPTY.as_bytes());
     Ok(())
