@@ -9,7 +9,7 @@ use Rattle.action_eval.specs.RiggedScenario.{CanBeRigged}
 use Rattle.plan_gen.specs.PlanList.{further_list}
 use Rattle.grown_plans.specs.GrownPlans.{usual_kinds, Subject, rigs_of, grown}
 use Rattle.grown_plans.proofs.Members.{all_left}
-use Rattle.campaign_plans.specs.GrownScenarios.{grown_among, grown_scenario, grown_scenarios}
+use Rattle.grown_plans.specs.numbered.GrownScenarios.{grown_among, grown_scenario, grown_scenarios}
 use Rattle.grown_runs.specs.Grown.{begun}
 use Rattle.grown_runs.proofs.Begun.{begun_front, begun_most, begun_all}
 use Rattle.campaign_core.specs.CommandTexts.{counted_to, with_rest}

@@ -18,8 +18,8 @@ use Rattle.result_book.specs.FirstFailures.{first_failures, AreFirstFailures}
 use Rattle.result_book.specs.FirstFailure.{FailsAt}
 use Rattle.result_book.proofs.EachCodeLemmas.{firsts_of}
 use Rattle.report.specs.Reports.{FindingFacts, GrowthFacts}
-use Rattle.report_promises.specs.Told.{Told, HasVerdict}
-use Rattle.report_promises.specs.Promises.{IsReduced, without}
+use Rattle.campaign_core.specs.promises.Told.{Told, HasVerdict}
+use Rattle.campaign_core.specs.promises.Promises.{IsReduced, without}
 use Rattle.campaign_core.specs.FaultTest.{fails_with}
 use Rattle.campaign_core.specs.Findings.{finding, report_of, IsMinimal, ReducesToMinimal}
 use Rattle.campaign_core.specs.Headline.{Campaign, grower, say}

@@ -17,7 +17,7 @@ use Rattle.plan_gen.proofs.Counting.{further_judged}
 use Rattle.grown_plans.specs.GrownPlans.{Subject, rigs_of, scenario_of, level, levels, levels_to, onward, grown, grown_list, reached}
 use Rattle.grown_plans.proofs.Members.{all_append}
 use Rattle.grown_runs.specs.GrownRuns.{over, verdict_at, cause_at, cause_by, is_least}
-use Rattle.campaign_plans.specs.GrownScenarios.{grown_among, grown_scenario, grown_scenarios}
+use Rattle.grown_plans.specs.numbered.GrownScenarios.{grown_among, grown_scenario, grown_scenarios}
 use Rattle.grown_runs.specs.declared.levels.Grown.{Grown}
 use Rattle.campaign_core.specs.Headline.{Campaign, census, grower, plans, plans_to, say}
 use Rattle.report.specs.Reports.{GrowthFacts}

@@ -15,3 +15,5 @@ pub mod Promised
 pub mod Unlisted
 pub mod Unreached
 pub mod Surveyed
+pub mod PromisesLemmas
+pub mod TargetLawsLemmas

@@ -6,7 +6,7 @@ use Rattle.target_trait.specs.Outcomes.{Told}
 use Rattle.target_trait.specs.declared.judgement.Verdict.{Verdict}
 use Rattle.result_book.specs.Ranges.{AreSaid}
 use Rattle.result_book.proofs.RangeLemmas.{range_length, range_said}
-use Rattle.plan_ranges.specs.Ranges.{range_count, range_start}
+use Rattle.grown_runs.specs.ranges.Ranges.{range_count, range_start}
 use Rattle.campaign_core.specs.inside.Ranges.{range_from, range_of}
 
 -- The number stands in one of the ranges, which have one size.

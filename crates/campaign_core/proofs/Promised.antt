@@ -27,15 +27,15 @@ use Rattle.campaign_core.specs.Headline.{Campaign, census, grower, plans, plans_
 use Rattle.campaign_core.specs.Findings.{cause_of, finding, growth_of, reduction, IsCauseAmong, ReducesToMinimal}
 use Rattle.campaign_core.proofs.Causes.{causes_are_causes}
 use Rattle.campaign_core.proofs.Findings.{found_of, once_each, reduced_at}
-use Rattle.report_promises.specs.Told.{Told}
-use Rattle.report_promises.specs.Promises.{IsFinding, IsReduced, Promises}
-use Rattle.report_promises.specs.Promises.{IsCause as IsToldCause}
-use Rattle.report_promises.proofs.Failures.{of_level, has_cause, fewest}
-use Rattle.report_promises.proofs.Least.{no_lesser}
-use Rattle.report_promises.proofs.Numbers.{get_front, get_map}
-use Rattle.report_promises.proofs.Counted.{level_sizes as sizes_of_levels, size_beyond}
-use Rattle.report_promises.proofs.KeepsEach.{keeps_each}
-use Rattle.report_promises.proofs.Grew.{Grew, IsCauseOf, all_numbers, counted, twice, skipped_none, whole_told, onward_told, most_reached}
+use Rattle.campaign_core.specs.promises.Told.{Told}
+use Rattle.campaign_core.specs.promises.Promises.{IsFinding, IsReduced, Promises}
+use Rattle.campaign_core.specs.promises.Promises.{IsCause as IsToldCause}
+use Rattle.campaign_core.proofs.PromisesLemmas.Failures.{of_level, has_cause, fewest}
+use Rattle.campaign_core.proofs.PromisesLemmas.Least.{no_lesser}
+use Rattle.campaign_core.proofs.PromisesLemmas.Numbers.{get_front, get_map}
+use Rattle.campaign_core.proofs.PromisesLemmas.Counted.{level_sizes as sizes_of_levels, size_beyond}
+use Rattle.campaign_core.proofs.PromisesLemmas.KeepsEach.{keeps_each}
+use Rattle.campaign_core.proofs.PromisesLemmas.Grew.{Grew, IsCauseOf, all_numbers, counted, twice, skipped_none, whole_told, onward_told, most_reached}
 
 -- ---- verdicts by numbers
 

@@ -8,12 +8,12 @@ use Rattle.plan_gen.specs.Census.{sites_of}
 use Rattle.plan_gen.specs.PlanList.{Asked, storm_part}
 use Rattle.grown_plans.specs.GrownPlans.{grown, scenario_of}
 use Rattle.grown_runs.specs.declared.levels.Grown.{Grown}
-use Rattle.campaign_plans.specs.GrownScenarios.{grown_among, grown_scenarios}
+use Rattle.grown_plans.specs.numbered.GrownScenarios.{grown_among, grown_scenarios}
 use Rattle.report.specs.Reports.{ReportFacts}
-use Rattle.report_json.specs.About.{ShownFacts, shown_of}
-use Rattle.report_forms.specs.Forms.{text_in}
-use Rattle.report_forms.specs.Runs.{GrownAreFirst}
-use Rattle.report_forms.specs.declared.forms.Form.{Form}
+use Rattle.report.specs.json_form.About.{ShownFacts, shown_of}
+use Rattle.report.specs.forms.Forms.{text_in}
+use Rattle.report.specs.forms.Runs.{GrownAreFirst}
+use Rattle.report.specs.declared.forms.forms.Form.{Form}
 use Rattle.campaign_core.specs.Forms.{report_in, settings_text, shown, telling, text_or}
 use Rattle.campaign_core.specs.Headline.{Campaign, census, grower, grown_to, plans, plans_to, report}
 use Rattle.campaign_core.specs.Planned.{IsGrownTo}

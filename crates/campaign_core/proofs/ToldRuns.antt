@@ -2,7 +2,7 @@
 use Rattle.std.proofs.Common.{◌≡◌, ap, ◌∙◌, ℕ, List}
 use Rattle.action_eval.specs.Answers.{Given, given_of}
 use Rattle.target_trait.specs.declared.case.Case.{Case}
-use Rattle.run_explained.proofs.Cases.{text_is}
+use Rattle.report.proofs.ExplainedLemmas.Cases.{text_is}
 
 pub twin_text_is : {S : Type 0} (names : List (List ℕ)) (told : S → Given → List ℕ) (case made : Case) (twin setup : S) (bytes text : List ℕ) → bytes ≡ text
     → text ≡ told twin (given_of case.scenario.now names case.seed case.stream case.max_hits) → case ≡ made → twin ≡ setup

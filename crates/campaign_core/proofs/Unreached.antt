@@ -14,7 +14,7 @@ use Rattle.target_trait.specs.Outcomes.{Told}
 use Rattle.target_trait.specs.declared.judgement.Verdict.{Verdict}
 use Rattle.worker_pool.specs.Tickets.{count_below}
 use Rattle.worker_pool.specs.Workers.{EachOnce}
-use Rattle.plan_ranges.specs.Ranges.{range_count, range_start}
+use Rattle.grown_runs.specs.ranges.Ranges.{range_count, range_start}
 use Rattle.result_book.specs.Ranges.{Stretch}
 use Rattle.result_book.specs.Runs.{is_asked, is_reached, runs_from, unreached_of}
 use Rattle.result_book.proofs.RangeLemmas.{length_range}

@@ -10,7 +10,7 @@ use Rattle.plan_gen.specs.PlanList.{most_plans}
 use Rattle.plan_gen.specs.declared.list.PlanFault.{PlanFault}
 use Rattle.plan_gen.specs.declared.list.PlanFault.TheVariants as plan_faults
 use Rattle.report.specs.ReportText.{scenario_text, verdict_text, text_of}
-use Rattle.run_explained.specs.Explained.{explain_text}
+use Rattle.report.specs.explained.Explained.{explain_text}
 use Rattle.campaign_core.specs.Findings.{reduced, reduction, IsMinimal}
 use Rattle.campaign_core.specs.Headline.{Campaign, grower, say, plans}
 use Rattle.campaign_core.specs.Writes.{Change, IsUntouched, WritesPart}

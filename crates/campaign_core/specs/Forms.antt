@@ -1,11 +1,11 @@
 -- A campaign's report in each of its forms, and what is shown beside it.
 use Rattle.std.specs.Prelude.{ℕ, Bool, true, false, List, [], ◌∷◌, ◌++◌, codes, length, Option, None, Some}
 use Rattle.std.specs.Fmt.{decimal}
-use Rattle.run_explained.specs.Told.{run_facts}
-use Rattle.report_json.specs.About.{ShownFacts, shown_of}
-use Rattle.report_forms.specs.Forms.{text_in}
-use Rattle.report_forms.specs.Runs.{Telling, most_hits_shown}
-use Rattle.report_forms.specs.declared.forms.Form.{Form}
+use Rattle.report.specs.explained.Told.{run_facts}
+use Rattle.report.specs.json_form.About.{ShownFacts, shown_of}
+use Rattle.report.specs.forms.Forms.{text_in}
+use Rattle.report.specs.forms.Runs.{Telling, most_hits_shown}
+use Rattle.report.specs.declared.forms.forms.Form.{Form}
 use Rattle.campaign_core.specs.CommandTexts.{case_in}
 use Rattle.campaign_core.specs.Headline.{Campaign, grown_to, plans, report}
 

@@ -16,8 +16,8 @@ use Rattle.campaign_given.specs.Given.{Given, with_workers}
 use Rattle.result_book.specs.Verdicts.{verdicts_from, numbered}
 use Rattle.result_book.specs.FirstFailures.{first_failures as first_of_each}
 use Rattle.report.specs.Reports.{GrowthFacts, ReportFacts}
-use Rattle.report_promises.specs.Told.{Told}
-use Rattle.report_promises.specs.Promises.{Promises}
+use Rattle.campaign_core.specs.promises.Told.{Told}
+use Rattle.campaign_core.specs.promises.Promises.{Promises}
 use Rattle.campaign_core.specs.declared.subject.Subject.{Subject}
 use Rattle.campaign_core.specs.Findings.{report_of, growth_of, ReducesToMinimal, IsCauseAmong}
 

@@ -7,3 +7,5 @@ pub mod CommandTexts
 pub mod Forms
 pub mod Ran
 pub mod inside
+pub mod promises
+pub mod target_laws

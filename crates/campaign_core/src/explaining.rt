@@ -7,7 +7,7 @@ ghost use Rattle.campaign_core.specs.Writes.{change, WritesWhole};
 use crate::ending::CampaignFault;
 use crate::subject::Subject;
 use crate::written::write_judged;
-use run_explained::{RunEnd, explain};
+use report::{RunEnd, explain};
 use scenario_values::Scenario;
 use std::alloc::Global;
 use target_trait::{Sink, Target, Verdict};
@@ -21,7 +21,7 @@ pub struct ToExplain<'a, E> {
 }
 
 /// Runs the scenario on a twin of the target, and writes the lines of `explain`: the verdict, each hit, what stopped the run, the faults that never
-/// acted, and what is printed of the run's end. [`run_explained::NoEnd`] prints nothing there, and [`run_explained::ToldEnd`] prints what a
+/// acted, and what is printed of the run's end. [`report::NoEnd`] prints nothing there, and [`report::ToldEnd`] prints what a
 /// `TellingTarget` says of it.
 ///
 /// The run draws its words by the seed of the settings and this stream number; a plan of a campaign runs under its own number. After the settings'

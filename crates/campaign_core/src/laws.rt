@@ -6,7 +6,7 @@ ghost use Rattle.campaign_given.specs.Given.{Given, IsGiven};
 ghost use Rattle.campaign_core.specs.Headline.{Campaign, campaign_on, on_workers, EachIsCause, EachIsMinimal, KeepsPromises};
 ghost use Rattle.campaign_core.specs.CommandTexts.{IsReducedToMinimal};
 ghost use Rattle.campaign_core.specs.Forms.{report_in};
-ghost use Rattle.report_forms.specs.declared.forms.Form.{Form};
+ghost use Rattle.report.specs.declared.forms.forms.Form.{Form};
 
 use grown_plans::each_target_is_a_lawful_subject;
 use target_trait::Target;

@@ -1,5 +1,5 @@
 //! What is done with a target: a campaign is run and reported, its plans are listed, and one scenario is tried, explained or reduced. Each writes one
-//! text to a sink.
+//! text to a sink. Besides, what a report with a depth promises, and whether a target that isn't proved keeps a target's laws, as far as runs show it.
 #![tactic(auto)]
 
 mod ending;
@@ -8,6 +8,7 @@ mod laws;
 mod listing;
 mod planned;
 mod probe;
+mod promises;
 mod ran;
 mod reducing;
 mod reporting;
@@ -16,6 +17,7 @@ mod runner;
 mod running;
 mod showing;
 mod subject;
+mod target_laws;
 mod trying;
 mod watching;
 mod workers;
@@ -28,11 +30,16 @@ pub use laws::{each_behaviour_is_tried, reduced_scenarios_are_minimal, workers_c
 pub use listing::{plan_list, plan_scenario, plans_text};
 pub use planned::{Planned, plan_campaign, plans_of};
 pub use probe::fault_count;
+pub use promises::{a_plan_plays_its_behaviour, a_scenario_plays_a_behaviour};
 pub use ran::{Ran, run_campaign};
 pub use reducing::reduce_one;
 pub use reporting::causes_of;
 pub use results::Results;
 pub use running::{campaign, write_campaign};
 pub use subject::{Host, Subject};
+pub use target_laws::{
+    BrokenLaw, CampaignCases, Candidate, CatalogueFault, ChangedVerdict, Looked, broken_law,
+    changed_verdict, first_broken_law, first_changed_verdict,
+};
 pub use trying::try_one;
 pub use written::write_judged;

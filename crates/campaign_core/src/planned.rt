@@ -10,8 +10,9 @@ ghost use Rattle.campaign_core.specs.Planned.{listed_to, IsGrown, IsPlanned, IsB
 
 use crate::subject::{Host, Subject};
 use campaign_given::CampaignSettings;
-use campaign_plans::CampaignPlans;
-use grown_plans::{GrownPlans, each_plan_can_be_rigged, each_target_is_a_lawful_subject};
+use grown_plans::{
+    CampaignPlans, GrownPlans, each_plan_can_be_rigged, each_target_is_a_lawful_subject,
+};
 use grown_runs::{Conditions, Grown, Limits, grow, grow_list};
 use plan_gen::{Census, PlanFault, PlanList, by_census, further_plans, plans};
 use std::alloc::{AllocError, Global};

@@ -11,7 +11,7 @@ use crate::probe::{Failure, fault_count};
 use crate::ran::Ran;
 use crate::reducing::reduced_scenario;
 use crate::subject::{Host, Subject};
-use campaign_plans::CampaignPlans;
+use grown_plans::CampaignPlans;
 use report::{Cause, Finding, Growth, Report};
 use result_book::{RunInput, first_failures_are_the_least};
 use std::alloc::{AllocError, Global};

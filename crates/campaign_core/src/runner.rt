@@ -5,7 +5,7 @@ ghost use Rattle.result_book.specs.Runs.{run_on};
 ghost use Rattle.campaign_core.specs.inside.Ranges.{range_limit, range_of};
 
 use campaign_given::CampaignSettings;
-use plan_ranges::{ended_of, range_bounds};
+use grown_runs::{ended_of, range_bounds};
 use result_book::{PlanRange, RunInput, Workspace};
 use scenario_values::Scenario;
 use std::alloc::{AllocError, Global};

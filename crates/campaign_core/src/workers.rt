@@ -8,7 +8,7 @@ ghost use Rattle.campaign_core.specs.Planned.{AreKnown};
 use crate::runner::Runner;
 use crate::subject::Host;
 use crate::watching::left_of;
-use plan_ranges::{RangeGate, answers_of, range_count};
+use grown_runs::{RangeGate, answers_of, range_count};
 use result_book::{Book, RunInput, Workspace, put_all};
 use std::alloc::{AllocError, Global};
 use std::sync::Wait;

@@ -12,7 +12,7 @@ use Rattle.maildir_target.specs.Crash.{calls_of as maildir_calls}
 use Rattle.maildir_target.specs.Words.{point_names as maildir_points}
 use Rattle.campaign_core.specs.Headline.{Campaign}
 use Rattle.campaign_core.specs.Writes.{Change}
-use Rattle.run_explained.specs.Explained.{no_end}
+use Rattle.report.specs.explained.Explained.{no_end}
 use Rattle.campaign_settings.specs.Own.{own_settings_of}
 use Rattle.campaign_given.specs.Given.{Given}
 use Rattle.campaign_settings.specs.Settings.{Read, settings_of}

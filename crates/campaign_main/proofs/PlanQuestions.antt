@@ -3,8 +3,8 @@ use Rattle.std.proofs.Common.{◌≡◌, ◌∙◌, ℕ, Bool, true, List, [], O
 use Rattle.answer_text.specs.Runs.{KnownRuns, told_in}
 use Rattle.answered_runs.specs.Answered.{Answered}
 use Rattle.outside_campaign.specs.Readable.{told_by}
-use Rattle.answered_campaigns.specs.Questions.{RefusesYet, Tells}
-use Rattle.answered_campaigns.specs.declared.fault.QuestionFault.{QuestionFault}
+use Rattle.outside_campaign.specs.with_depth.Questions.{RefusesYet, Tells}
+use Rattle.outside_campaign.specs.declared.with_depth.fault.QuestionFault.{QuestionFault}
 use Rattle.command_words.specs.declared.words.Shown.{Shown}
 use Rattle.campaign_main.specs.QuestionNotes.{census_doubts, question_doubts, run_doubts, strict_doubts}
 use Rattle.campaign_main.specs.Questions.{IsUnansweredTo, Subject, report_form}

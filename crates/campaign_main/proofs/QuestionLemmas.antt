@@ -19,10 +19,10 @@ use Rattle.command_words.specs.declared.words.Question.{Question}
 use Rattle.command_words.specs.declared.words.Question.TheVariants.{Asks, Report, Explain}
 use Rattle.answer_text.specs.Runs.{pieces_from, reading_of}
 use Rattle.answer_text.specs.declared.runs.RunLine.{RunLine}
-use Rattle.answered_campaigns.specs.Questions.{Refuses, RefusesYet}
-use Rattle.answered_campaigns.specs.declared.fault.QuestionFault.{QuestionFault}
-use Rattle.answered_campaigns.specs.declared.fault.QuestionFault.TheVariants as fault
-use Rattle.report_forms.specs.declared.forms.Form.{Form}
+use Rattle.outside_campaign.specs.with_depth.Questions.{Refuses, RefusesYet}
+use Rattle.outside_campaign.specs.declared.with_depth.fault.QuestionFault.{QuestionFault}
+use Rattle.outside_campaign.specs.declared.with_depth.fault.QuestionFault.TheVariants as fault
+use Rattle.report.specs.declared.forms.forms.Form.{Form}
 use Rattle.outside_campaign.specs.declared.refusal.OutsideFault.TheVariants as outside
 use Rattle.campaign_main.specs.declared.exit.Conclusion.{Conclusion}
 use Rattle.campaign_main.specs.declared.exit.Conclusion.TheVariants.{Clean, Failed, Doubtful}
@@ -36,7 +36,7 @@ use Rattle.campaign_main.specs.Exit.{exit_of}
 use Rattle.campaign_main.specs.FaultLines.{answers_read_line, read_fault_line, refusal_line, settings_line, unreadable_answers_line, unreadable_line}
 use Rattle.campaign_main.specs.QuestionNotes.{question_notes}
 use Rattle.campaign_main.specs.Questions.{EndsAnswered, EndsQuestion, IsAnswer, IsEndOfQuestion, IsNotAnswered, IsUnanswered, RefusesQuestion, RefusesShown, Subject, TellsOfQuestion, TellsWhy, chosen_subject, given_subject, report_form, subject_of, text_subject, written_for}
-use Rattle.answered_campaigns.proofs.ReadFaults.{at_all}
+use Rattle.outside_campaign.proofs.WithDepthLemmas.ReadFaults.{at_all}
 use Rattle.campaign_main.proofs.EndLemmas.{broken-meaning, if_some, long-meaning, memory-apart, read-meaning, tells-of, text-meaning, settings-fault-cause}
 
 -- ---- by the answer to a question

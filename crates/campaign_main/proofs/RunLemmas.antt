@@ -11,11 +11,11 @@ use Rattle.answered_runs.specs.Answered.{Answered, known_plans}
 use Rattle.campaign_given.specs.Description.{Description}
 use Rattle.campaign_given.specs.Given.{Given}
 use Rattle.outside_campaign.specs.declared.refusal.OutsideFault.TheVariants as outside
-use Rattle.outside_grown.specs.Further.{AreTooMany}
+use Rattle.answered_runs.specs.grown.Further.{AreTooMany}
 use Rattle.campaign_core.specs.CommandTexts.{plan_fault}
-use Rattle.answered_campaigns.specs.Kinds.{listed_kinds}
-use Rattle.answered_campaigns.specs.Questions.{RefusesYet, Tells}
-use Rattle.answered_campaigns.specs.declared.fault.QuestionFault.TheVariants as fault
+use Rattle.outside_campaign.specs.with_depth.Kinds.{listed_kinds}
+use Rattle.outside_campaign.specs.with_depth.Questions.{RefusesYet, Tells}
+use Rattle.outside_campaign.specs.declared.with_depth.fault.QuestionFault.TheVariants as fault
 use Rattle.campaign_main.specs.QuestionNotes.{run_doubts, strict_doubts}
 
 abbrev kept : Bool → ℕ → List ℕ → List ℕ

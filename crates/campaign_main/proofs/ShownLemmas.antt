@@ -3,15 +3,15 @@ use Rattle.std.proofs.Common.{◌≡◌, ◌≤◌, ◌∙◌, ℕ, Bool, false,
 use Rattle.std.specs.Prelude.{is_some}
 use Rattle.plan_gen.specs.PlanList.{most_plans}
 use Rattle.scenario_values.specs.Scenario.{Entries}
-use Rattle.asked_lines.specs.Lines.{lines_for}
-use Rattle.asked_lines.specs.Parts.{part_text}
+use Rattle.answered_runs.specs.asked.Lines.{lines_for}
+use Rattle.answered_runs.specs.asked.Parts.{part_text}
 use Rattle.command_words.specs.declared.words.AskedPart.{AskedPart as Part}
 use Rattle.command_words.specs.declared.words.Question.TheVariants.{Asks}
 use Rattle.answer_text.specs.Known.{Agrees, AgreesWithText, verdicts_in}
 use Rattle.answer_text.specs.Runs.{KnownRuns}
 use Rattle.answer_text.proofs.Agreement.{agrees_by}
 use Rattle.campaign_core.specs.declared.ending.CampaignFault.TheVariants as campaign
-use Rattle.report_forms.specs.declared.forms.Form.{Form}
+use Rattle.report.specs.declared.forms.forms.Form.{Form}
 use Rattle.outside_campaign.specs.Campaigns.{IsUnreported, asks_text, first_failure, plans, report_in, untried, untried_by}
 use Rattle.outside_campaign.specs.Outside.{Component}
 use Rattle.outside_campaign.specs.Partial.{partial_by, partial_text, some_fails, some_fails_by}
@@ -19,7 +19,7 @@ use Rattle.outside_campaign.specs.Readable.{IsReadable, told_by}
 use Rattle.outside_campaign.specs.declared.refusal.OutsideFault.{OutsideFault}
 use Rattle.outside_campaign.specs.declared.refusal.OutsideFault.TheVariants as outside
 use Rattle.outside_campaign.proofs.ResultLemmas.{some_component}
-use Rattle.answered_campaigns.specs.declared.fault.QuestionFault.TheVariants as fault
+use Rattle.outside_campaign.specs.declared.with_depth.fault.QuestionFault.TheVariants as fault
 use Rattle.campaign_main.specs.Questions.{IsAnswerTo, IsShown, RefusesShown, Subject, asked_part}
 
 -- what is so for each text of answers that tells what is recorded is so for one

@@ -27,7 +27,7 @@ use Rattle.commit_target.specs.Steps.{asks_of as committing}
 use Rattle.commit_target.specs.Words.{point_names as commit_points, code_text as commit_codes, label as commit_label}
 use Rattle.plan_gen.specs.PlanList.{most_plans, plan_list}
 use Rattle.report.specs.ReportText.{text_of}
-use Rattle.run_explained.specs.Explained.{no_end}
+use Rattle.report.specs.explained.Explained.{no_end}
 use Rattle.answer_text.specs.declared.fault.AnswersFault.{AnswersFault}
 use Rattle.answered_runs.specs.declared.broken.BrokenRun.{BrokenRun}
 use Rattle.campaign_given.specs.Description.{Description}
@@ -40,9 +40,9 @@ use Rattle.campaign_core.specs.declared.subject.Subject.{Subject}
 use Rattle.campaign_core.specs.Headline.{Campaign, campaign_of, say, plans, first_failure}
 use Rattle.campaign_core.specs.CommandTexts.{counted, explained, plan_lines, plans_text, try_text, tried, reduce_text}
 use Rattle.campaign_core.specs.Forms.{report_in as campaign_report}
-use Rattle.report_json.specs.About.{NotesFacts}
-use Rattle.report_forms.specs.declared.forms.Form.{Form as ReportForm}
-use Rattle.report_forms.specs.declared.forms.Form.TheVariants as forms
+use Rattle.report.specs.json_form.About.{NotesFacts}
+use Rattle.report.specs.declared.forms.forms.Form.{Form as ReportForm}
+use Rattle.report.specs.declared.forms.forms.Form.TheVariants as forms
 use Rattle.command_words.specs.declared.words.Form.{Form}
 use Rattle.command_words.specs.declared.words.Form.TheVariants.{Whole, Brief, Json, Junit, Page}
 use Rattle.command_words.specs.declared.words.Order.{Order}

@@ -9,7 +9,7 @@ use Rattle.campaign_settings.specs.Settings.{Read}
 use Rattle.campaign_core.specs.Headline.{Campaign, campaign_on}
 use Rattle.command_words.specs.declared.words.Order.{Order}
 use Rattle.report.specs.ReportText.{ended}
-use Rattle.run_explained.specs.Tales.{told_end}
+use Rattle.report.specs.explained.Tales.{told_end}
 use Rattle.campaign_main.specs.Commands.{Answer, answer_with, bad_settings, of_text, order_answer}
 use Rattle.campaign_main.specs.Promises.{KeepsPromises}
 

@@ -15,17 +15,17 @@ use Rattle.action_eval.specs.declared.rig.Kind.{Kind}
 use Rattle.action_eval.specs.declared.rig.Rig.{Rig}
 use Rattle.plan_gen.specs.Census.{counts_of}
 use Rattle.plan_gen.specs.PlanList.{Asked}
-use Rattle.campaign_plans.specs.GrownScenarios.{grown_scenarios}
-use Rattle.known_runs.specs.Known.{hits_of}
-use Rattle.known_runs.specs.ToldPart.{part_known}
-use Rattle.answered_campaigns.specs.Kinds.{listed_kinds}
+use Rattle.grown_plans.specs.numbered.GrownScenarios.{grown_scenarios}
+use Rattle.grown_runs.specs.known.Known.{hits_of}
+use Rattle.grown_runs.specs.known.ToldPart.{part_known}
+use Rattle.outside_campaign.specs.with_depth.Kinds.{listed_kinds}
 use Rattle.answered_runs.specs.Answered.{kinds_over, plan_runs}
 use Rattle.answered_runs.specs.Verdicts.{verdict_by}
 use Rattle.answered_runs.specs.WholeList.{unseen_count}
 use Rattle.outside_campaign.specs.Readable.{told_by}
 use Rattle.outside_campaign.specs.Unmet.{unmet_count}
-use Rattle.outside_grown.specs.Further.{further_by}
-use Rattle.outside_grown.specs.Reached.{reached_told}
+use Rattle.answered_runs.specs.grown.Further.{further_by}
+use Rattle.answered_runs.specs.grown.Reached.{reached_told}
 use Rattle.campaign_given.specs.Description.{Description}
 use Rattle.campaign_given.specs.Given.{Given}
 use Rattle.command_words.specs.declared.words.Question.{Question}

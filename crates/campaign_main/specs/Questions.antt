@@ -1,8 +1,8 @@
 -- The answer to a question on a component that somebody else runs, by the bytes of the settings and of the answers; and how the command ends.
 use Rattle.std.specs.Prelude.{◌≡◌, ◌⊎◌, ℕ, Bool, false, List, codes, string_bytes, Option, None, Some, is_some, Result, Ok, Err}
 use Rattle.scenario_grammar.specs.declared.fault.ScenarioFault.TheVariants as scenario
-use Rattle.asked_lines.specs.declared.parts.AskedPart.{AskedPart}
-use Rattle.asked_lines.specs.declared.parts.AskedPart.TheVariants as part
+use Rattle.answered_runs.specs.declared.asked.parts.AskedPart.{AskedPart}
+use Rattle.answered_runs.specs.declared.asked.parts.AskedPart.TheVariants as part
 use Rattle.command_words.specs.declared.words.AskedPart.{AskedPart as Part}
 use Rattle.command_words.specs.declared.words.AskedPart.TheVariants as words
 use Rattle.command_words.specs.declared.words.Form.TheVariants as form
@@ -19,13 +19,13 @@ use Rattle.campaign_core.specs.declared.ending.CampaignFault.TheVariants as camp
 use Rattle.command_words.specs.declared.words.Question.{Question}
 use Rattle.command_words.specs.declared.words.Question.TheVariants.{Asks, Report, Explain}
 use Rattle.outside_campaign.specs.declared.campaign.OutsideCampaign.{OutsideCampaign}
-use Rattle.report_forms.specs.declared.forms.Form.{Form}
-use Rattle.report_forms.specs.declared.forms.Form.TheVariants as forms
+use Rattle.report.specs.declared.forms.forms.Form.{Form}
+use Rattle.report.specs.declared.forms.forms.Form.TheVariants as forms
 use Rattle.outside_campaign.specs.declared.refusal.OutsideFault.TheVariants as outside
-use Rattle.answered_campaigns.specs.Explained.{IsExplainedText, RefusesText}
-use Rattle.answered_campaigns.specs.Questions.{IsAskedTo, IsKnownTo, IsReportedTo, Refuses, RefusesYet}
-use Rattle.answered_campaigns.specs.declared.fault.QuestionFault.{QuestionFault}
-use Rattle.answered_campaigns.specs.declared.fault.QuestionFault.TheVariants as fault
+use Rattle.outside_campaign.specs.with_depth.Explained.{IsExplainedText, RefusesText}
+use Rattle.outside_campaign.specs.with_depth.Questions.{IsAskedTo, IsKnownTo, IsReportedTo, Refuses, RefusesYet}
+use Rattle.outside_campaign.specs.declared.with_depth.fault.QuestionFault.{QuestionFault}
+use Rattle.outside_campaign.specs.declared.with_depth.fault.QuestionFault.TheVariants as fault
 use Rattle.campaign_main.specs.declared.exit.Conclusion.{Conclusion}
 use Rattle.campaign_main.specs.declared.exit.Conclusion.TheVariants.{Clean, Failed, Doubtful}
 use Rattle.campaign_main.specs.declared.exit.Exit.{Exit}

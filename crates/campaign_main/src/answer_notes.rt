@@ -13,8 +13,8 @@ use crate::notes::{
     write_doubts, write_strange,
 };
 use answer_text::{Runs, Stranger};
-use campaign_plans::CampaignPlans;
 use command_words::Question;
+use grown_plans::CampaignPlans;
 use outside_campaign::{OutsideCampaign, borrowed, count_unmet};
 use plan_gen::PlanList;
 use scenario_grammar::Scenario;

@@ -6,9 +6,9 @@ ghost use Rattle.answer_text.specs.Runs.{told_in};
 ghost use Rattle.outside_campaign.specs.Campaigns.{plans as listed};
 ghost use Rattle.answered_runs.specs.Answered.{known_plans};
 ghost use Rattle.outside_campaign.specs.Readable.{IsReadable, told_by};
-ghost use Rattle.outside_grown.specs.Further.{AreTooMany};
-ghost use Rattle.answered_campaigns.specs.Explained.{IsExplainedText, RefusesText};
-ghost use Rattle.answered_campaigns.specs.Questions.{AreUnbroken, Tells};
+ghost use Rattle.answered_runs.specs.grown.Further.{AreTooMany};
+ghost use Rattle.outside_campaign.specs.with_depth.Explained.{IsExplainedText, RefusesText};
+ghost use Rattle.outside_campaign.specs.with_depth.Questions.{AreUnbroken, Tells};
 ghost use Rattle.campaign_main.specs.QuestionNotes.{name_notes, notes_to, question_doubts, question_notes};
 ghost use Rattle.campaign_main.specs.Questions.{IsAnswer, IsAnswerTo, IsShown, IsUnanswered, IsUnansweredTo, RefusesShown, asked_part, report_form, subject_in};
 ghost use Rattle.campaign_main.specs.inside.OnPlans.{question_on};
@@ -17,18 +17,16 @@ use crate::answer_notes::{all_notes, census_doubts};
 use crate::command::notes_with;
 use crate::run_notes::run_doubts;
 use answer_text::Runs;
-use answered_campaigns::{
-    QuestionFault, ReadRuns, explained_text, grown_lines, grown_partial, grown_report, known_plans,
-};
-use answered_runs::KnownPlans;
-use asked_lines::AskedPart;
-use campaign_plans::CampaignPlans;
+use answered_runs::{AskedPart, KnownPlans};
 use command_words::{AskedPart as Part, Form as ReportForm, Question, Shown};
+use grown_plans::CampaignPlans;
 use outside_campaign::{
-    OutsideCampaign, asks_text, borrowed, outside_plans, partial_text, read_answers, report_text,
+    OutsideCampaign, QuestionFault, ReadRuns, asks_text, borrowed, explained_text, grown_lines,
+    grown_partial, grown_report, known_plans, outside_plans, partial_text, read_answers,
+    report_text,
 };
 use plan_gen::{PlanFault, PlanList};
-use report_forms::Form;
+use report::Form;
 use std::alloc::{AllocError, Global};
 
 /// The answer to a question.

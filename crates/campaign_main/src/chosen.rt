@@ -18,7 +18,7 @@ use commit_target::Commit;
 use file_replace::Replace;
 use maildir_target::Maildir;
 use outside_campaign::OutsideCampaign;
-use run_explained::NoEnd;
+use report::NoEnd;
 use std::sync::Wait;
 use std::thread::Threads;
 use target_trait::{Sink, Target, WithCut};

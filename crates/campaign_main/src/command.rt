@@ -18,9 +18,7 @@ use campaign_core::{
     reduce_one, run_campaign, try_one, write_campaign,
 };
 use command_words::{Form, Order, VERSION, Which};
-use report_forms::Form as ReportForm;
-use report_json::Notes;
-use run_explained::RunEnd;
+use report::{Form as ReportForm, Notes, RunEnd};
 use scenario_grammar::{Scenario, parse};
 use std::sync::Wait;
 use std::thread::Threads;

@@ -1,12 +1,12 @@
 //! The end of a run with its power cut: which write each of the cut's hits stands for.
 ghost use Rattle.std.specs.Prelude.{◌≡◌, ◌++◌, length, map, string_bytes, take, IfOk, OnOk};
 ghost use Rattle.report.specs.ReportText.{ended, text_of};
-ghost use Rattle.run_explained.specs.Explained.{given_in};
+ghost use Rattle.report.specs.explained.Explained.{given_in};
 ghost use Rattle.target_trait.specs.Cuts.{asks_with};
 ghost use Rattle.campaign_main.specs.Commands.{cut_end, keep_line, keep_lines, keeps_asked};
 
 use crate::pending::TellsWrites;
-use run_explained::{MadeRun, RunEnd};
+use report::{MadeRun, RunEnd};
 use std::alloc::{AllocError, Global};
 use std::fmt::Write;
 use target_trait::{Outcome, WithCut};

@@ -22,7 +22,6 @@ mod run_notes;
 mod steady;
 mod telling;
 
-pub use answered_campaigns::QuestionFault;
 pub use answering::{Answer, answer_question};
 pub use campaign_core::{
     CampaignFault, Ending, Host, Subject, campaign, plan_list, plan_scenario, reduce_one, try_one,
@@ -41,7 +40,7 @@ pub use exit::{Exit, status};
 pub use file_replace::{Chunks, Replacements, Variant as ReplaceVariant};
 pub use input::{ReadFault, read_all};
 pub use maildir_target::{Messages, Variant as MaildirVariant};
-pub use outside_campaign::{OutsideCampaign, OutsideFault};
+pub use outside_campaign::{OutsideCampaign, OutsideFault, QuestionFault};
 pub use own::{perform_settings, perform_target, read_own_settings, refuse_own_words};
 pub use performing::perform;
 pub use questions::perform_outside;

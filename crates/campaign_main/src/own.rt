@@ -15,15 +15,14 @@ use crate::exit::{Answered, Exit};
 use crate::fault::CommandFault;
 use crate::input::read_all;
 use crate::lines::{end_bad_settings, end_outcome, end_unreadable_settings, refused_by};
-use campaign_core::{Host, Subject};
+use campaign_core::{Host, Subject, broken_law};
 use campaign_settings::{OwnSettings, Settings};
 use command_words::Order;
-use run_explained::{NoEnd, RunEnd};
+use report::{NoEnd, RunEnd};
 use std::alloc::{AllocError, Global};
 use std::io::Read;
 use std::sync::Wait;
 use std::thread::Threads;
-use target_laws::broken_law;
 use target_trait::{Sink, Target};
 use work_gate::Gate;
 
@@ -142,7 +141,7 @@ where
 /// It is for a program that brings its own target. Commands, lines and ends are those of [`crate::perform`]. The settings have neither `target` nor
 /// `variant` nor a target's table; each of these keys is refused as an unknown one is. If the settings are empty, each key has its default.
 ///
-/// A target that isn't proved is checked first: if it breaks a law of [`target_laws::broken_law`], the command is refused with a line that names the
+/// A target that isn't proved is checked first: if it breaks a law of [`campaign_core::broken_law`], the command is refused with a line that names the
 /// law, such as `target: asks after a halt`. If the order is to run with `recheck`, each plan that fails is run once more. If the verdict is another
 /// then, the command is refused with the plan and both verdicts: `target: plan 12: fail lost, then pass`.
 ///

@@ -3,24 +3,23 @@ ghost use Rattle.std.specs.Prelude.{◌≡◌, ◌≤◌, ◌<◌, ◌==◌, ◌
 ghost use Rattle.std.specs.List.{filter, range_with_len};
 ghost use Rattle.std.specs.Option.{option_map_or};
 ghost use Rattle.answer_text.specs.Runs.{told_in};
-ghost use Rattle.campaign_plans.specs.GrownScenarios.{grown_scenarios};
+ghost use Rattle.grown_plans.specs.numbered.GrownScenarios.{grown_scenarios};
 ghost use Rattle.target_trait.specs.Verdicts.{is_unresolved};
 ghost use Rattle.report.specs.ReportText.{ended};
 ghost use Rattle.answered_runs.specs.Answered.{known_plans};
 ghost use Rattle.answered_runs.specs.Verdicts.{verdict_by};
-ghost use Rattle.answered_campaigns.specs.Grown.{BeginsWith};
-ghost use Rattle.outside_grown.specs.Further.{AreTooMany};
+ghost use Rattle.outside_campaign.specs.with_depth.Grown.{BeginsWith};
+ghost use Rattle.answered_runs.specs.grown.Further.{AreTooMany};
 ghost use Rattle.campaign_main.specs.Notes.{is_unhit};
 ghost use Rattle.campaign_main.specs.QuestionNotes.{census_told, doubts_told, is_left_open, list_told, run_doubts, unreached_told, unseen_line, unseen_notes};
 
 use crate::notes::{
     Doubts, draws_nothing, is_some_number, is_unhit, write_all_unreached, write_doubts,
 };
-use answered_campaigns::{all_plans, verdicts_of};
-use answered_runs::{AnsweredRuns, KnownPlans};
+use answered_runs::{AnsweredRuns, KnownPlans, census, further_behind, reached};
 use campaign_given::CampaignSettings;
-use campaign_plans::CampaignPlans;
-use outside_grown::{census, further_behind, reached};
+use grown_plans::CampaignPlans;
+use outside_campaign::{all_plans, verdicts_of};
 use plan_gen::PlanFault;
 use scenario_values::build;
 use std::alloc::{AllocError, Global};

@@ -6,11 +6,10 @@ ghost use Rattle.campaign_core.specs.declared.ending.CampaignFault.TheVariants.{
 ghost use Rattle.campaign_main.specs.declared.fault.CommandFault.TheVariants.{Campaign};
 
 use crate::fault::CommandFault;
-use campaign_core::{Ran, Subject, plans_of};
+use campaign_core::{ChangedVerdict, Ran, Subject, changed_verdict, plans_of};
 use report::{Names, write_verdict};
 use result_book::RunInput;
 use std::alloc::{AllocError, Global};
-use target_laws::{ChangedVerdict, changed_verdict};
 use target_trait::Target;
 
 /// The first plan that has failed and has another verdict when it is run once more. A proved target has none. The caller's target isn't touched.

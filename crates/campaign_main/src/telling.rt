@@ -11,14 +11,14 @@ use crate::lines::end_outcome;
 use crate::own::own_command;
 use campaign_core::{Host, Subject};
 use command_words::Order;
-use run_explained::ToldEnd;
+use report::ToldEnd;
 use std::sync::Wait;
 use std::thread::Threads;
 use target_trait::{Sink, TellingTarget};
 use work_gate::Gate;
 
 /// Does what [`crate::perform_settings`] does, with the same lines and ends, over a target that describes the end of a run. `explain` writes two more
-/// lines: `state` with the state in which the run was judged, and `judged` with the reason, as the target words them. [`run_explained::ToldEnd`] says
+/// lines: `state` with the state in which the run was judged, and `judged` with the reason, as the target words them. [`report::ToldEnd`] says
 /// how they are written, and when one is left out.
 pub fn perform_telling<
     T: TellingTarget + Send,

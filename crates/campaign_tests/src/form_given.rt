@@ -2,12 +2,12 @@
 ghost use Rattle.std.specs.Prelude.{◌≡◌, [], length, slice_index_or, IfOk, IfSome};
 ghost use Rattle.action_eval.specs.Answers.{texts};
 
-use campaign_plans::CampaignPlans;
 use file_replace::Replace;
+use grown_plans::CampaignPlans;
 use plan_gen::{Census, PlanList, PlanSettings, further_plans};
-use report::{Cause, Finding, Names, Report, brief_text};
-use report_json::{Notes, Runs, Shown, json_text};
-use report_junit::junit_text;
+use report::{
+    Cause, Finding, Names, Notes, Report, Runs, Shown, brief_text, json_text, junit_text,
+};
 use scenario_grammar::parse;
 use scenario_values::Scenario;
 use std::alloc::Global;

@@ -3,7 +3,7 @@ ghost use Rattle.std.specs.Prelude.{◌≤◌, length};
 
 use campaign_core::{CampaignFault, Host, Subject, campaign};
 use campaign_given::CampaignSettings;
-use report_forms::Form;
+use report::Form;
 use scenario_grammar::Scenario;
 use std::alloc::Global;
 use std::sync::Wait;

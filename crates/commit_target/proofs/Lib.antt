@@ -16,3 +16,4 @@ pub mod Noting
 pub mod Cutting
 pub mod Kept
 pub mod Survives
+mod CutAlike

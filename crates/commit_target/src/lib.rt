@@ -3,6 +3,7 @@
 
 mod commit;
 mod cut;
+mod cut_laws;
 mod judge;
 mod laws;
 mod logs;
@@ -21,6 +22,7 @@ mod votes;
 mod work;
 
 pub use commit::Commit;
+pub use cut_laws::{is_no_weaker, loses_alike, text_of_a_return_changes_nothing};
 pub use judge::{LOST, PHANTOM, SPLIT, judge as judge_logs};
 pub use laws::{
     a_kept_end_shows_end_first, early_end_is_split, lazy_prepare_is_lost, lazy_prepare_is_split,

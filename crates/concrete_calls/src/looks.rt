@@ -1,13 +1,13 @@
 //! The calls that look for what is wrong in a target that isn't proved.
 ghost use Rattle.std.specs.Prelude.{◌≡◌, ◌≤◌, None, IfOk, length};
 
-use example_target::{Amount, Transfer};
-use result_book::RunInput;
-use std::alloc::{AllocError, Global};
-use target_laws::{
+use campaign_core::{
     BrokenLaw, CampaignCases, ChangedVerdict, broken_law, changed_verdict, first_broken_law,
     first_changed_verdict,
 };
+use example_target::{Amount, Transfer};
+use result_book::RunInput;
+use std::alloc::{AllocError, Global};
 use target_trait::Verdict;
 
 /// A law that a run breaks.

@@ -4,7 +4,7 @@ use Rattle.std.proofs.Math.ListN.{drop_of_length-le}
 use Rattle.std.proofs.Math.Seq.{drop-cons, take-length}
 use Rattle.std.proofs.lemmas.List.{take_more, drop-append-le, length-take-le, length-map, get_or-map, drop-map, take-map}
 use Rattle.std.specs.Str.{bytes_eq}
-use Rattle.chunked_text.specs.Chunks.{joined}
+use Rattle.scenario_values.specs.chunked.Chunks.{joined}
 use Rattle.file_replace.specs.Judgement.{Past, with_begun, is_among}
 use Rattle.file_replace.specs.Steps.{Step, Tally, first_step, begun_of, begun, acknowledged}
 use Rattle.file_replace.specs.inside.Seen.{all_contents, contents_between, past_of}

@@ -8,3 +8,4 @@ mod Kept
 mod Cutting
 mod Sturdy
 mod Survives
+mod CutAlike

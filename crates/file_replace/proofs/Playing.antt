@@ -3,7 +3,7 @@ use Rattle.std.proofs.Common.{◌≡◌, ℕ, zero, suc, ◌<◌, ◌≤◌, Lis
 use Rattle.sim_device.specs.FileEffects.{Effect, Append}
 use Rattle.sim_device.specs.Disk.{Disk, StandsFor, AddsEffect}
 use Rattle.sim_device.proofs.Appends.{appended, stands_appended}
-use Rattle.chunked_text.specs.Chunks.{joined}
+use Rattle.scenario_values.specs.chunked.Chunks.{joined}
 use Rattle.file_replace.specs.inside.Devices.{Adds, with_chunks}
 use Rattle.action_eval.specs.Answers.{Run, Reply, Go, Halt, GoesOn, AllGo, start, hit, hits_of, replies, stopped, reply_of_answer}
 use Rattle.action_eval.specs.declared.answer.Answer.{Answer}

@@ -6,7 +6,7 @@ use Rattle.sim_device.specs.declared.names.Entry.{Entry}
 use Rattle.file_replace.specs.inside.Devices.{Adds}
 use Rattle.action_eval.specs.Answers.{Run, Reply, Go, Return, Halt, replies}
 use Rattle.target_trait.specs.Machine.{led, after}
-use Rattle.chunked_text.specs.Chunks.{half}
+use Rattle.scenario_values.specs.chunked.Chunks.{half}
 use Rattle.file_replace.specs.inside.Seen.{Played}
 use Rattle.file_replace.specs.declared.variant.Variant.{Variant}
 use Rattle.file_replace.specs.declared.variant.Variant.TheVariants.{Sound, LateSync, IgnoreSync, RetryWrite, RenameFirst, InPlace}

@@ -14,7 +14,7 @@ use Rattle.target_trait.specs.Play.{Done}
 use Rattle.target_trait.proofs.Never.{done_kept}
 use Rattle.file_replace.specs.declared.variant.Variant.TheVariants.{Sound}
 use Rattle.target_trait.specs.Machine.{led, after}
-use Rattle.chunked_text.specs.Chunks.{joined, half}
+use Rattle.scenario_values.specs.chunked.Chunks.{joined, half}
 use Rattle.file_replace.specs.Work.{Work}
 use Rattle.file_replace.specs.Words.{torn, stale}
 use Rattle.file_replace.specs.Judgement.{Past, judged_by, judged}

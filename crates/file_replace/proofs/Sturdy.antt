@@ -9,7 +9,7 @@ use Rattle.sim_device.proofs.Untouched.{Untouched, untouched_push, untouched_fil
 use Rattle.action_eval.specs.Answers.{Reply, Go, Return, Halt}
 use Rattle.target_trait.specs.declared.judgement.Judgement.TheVariants.{Kept, Broken}
 use Rattle.target_trait.specs.Machine.{led, after}
-use Rattle.chunked_text.specs.Chunks.{joined, half}
+use Rattle.scenario_values.specs.chunked.Chunks.{joined, half}
 use Rattle.file_replace.specs.declared.variant.Variant.TheVariants.{Sound}
 use Rattle.file_replace.specs.Work.{Work}
 use Rattle.file_replace.specs.Words.{torn, stale}

@@ -4,7 +4,7 @@ use Rattle.sim_device.specs.FileEffects.{Effect, Create, Append, Sync, Rename, U
 use Rattle.action_eval.specs.Answers.{Reply, Go, Return, Halt}
 use Rattle.target_trait.specs.Play.{Move, move_by}
 use Rattle.target_trait.specs.Machine.{Machine, after, asks_by}
-use Rattle.chunked_text.specs.Chunks.{joined, half}
+use Rattle.scenario_values.specs.chunked.Chunks.{joined, half}
 use Rattle.file_replace.specs.declared.variant.Variant.{Variant}
 use Rattle.file_replace.specs.declared.variant.Variant.TheVariants.{Sound, LateSync, IgnoreSync, RetryWrite, RenameFirst, InPlace}
 use Rattle.file_replace.specs.Words.{target, tmp, written_name, clear_point, create_point, write_point, sync_point, rename_point, sync_dir_point, unlink_point}

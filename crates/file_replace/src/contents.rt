@@ -1,11 +1,11 @@
 //! Contents, compared with those of a workload.
 ghost use Rattle.std.specs.Prelude.{◌≡◌, ◌≤◌, length, map};
-ghost use Rattle.chunked_text.specs.Chunks.{joined};
+ghost use Rattle.scenario_values.specs.chunked.Chunks.{joined};
 ghost use Rattle.file_replace.specs.Judgement.{is_among};
 ghost use Rattle.file_replace.specs.inside.Seen.{all_contents, contents_between};
 
 use crate::work::Replacements;
-use chunked_text::Chunks;
+use scenario_values::Chunks;
 
 /// Whether bytes are the contents of one of these replacements.
 #[inline(always)]

@@ -2,6 +2,7 @@
 #![tactic(auto)]
 
 mod contents;
+mod cut_laws;
 mod disk;
 mod judge;
 mod laws;
@@ -15,7 +16,7 @@ mod texts;
 mod variant;
 mod work;
 
-pub use chunked_text::Chunks;
+pub use cut_laws::{is_no_weaker, loses_alike, text_of_a_return_changes_nothing};
 pub use judge::{STALE, TORN};
 pub use laws::{
     a_kept_rename_shows_late_sync, a_kept_rename_shows_rename_first, a_kept_unlink_shows_in_place,
@@ -24,5 +25,6 @@ pub use laws::{
 };
 pub use play::play as play_on;
 pub use replace::Replace;
+pub use scenario_values::Chunks;
 pub use variant::Variant;
 pub use work::Replacements;

@@ -8,7 +8,7 @@ use crate::contents::is_among;
 use crate::rest::Rest;
 use crate::stage::Stage;
 use crate::work::Replacements;
-use chunked_text::Chunks;
+use scenario_values::Chunks;
 use std::marker::Model;
 
 /// The first stage of a replacement.

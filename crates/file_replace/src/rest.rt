@@ -1,7 +1,7 @@
 //! The chunks that are still to be written.
 ghost use Rattle.std.specs.Prelude.{◌≤◌, length};
 
-use chunked_text::Chunks;
+use scenario_values::Chunks;
 
 /// The chunks of a replacement from one on.
 #[derive(Clone, Copy)]
@@ -13,7 +13,7 @@ pub struct Rest<'w> {
 
 impl<'w> Rest<'w> {
     ghost use Rattle.std.specs.Prelude.{◌≡◌, ◌∷◌, ◌≤◌, [], length, take, drop, MatchOption};
-    ghost use Rattle.chunked_text.specs.Chunks.{joined};
+    ghost use Rattle.scenario_values.specs.chunked.Chunks.{joined};
     ghost use Rattle.file_replace.specs.inside.Left.{left};
 
     /// All chunks.

@@ -2,7 +2,7 @@
 ghost use Rattle.std.specs.Prelude.{◌≡◌, ◌∷◌, ℕ, List, OnOk, is_none, false};
 ghost use Rattle.sim_device.specs.FileEffects.{Effect, Append, Sync, SyncDir, Unlink};
 ghost use Rattle.sim_device.specs.Disk.{entry_at};
-ghost use Rattle.chunked_text.specs.Chunks.{half};
+ghost use Rattle.scenario_values.specs.chunked.Chunks.{half};
 ghost use Rattle.file_replace.specs.inside.Left.{left};
 ghost use Rattle.file_replace.specs.Words.{target, tmp, number_of, written_name};
 ghost use Rattle.file_replace.specs.Steps.{on_go, on_return, prepared, failed, done, after_sync_dir, write_step, given_up, after_half, after_no_sync, after_sync, after_rename};

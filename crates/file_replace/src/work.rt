@@ -1,8 +1,7 @@
 //! The workload: old contents, and replacements.
 ghost use Rattle.std.specs.Prelude.{◌≡◌, ◌≤◌, length};
 
-use chunked_text::Chunks;
-use scenario_values::Text;
+use scenario_values::{Chunks, Text};
 use std::marker::Model;
 
 /// The workload of a run: the old contents, at most 65,536 bytes, and in order the new contents of the replacements, at most 1,000, each in

@@ -6,3 +6,4 @@ pub mod Kept
 pub mod Begun
 pub mod Lists
 pub mod inside
+pub mod numbered

@@ -1,4 +1,5 @@
-//! Plans that grow from the hits of each other's runs: what they are, and what a campaign of them promises.
+//! Plans that grow from the hits of each other's runs, and the plans of a campaign by their numbers: what they are, and what a campaign of plans that
+//! grow promises. Those of a campaign are given by a census or grew, with storms and listed scenarios behind them.
 #![tactic(auto)]
 
 mod begun;
@@ -9,6 +10,7 @@ mod grown_list;
 mod kinds;
 mod laws;
 mod list;
+mod numbered;
 mod rigs;
 
 pub use begun::{Begun, Growing, count_children};
@@ -25,4 +27,5 @@ pub use laws::{
     nothing_is_skipped,
 };
 pub use list::GrownPlans;
+pub use numbered::{CampaignPlan, CampaignPlans, CampaignRigger, RigLists};
 pub use rigs::rigs_of;

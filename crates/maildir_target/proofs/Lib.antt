@@ -9,3 +9,4 @@ mod Sturdy
 mod Survives
 mod Kept
 mod Cutting
+mod CutAlike

@@ -14,8 +14,8 @@ use Rattle.target_trait.specs.declared.judgement.Judgement.TheVariants.{Kept}
 use Rattle.target_trait.specs.Play.{Done}
 use Rattle.target_trait.specs.Machine.{led, after}
 use Rattle.target_trait.proofs.Never.{done_kept}
-use Rattle.chunked_text.specs.Chunks.{joined}
-use Rattle.chunked_text.specs.Chunks.{half}
+use Rattle.scenario_values.specs.chunked.Chunks.{joined}
+use Rattle.scenario_values.specs.chunked.Chunks.{half}
 use Rattle.maildir_target.specs.declared.variant.Variant.TheVariants.{Sound}
 use Rattle.maildir_target.specs.declared.name.Attempt.{Attempt}
 use Rattle.maildir_target.specs.declared.name.Attempt.TheVariants.{First, Second}

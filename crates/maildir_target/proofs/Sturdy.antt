@@ -9,7 +9,7 @@ use Rattle.sim_device.proofs.Untouched.{Untouched, untouched_push, untouched_fil
 use Rattle.action_eval.specs.Answers.{Reply, Go, Return, Halt}
 use Rattle.target_trait.specs.declared.judgement.Judgement.TheVariants.{Kept}
 use Rattle.target_trait.specs.Machine.{led, after}
-use Rattle.chunked_text.specs.Chunks.{half}
+use Rattle.scenario_values.specs.chunked.Chunks.{half}
 use Rattle.maildir_target.specs.declared.variant.Variant.TheVariants.{Sound}
 use Rattle.maildir_target.specs.declared.name.Attempt.{Attempt}
 use Rattle.maildir_target.specs.declared.name.Attempt.TheVariants.{First, Second}

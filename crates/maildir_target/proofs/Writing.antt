@@ -8,7 +8,7 @@ use Rattle.action_eval.specs.Answers.{Run, hits_of, AllGo, stopped}
 use Rattle.target_trait.specs.Machine.{Reached, AsksInTurn}
 use Rattle.target_trait.proofs.Machine.{gone, reached_on}
 use Rattle.target_trait.proofs.Running.{running_at}
-use Rattle.chunked_text.specs.Chunks.{joined}
+use Rattle.scenario_values.specs.chunked.Chunks.{joined}
 use Rattle.maildir_target.specs.declared.variant.Variant.{Variant}
 use Rattle.maildir_target.specs.Words.{write_point}
 use Rattle.maildir_target.specs.Steps.{Writing, Syncing, Tally, State, state, at_step, written_of, write_step, point_at, machine}

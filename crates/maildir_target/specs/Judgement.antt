@@ -5,7 +5,7 @@ use Rattle.std.specs.Str.{bytes_eq}
 use Rattle.sim_device.specs.FileEffects.{Effect, PowerCut, Live, contents, leads}
 use Rattle.target_trait.specs.declared.judgement.Judgement.{Judgement}
 use Rattle.target_trait.specs.declared.judgement.Judgement.TheVariants.{Kept, Broken}
-use Rattle.chunked_text.specs.Chunks.{joined}
+use Rattle.scenario_values.specs.chunked.Chunks.{joined}
 use Rattle.maildir_target.specs.declared.name.Attempt.TheVariants.{First, Second}
 use Rattle.maildir_target.specs.Words.{new_name, torn, lost}
 

@@ -5,7 +5,7 @@ use Rattle.sim_device.specs.FileEffects.{Effect, Create, Append, Sync, Link, Unl
 use Rattle.action_eval.specs.Answers.{Reply, Go, Return, Halt}
 use Rattle.target_trait.specs.Play.{Move, move_by}
 use Rattle.target_trait.specs.Machine.{Machine, asks_by}
-use Rattle.chunked_text.specs.Chunks.{half}
+use Rattle.scenario_values.specs.chunked.Chunks.{half}
 use Rattle.maildir_target.specs.declared.variant.Variant.{Variant}
 use Rattle.maildir_target.specs.declared.variant.Variant.TheVariants.{Sound, LinkFirst, IgnoreWrite, AppendTmp, DeliverInNew}
 use Rattle.maildir_target.specs.declared.name.Attempt.{Attempt}

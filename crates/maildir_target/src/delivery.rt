@@ -7,7 +7,7 @@ ghost use Rattle.maildir_target.specs.inside.Seen.{IsNamed, written_of_delivery,
 use crate::messages::Messages;
 use crate::name::{Attempt, Folder, Name, new_name};
 use crate::variant::Variant;
-use chunked_text::Chunks;
+use scenario_values::Chunks;
 
 /// An attempt at a message.
 #[derive(Clone, Copy)]

@@ -6,7 +6,7 @@ ghost use Rattle.sim_device.specs.declared.names.Entry.{Entry};
 ghost use Rattle.maildir_target.specs.Judgement.{Standing, standing, held_in};
 ghost use Rattle.maildir_target.specs.inside.Devices.{Adds, with_chunks};
 
-use chunked_text::Chunks;
+use scenario_values::Chunks;
 use sim_device::{CrashDevice, DeviceFault, FileDevice};
 use std::alloc::AllocError;
 

@@ -2,12 +2,12 @@
 ghost use Rattle.std.specs.Prelude.{◌≡◌, ◌≤◌, [], ◌∷◌, ℕ, List, length, not, is_none, IfOk};
 ghost use Rattle.sim_device.specs.FileEffects.{Effect, PowerCut};
 ghost use Rattle.sim_device.specs.Disk.{StandsFor, AddsEffect, Tells};
-ghost use Rattle.chunked_text.specs.Chunks.{joined};
+ghost use Rattle.scenario_values.specs.chunked.Chunks.{joined};
 ghost use Rattle.maildir_target.specs.Judgement.{Standing, held_in, differs, is_torn, has_torn, is_delivered, has_lost, judged_now, judged, standing};
 
 use crate::disk::Device;
 use crate::name::{Attempt, new_name};
-use chunked_text::Chunks;
+use scenario_values::Chunks;
 use sim_device::{CrashDevice, FileDevice};
 use std::alloc::AllocError;
 use target_trait::Judgement;

@@ -3,6 +3,7 @@
 
 mod attempt;
 mod calls;
+mod cut_laws;
 mod delivery;
 mod disk;
 mod ended;
@@ -18,6 +19,7 @@ mod texts;
 mod variant;
 mod write;
 
+pub use cut_laws::{is_no_weaker, loses_alike, text_of_a_return_changes_nothing};
 pub use judge::{LOST, TORN, judge as judge_mail};
 pub use laws::{
     a_kept_link_shows_link_first, a_kept_name_shows_deliver_in_new, append_tmp_is_torn,

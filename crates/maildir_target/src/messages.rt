@@ -1,7 +1,7 @@
 //! The workload: messages in chunks.
 ghost use Rattle.std.specs.Prelude.{◌≡◌, ◌≤◌, length};
 
-use chunked_text::Chunks;
+use scenario_values::Chunks;
 use std::marker::Model;
 
 /// The workload of a run: the messages in order, at most 1,000, each in chunks. Each chunk is written by a step of its own.

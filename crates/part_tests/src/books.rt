@@ -3,7 +3,7 @@
 use crate::inputs::{book, has, input, range, settings, tells};
 use crate::one_step::OneStep;
 use crate::scenarios::{plans, scenarios};
-use campaign_plans::CampaignPlans;
+use grown_plans::CampaignPlans;
 use result_book::{Book, Numbered, PlanRange, PutFault, RunInput, put_all};
 use std::alloc::Global;
 use std::process::Abort;

@@ -1,9 +1,8 @@
 //! How plans of a delivery grow, of one message in the chunks `He` and `llo`. Both attempts write on at the end of what stands under one name.
 
 use crate::growing::{Wanted, grown_on, have_grown, to_depth};
-use chunked_text::Chunks;
 use maildir_target::{Maildir, Messages, TORN, Variant};
-use scenario_values::Text;
+use scenario_values::{Chunks, Text};
 use std::alloc::{AllocError, Global};
 use std::process::Abort;
 use std::test::Fail;

@@ -2,7 +2,7 @@
 
 use crate::one_step::OneStep;
 use campaign_given::CampaignSettings;
-use campaign_plans::CampaignPlans;
+use grown_plans::CampaignPlans;
 use result_book::{Book, PlanRange, RunInput, Workspace};
 use std::alloc::Global;
 use std::process::Abort;

@@ -3,8 +3,8 @@ ghost use Rattle.std.specs.Prelude.{◌^◌, ⊤};
 
 use crate::adding::{Setup, Tickets, have_performed};
 use campaign_given::CampaignSettings;
-use campaign_plans::CampaignPlans;
 use file_replace::{Replace, Replacements, Variant};
+use grown_plans::CampaignPlans;
 use plan_gen::{PlanList, PlanSettings, by_census, plans};
 use result_book::{Numbered, RunInput};
 use std::alloc::{AllocError, Global};

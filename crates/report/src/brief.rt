@@ -8,7 +8,7 @@ use crate::facts::{Finding, JudgedPlan, Report};
 use crate::lines::{write_end, write_front, write_scenario};
 use crate::names::Names;
 use crate::verdicts::write_verdict;
-use campaign_plans::CampaignPlans;
+use grown_plans::CampaignPlans;
 use std::alloc::{AllocError, Global};
 use std::fmt::Write;
 use target_trait::Verdict;

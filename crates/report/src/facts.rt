@@ -1,6 +1,6 @@
 //! The facts in a report.
 
-use campaign_plans::CampaignPlan;
+use grown_plans::CampaignPlan;
 use scenario_values::Scenario;
 use std::marker::Model;
 use target_trait::Verdict;

@@ -1,7 +1,7 @@
 //! What all runs of a campaign share.
 
 use campaign_given::CampaignSettings;
-use campaign_plans::CampaignPlans;
+use grown_plans::CampaignPlans;
 use target_trait::Target;
 
 /// A workload and plans, the settings that say under which seed and limit they run, and the points that are watched. Runs on any thread borrow it.

@@ -7,7 +7,7 @@ use crate::input::RunInput;
 use crate::watched::leave_unasked;
 use crate::workspace::Workspace;
 use action_eval::{Session, SessionBuffers};
-use campaign_plans::CampaignRigger;
+use grown_plans::CampaignRigger;
 use scenario_values::Scenario;
 use std::alloc::{AllocError, Global};
 use std::marker::Model;

@@ -3,7 +3,7 @@ ghost use Rattle.std.specs.Prelude.{◌≡◌, []};
 ghost use Rattle.action_eval.specs.RiggedScenario.{rigged_as};
 
 use action_eval::{FaultTable, SessionBuffers};
-use campaign_plans::RigLists;
+use grown_plans::RigLists;
 use std::alloc::Global;
 
 /// What a worker's plans are run in, one after another, so that they needn't take memory of their own. What it holds before a plan makes no

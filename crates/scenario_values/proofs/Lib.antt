@@ -8,3 +8,4 @@ pub mod Sets
 pub mod KeptAgain
 pub mod OriginLaws
 pub mod KeptNamed
+pub mod ChunkedLemmas

@@ -7,3 +7,4 @@ pub mod Tidied
 pub mod Built
 pub mod Origins
 pub mod inside
+pub mod chunked

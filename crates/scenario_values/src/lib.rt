@@ -1,9 +1,10 @@
-//! Scenarios as values: names with chains of terms, the faults among these, and scenarios with fewer faults. How a text spells a scenario is no
-//! matter of this crate.
+//! Scenarios as values: names with chains of terms, the faults among these, and scenarios with fewer faults; and text in chunks. How a text spells a
+//! scenario is no matter of this crate.
 #![tactic(auto)]
 
 mod building;
 mod chain;
+mod chunked;
 mod found;
 mod keeping;
 mod laws;
@@ -16,6 +17,7 @@ mod tidying;
 
 pub use building::build;
 pub use chain::Chain;
+pub use chunked::Chunks;
 pub use keeping::{are_faults, keep};
 pub use laws::{
     faults_are_counted, faults_follow_their_origins, keeping_again_is_keeping_a_part,

@@ -7,3 +7,4 @@ pub mod Keeping
 pub mod KeptWrites
 pub mod Overwrites
 pub mod LogLaws
+pub mod LostAll

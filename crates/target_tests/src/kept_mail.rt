@@ -2,9 +2,8 @@
 //! verdict of its run, and with how often the cut asks: once for each pending write, in the order in which they were made.
 
 use crate::runs::{Row, comes_to};
-use chunked_text::Chunks;
 use maildir_target::{Maildir, Messages, TORN, Variant};
-use scenario_values::Text;
+use scenario_values::{Chunks, Text};
 use std::alloc::{AllocError, Global};
 use std::process::Abort;
 use std::test::Fail;

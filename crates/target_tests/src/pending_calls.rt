@@ -2,12 +2,11 @@
 //! writes were made.
 ghost use Rattle.std.specs.Prelude.{◌≡◌, length, IfOk};
 
-use chunked_text::Chunks;
 use commit_target::{Commit, Transactions, Variant as Committing, Vote, Votes};
 use file_replace::{Replace, Variant as Replacing};
 use maildir_target::{Maildir, Messages, Variant as Delivering};
 use scenario_grammar::parse;
-use scenario_values::{Scenario, Text};
+use scenario_values::{Chunks, Scenario, Text};
 use std::alloc::{AllocError, Global};
 use std::process::Abort;
 use std::test::Fail;

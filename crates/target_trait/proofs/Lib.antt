@@ -8,3 +8,4 @@ pub mod Tables
 pub mod Halted
 pub mod CutPlays
 pub mod CutRuns
+pub mod CutLawsLemmas

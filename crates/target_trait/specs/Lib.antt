@@ -8,3 +8,4 @@ pub mod Failing
 pub mod Verdicts
 pub mod Cuts
 pub mod CutLaws
+pub mod cut_laws

@@ -1,8 +1,10 @@
-//! What a target is, the outcome of a case on it, and the sink to which a text is written. How plans and reports are made is no matter of this crate.
+//! What a target is, the outcome of a case on it, laws of its runs with their power cut, and the sink to which a text is written. How plans and reports
+//! are made is no matter of this crate.
 #![tactic(auto)]
 
 mod case;
 mod crash;
+mod cut_laws;
 mod judgement;
 mod laws;
 mod output;
@@ -13,6 +15,9 @@ mod telling;
 pub use action_eval::{Answer, Note, Session, Stop};
 pub use case::{Case, Outcome, run_case, run_session, run_verdict, session_of};
 pub use crash::{CrashProtocol, CrashTarget, WithCut, ask_cut};
+pub use cut_laws::{
+    each_kept_set_has_a_scenario, nothing_is_weaker, these_lose_alike, these_pass_over_texts,
+};
 pub use judgement::{Judgement, Verdict};
 pub use laws::{
     cut_asks_after_the_target, same_meaning_same_outcome, unknown_ends_are_unresolved,

@@ -6,7 +6,7 @@ use Rattle.scenario_values.specs.Scenario.{Entries}
 use Rattle.target_trait.specs.Outcomes.{Told}
 use Rattle.target_trait.specs.declared.judgement.Verdict.{Verdict}
 use Rattle.grown_runs.specs.declared.levels.Grown.{Grown}
-use Rattle.plan_ranges.specs.Ranges.{range_count, range_start}
+use Rattle.grown_runs.specs.ranges.Ranges.{range_count, range_start}
 use Rattle.result_book.specs.Verdicts.{verdicts_from}
 use Rattle.campaign_core.specs.declared.planned.Planned.{Planned}
 use Rattle.result_book.specs.Ranges.{Stretch}

@@ -4,7 +4,7 @@ use Rattle.sim_device.specs.FileEffects.{Effect}
 use Rattle.action_eval.specs.Answers.{Run}
 use Rattle.target_trait.specs.Play.{IsRunning}
 use Rattle.target_trait.specs.Machine.{Reached}
-use Rattle.chunked_text.specs.Chunks.{joined}
+use Rattle.scenario_values.specs.chunked.Chunks.{joined}
 use Rattle.file_replace.specs.declared.variant.Variant.{Variant}
 use Rattle.file_replace.specs.declared.stage.Stage.{Stage}
 use Rattle.file_replace.specs.declared.stage.Stage.TheVariants as stage

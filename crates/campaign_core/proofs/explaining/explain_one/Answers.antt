@@ -2,7 +2,7 @@ use Rattle.std.proofs.Common.{subst, IfErr, OnOk, ℕ, List}
 use Rattle.campaign_core.specs.CommandTexts.{LeavesOnly}
 use Rattle.campaign_core.specs.Writes.{change, WritesWhole}
 use Rattle.campaign_core.proofs.ToldRuns.{twin_text_is}
-use Rattle.run_explained.specs.Explained.{explain_text}
+use Rattle.report.specs.explained.Explained.{explain_text}
 use Rattle.campaign_core.proofs.explaining.explain_one.Goals as goal
 
 pub returns-clause-text : goal.returns-clause-text

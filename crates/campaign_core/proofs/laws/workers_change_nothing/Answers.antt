@@ -1,6 +1,6 @@
 use Rattle.std.proofs.Common.{◌≡◌, ℕ, refl}
-use Rattle.report_forms.specs.declared.forms.Form.{Form}
-use Rattle.report_forms.specs.declared.forms.Form.TheVariants.{Whole, Brief, Json, Junit, Page}
+use Rattle.report.specs.declared.forms.forms.Form.{Form}
+use Rattle.report.specs.declared.forms.forms.Form.TheVariants.{Whole, Brief, Json, Junit, Page}
 use Rattle.campaign_core.specs.Forms.{report_in}
 use Rattle.campaign_core.specs.Headline.{Campaign, on_workers}
 use Rattle.campaign_core.proofs.laws.workers_change_nothing.Goals as goal

@@ -4,7 +4,7 @@ use Rattle.action_eval.specs.declared.rig.Rig.{Rig}
 use Rattle.action_eval.specs.Answers.{texts}
 use Rattle.action_eval.specs.RiggedScenario.{rigged_scenario}
 use Rattle.grown_plans.specs.GrownPlans.{rigs_of}
-use Rattle.campaign_plans.specs.GrownScenarios.{grown_among, grown_scenario, grown_scenarios}
+use Rattle.grown_plans.specs.numbered.GrownScenarios.{grown_among, grown_scenario, grown_scenarios}
 use Rattle.campaign_core.proofs.listing.grown_plan.Goals as goal
 
 -- the scenario of a plan stands in its place

@@ -2,7 +2,7 @@ use Rattle.std.proofs.Common.{rules, ◌≡◌, ◌≤◌, ◌<◌, ◌+◌, ℕ
 use Rattle.std.specs.Prelude.{slice_get}
 use Rattle.std.proofs.lemmas.Option.{slice_get-get_or, slice_get_past}
 use Rattle.action_eval.specs.declared.rig.Rig.{Rig}
-use Rattle.campaign_plans.specs.GrownScenarios.{grown_among, grown_scenarios}
+use Rattle.grown_plans.specs.numbered.GrownScenarios.{grown_among, grown_scenarios}
 use Rattle.campaign_core.specs.CommandTexts.{IsUnfound}
 use Rattle.campaign_core.specs.Headline.{Campaign, campaign_in}
 use Rattle.campaign_core.specs.Planned.{AreGrown}

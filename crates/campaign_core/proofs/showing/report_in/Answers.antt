@@ -2,8 +2,8 @@ use Rattle.std.proofs.Common.{◌≡◌, ◌∙◌, IfSome, ap, length, subst, s
 use Rattle.std.proofs.lemmas.Result.{IfOk-weaker}
 use Rattle.report.specs.Reports.{GrowthFacts, ReportFacts}
 use Rattle.campaign_given.specs.Given.{Given}
-use Rattle.campaign_plans.specs.GrownScenarios.{grown_among}
-use Rattle.report_json.specs.About.{shown_of}
+use Rattle.grown_plans.specs.numbered.GrownScenarios.{grown_among}
+use Rattle.report.specs.json_form.About.{shown_of}
 use Rattle.campaign_core.specs.Forms.{report_in, shown}
 use Rattle.campaign_core.specs.Headline.{Campaign, campaign_in}
 use Rattle.campaign_core.proofs.EachVerdict.{verdicts_each}

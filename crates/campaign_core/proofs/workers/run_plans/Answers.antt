@@ -3,7 +3,7 @@ use Rattle.scenario_values.specs.Scenario.{Entries}
 use Rattle.target_trait.specs.Outcomes.{Told}
 use Rattle.target_trait.specs.declared.judgement.Verdict.{Verdict}
 use Rattle.worker_pool.specs.Workers.{EachOnce}
-use Rattle.plan_ranges.specs.Ranges.{range_count}
+use Rattle.grown_runs.specs.ranges.Ranges.{range_count}
 use Rattle.result_book.specs.Says.{input_says}
 use Rattle.result_book.specs.Runs.{input_runs}
 use Rattle.result_book.specs.Ranges.{enter_lists, enter_range}

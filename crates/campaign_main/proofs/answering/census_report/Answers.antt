@@ -2,7 +2,7 @@ use Rattle.std.proofs.Common.{◌≡◌, ◌≤◌, ◌∙◌, List, None, Optio
 use Rattle.answer_text.specs.Runs.{told_in}
 use Rattle.plan_gen.specs.PlanList.{most_plans}
 use Rattle.scenario_values.specs.Scenario.{Entries}
-use Rattle.report_forms.specs.declared.forms.Form.{Form}
+use Rattle.report.specs.declared.forms.forms.Form.{Form}
 use Rattle.std.specs.String.{string_bytes}
 use Rattle.campaign_main.specs.Questions.{IsShown, Subject}
 use Rattle.campaign_main.proofs.ShownLemmas.{known-shown, reported-shown}

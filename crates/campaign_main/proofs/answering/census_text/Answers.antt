@@ -1,7 +1,7 @@
 use Rattle.std.proofs.Common.{◌∙◌, ℕ, List, None, false, ap, subst, sym}
-use Rattle.asked_lines.specs.Lines.{lines_for}
-use Rattle.asked_lines.specs.Parts.{part_text}
-use Rattle.asked_lines.specs.declared.parts.AskedPart.{AskedPart}
+use Rattle.answered_runs.specs.asked.Lines.{lines_for}
+use Rattle.answered_runs.specs.asked.Parts.{part_text}
+use Rattle.answered_runs.specs.declared.asked.parts.AskedPart.{AskedPart}
 use Rattle.answer_text.specs.Known.{verdicts_in}
 use Rattle.answer_text.specs.Runs.{told_in}
 use Rattle.outside_campaign.specs.Campaigns.{plans, untried}

@@ -1,8 +1,8 @@
 use Rattle.std.proofs.Common.{◌≡◌, ◌∙◌, Option, Some, ap, subst, sym, ℕ}
 use Rattle.campaign_given.specs.Given.{Given}
-use Rattle.answered_campaigns.specs.Questions.{Tells}
-use Rattle.answered_campaigns.proofs.Asking.{err_is}
-use Rattle.answered_campaigns.proofs.ReadFaults.{asked_refused}
+use Rattle.outside_campaign.specs.with_depth.Questions.{Tells}
+use Rattle.outside_campaign.proofs.WithDepthLemmas.Asking.{err_is}
+use Rattle.outside_campaign.proofs.WithDepthLemmas.ReadFaults.{asked_refused}
 use Rattle.campaign_main.specs.Questions.{IsUnanswered, IsUnansweredTo, Subject}
 use Rattle.campaign_main.specs.inside.OnPlans.{question_on}
 use Rattle.campaign_main.proofs.PlanQuestions.{yet-unanswered}

@@ -1,6 +1,6 @@
 use Rattle.std.proofs.Common.{◌≡◌, ◌∙◌, ℕ, List, IfOk, ap, map, string_bytes, subst, take}
 use Rattle.report.specs.ReportText.{text_of}
-use Rattle.run_explained.specs.Explained.{given_in}
+use Rattle.report.specs.explained.Explained.{given_in}
 use Rattle.campaign_main.specs.Commands.{keep_lines, keeps_asked}
 use Rattle.campaign_main.proofs.cut_end.end_text.Goals as goal
 

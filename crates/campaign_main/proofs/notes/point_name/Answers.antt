@@ -1,5 +1,5 @@
 use Rattle.std.proofs.Common.{sym}
-use Rattle.target_laws.proofs.Names.{text_at}
+use Rattle.campaign_core.proofs.TargetLawsLemmas.Names.{text_at}
 use Rattle.campaign_main.proofs.notes.point_name.Goals as goal
 
 pub returns : goal.returns

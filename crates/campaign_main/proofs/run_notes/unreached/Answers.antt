@@ -2,7 +2,7 @@ use Rattle.std.proofs.Common.{◌≡◌, ◌<◌, ◌==◌, ◌∙◌, Bool, Lis
 use Rattle.std.specs.List.{range_with_len}
 use Rattle.action_eval.specs.declared.rig.Rig.{Rig}
 use Rattle.answered_runs.specs.Answered.{known_plans, runs_in}
-use Rattle.outside_grown.specs.Reached.{AreMostTold, reached_told}
+use Rattle.answered_runs.specs.grown.Reached.{AreMostTold, reached_told}
 use Rattle.campaign_main.proofs.RunLemmas.{places_below, same_places}
 use Rattle.campaign_main.proofs.run_notes.unreached.Goals as goal
 

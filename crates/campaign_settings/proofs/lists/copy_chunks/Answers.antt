@@ -1,5 +1,5 @@
 use Rattle.std.proofs.Common.{◌≡◌, ℕ, List, true, rules, subst, sym}
-use Rattle.chunked_text.specs.Chunks.{IsChunks}
+use Rattle.scenario_values.specs.chunked.Chunks.{IsChunks}
 use Rattle.campaign_settings.specs.Lists.{is_chunk_list}
 use Rattle.campaign_settings.proofs.ListLemmas.{chunks-fit}
 use Rattle.campaign_settings.proofs.lists.copy_chunks.Goals as goal

@@ -1,7 +1,7 @@
 use Rattle.std.proofs.Common.{◌∙◌, ap, sym, ◌-◌, length, take, drop, map, List, ℕ, false}
 use Rattle.std.specs.Str.{bytes_eq}
 use Rattle.file_replace.specs.Judgement.{is_among}
-use Rattle.chunked_text.specs.Chunks.{joined}
+use Rattle.scenario_values.specs.chunked.Chunks.{joined}
 use Rattle.file_replace.proofs.Counted.{begun_from, old_or_begun}
 use Rattle.file_replace.proofs.contents.is_among.Goals as goal
 

@@ -1,7 +1,7 @@
 use Rattle.std.proofs.Common.{◌≡◌, drop, map}
 use Rattle.std.specs.List.{list_any}
 use Rattle.std.specs.Str.{bytes_eq}
-use Rattle.chunked_text.specs.Chunks.{joined}
+use Rattle.scenario_values.specs.chunked.Chunks.{joined}
 use Rattle.file_replace.proofs.contents.is_one.Given as goal
 
 abbrev pub invariant-loop-replacement : goal.invariant-loop-replacement

@@ -1,6 +1,0 @@
-use Rattle.std.proofs.Common.{◌≡◌, map, take}
-use Rattle.answered_campaigns.specs.Kinds.{kind_of}
-use Rattle.answered_campaigns.proofs.kinds.kinds_of_each.Given as goal
-
-abbrev pub invariant-loop-faults : goal.invariant-loop-faults
-invariant-loop-faults l = map (λ k. k.items) l.kinds.items ≡ map (map kind_of) (take l.faults-index l.tried)

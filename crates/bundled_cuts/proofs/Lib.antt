@@ -1,5 +1,0 @@
-mod Lost
-mod Replacing
-mod Delivering
-mod Committing
-mod Texts

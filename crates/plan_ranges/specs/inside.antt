@@ -1,2 +1,0 @@
--- What the code keeps. No clause that a caller sees names any of it.
-pub mod Slots

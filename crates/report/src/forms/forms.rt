@@ -1,0 +1,97 @@
+//! The forms of a report.
+ghost use Rattle.std.specs.Prelude.{◌≡◌, length, IfOk, IfSome};
+ghost use Rattle.report_page.specs.Page.{page_text};
+ghost use Rattle.report.specs.forms.Forms.{brief_of, document_in, text_in};
+ghost use Rattle.report.specs.forms.Runs.{GrownAreFirst};
+
+use crate::forms::runs::{Teller, runs_shown};
+use crate::json_form::{Notes, Shown, json_text};
+use crate::junit_form::junit_text;
+use crate::{Names, Report, brief_text, text};
+use report_page::page_text;
+use std::alloc::{AllocError, Global};
+
+/// The form in which a report is written.
+#[derive(Drop)]
+pub enum Form<'a> {
+    /// Lines, one for each verdict.
+    Whole,
+    /// Lines, with one line of counts in place of the passing verdicts, and its scenario beside each other verdict.
+    Brief,
+    /// A JSON document with everything in the report, and these notes.
+    Json(Notes<'a>),
+    /// JUnit's XML, with a case for each plan.
+    Junit,
+    /// A page to look at: an HTML document that needs nothing else, and shows the JSON document with these notes.
+    Page(Notes<'a>),
+}
+
+/// The document, with the runs that are shown.
+fn document_of<N: Names, T: Teller>(
+    alloc: Global,
+    names: &N,
+    teller: &T,
+    report: &Report<'_>,
+    notes: &Notes<'_>,
+    shown: &Shown<'_>,
+) -> Result<Vec<u8>, AllocError>
+    requires counts { length report.now.census ≡ length (N.points names.now) }
+    requires reached { IfSome report.now.growth (λ growth. length growth.reached ≡ length (N.points names.now)) }
+    requires verdicts { length report.now.verdicts ≡ length shown.now.plans }
+    requires first { GrownAreFirst (N.points names.now) shown.now }
+    ensures { IfOk result (λ text. text.items
+        ≡ document_in (N.points names.now) (N.code_text names.now) (T.told_runs teller.now) report.now notes.now shown.now) }
+{
+    let runs = runs_shown(alloc, names, teller, report, shown)?;
+    json_text(alloc, names, report, notes, shown, &runs)
+}
+
+/// The page: the brief report and the document, in the frame.
+fn page_of<N: Names, T: Teller>(
+    alloc: Global,
+    names: &N,
+    teller: &T,
+    report: &Report<'_>,
+    notes: &Notes<'_>,
+    shown: &Shown<'_>,
+) -> Result<Vec<u8>, AllocError>
+    requires counts { length report.now.census ≡ length (N.points names.now) }
+    requires reached { IfSome report.now.growth (λ growth. length growth.reached ≡ length (N.points names.now)) }
+    requires verdicts { length report.now.verdicts ≡ length shown.now.plans }
+    requires first { GrownAreFirst (N.points names.now) shown.now }
+    ensures { IfOk result (λ text. text.items ≡ page_text (brief_of (N.points names.now) (N.code_text names.now) report.now shown.now)
+        (document_in (N.points names.now) (N.code_text names.now) (T.told_runs teller.now) report.now notes.now shown.now)) }
+{
+    let brief = brief_text(alloc, names, report, shown.plans)?;
+    let document = document_of(alloc, names, teller, report, notes, shown)?;
+    page_text(alloc, brief.as_slice(), document.as_slice())
+}
+
+/// The text of a report in a form, with these names of points and codes, and what is shown beside it. The document and the page also show the runs
+/// that the teller gives.
+///
+/// The census needs a count for each point; so does `reached`, if the campaign has a depth; each plan needs a verdict; and the plans that grew have
+/// to come first. An error means that memory was refused.
+pub fn text_in<N: Names, T: Teller>(
+    alloc: Global,
+    form: &Form<'_>,
+    names: &N,
+    teller: &T,
+    report: &Report<'_>,
+    shown: &Shown<'_>,
+) -> Result<Vec<u8>, AllocError>
+    requires counts { length report.now.census ≡ length (N.points names.now) }
+    requires reached { IfSome report.now.growth (λ growth. length growth.reached ≡ length (N.points names.now)) }
+    requires verdicts { length report.now.verdicts ≡ length shown.now.plans }
+    requires first { GrownAreFirst (N.points names.now) shown.now }
+    ensures { IfOk result (λ text. text.items
+        ≡ text_in form.now (N.points names.now) (N.code_text names.now) (T.told_runs teller.now) report.now shown.now) }
+{
+    match form {
+        Form::Whole => text(alloc, names, report),
+        Form::Brief => brief_text(alloc, names, report, shown.plans),
+        Form::Json(notes) => document_of(alloc, names, teller, report, notes, shown),
+        Form::Junit => junit_text(alloc, names, report, shown.plans),
+        Form::Page(notes) => page_of(alloc, names, teller, report, notes, shown),
+    }
+}

@@ -1,2 +1,0 @@
-mod Parents
-mod EachShown

@@ -1,7 +1,0 @@
-use Rattle.std.proofs.Common.{◌≡◌, map, take}
-use Rattle.report_forms.specs.Runs.{finding_shown}
-use Rattle.report_forms.proofs.runs.findings_shown.Given as goal
-
-abbrev pub invariant-loop-finding : goal.invariant-loop-finding
-invariant-loop-finding g l =
-    l.runs.items ≡ map (finding_shown (g.N.Names.points l.fn.names) (g.T.Teller.told_runs l.fn.teller) l.fn.shown.grown) (take l.finding-index l.findings)

@@ -1,8 +1,0 @@
-use Rattle.std.proofs.Common.{◌≡◌, ◌++◌, drop, map}
-use Rattle.report_json.specs.About.{grown_value}
-use Rattle.report_json.specs.inside.Tokens.{all_tokens}
-use Rattle.report_json.proofs.about.write_each_grown.Given as goal
-
-abbrev pub invariant-loop-number : goal.invariant-loop-number
-invariant-loop-number l =
-    l.out ++ all_tokens (map grown_value (drop l.number l.grown)) ≡ l.initial.out ++ all_tokens (map grown_value l.grown)

@@ -1,6 +1,0 @@
-use Rattle.report_json.specs.Values.{whole}
-use Rattle.report_json.proofs.Lists.{value_next}
-use Rattle.report_json.proofs.growth.write_each_level.Goals as goal
-
-pub loop-plans-preserved : goal.loop-plans-preserved
-loop-plans-preserved c = value_next whole _ _ _ _ _ _ _ c.loop-plans-test.true c.from.ensures c.in_ok-write_whole.ensures c.loop-plans.invariant

@@ -1,7 +1,0 @@
-use Rattle.std.proofs.Common.{◌≡◌, ◌++◌, drop, map}
-use Rattle.report_json.specs.Values.{whole}
-use Rattle.report_json.specs.inside.Tokens.{all_tokens}
-use Rattle.report_json.proofs.growth.write_each_level.Given as goal
-
-abbrev pub invariant-loop-plans : goal.invariant-loop-plans
-invariant-loop-plans l = l.out ++ all_tokens (map whole (drop l.plans-index l.levels)) ≡ l.initial.out ++ all_tokens (map whole l.levels)

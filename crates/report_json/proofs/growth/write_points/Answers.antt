@@ -1,7 +1,0 @@
-use Rattle.std.proofs.lemmas.Result.{on_ok_weaker}
-use Rattle.report_json.proofs.Lists.{list_member}
-use Rattle.report_json.proofs.growth.write_points.Goals as goal
-
-pub returns : goal.returns
-returns g c =
-    on_ok_weaker c.token.result (λ ends. list_member _ _ _ _ _ _ c.in_ok-begin_list.ensures c.in_ok-write_each_point.ensures ends) c.token.ensures.ok

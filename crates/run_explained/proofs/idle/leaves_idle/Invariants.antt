@@ -1,6 +1,0 @@
-use Rattle.std.proofs.Common.{◌≡◌}
-use Rattle.run_explained.specs.Explained.{idle_lines}
-use Rattle.run_explained.proofs.idle.leaves_idle.Given as goal
-
-abbrev pub invariant-loop-name : goal.invariant-loop-name
-invariant-loop-name l = idle_lines l.hits l.name-iterator ≡ idle_lines l.hits l.scenario

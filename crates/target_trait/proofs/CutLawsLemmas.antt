@@ -1,0 +1,12 @@
+pub mod Names
+pub mod OwnRuns
+pub mod CutHits
+pub mod CutPlays
+pub mod LostAll
+pub mod Chains
+pub mod Shorter
+pub mod SameRuns
+pub mod EachSet
+pub mod Lawful
+pub mod LosesAlike
+pub mod Texts

@@ -1,0 +1,2 @@
+pub mod KeptSets
+pub mod Texts
