@@ -41,21 +41,13 @@ ONWARD = ["a=return", "a=1*off->return", "b=return"]
 # Several faults, each at one hit or from one on, and one that isn't among the usual kinds.
 SEVERAL = ["a=1*return->1*return", "a=1*return->return", "a=1*return->1*panic", "a=1*panic->1*return", "a=1*return;b=1*return", "a=1*panic;b=return",
            "a=3*off->1*return", "a=1*return(text)"]
-# Other scenarios: what is told of them is held to no plan.
+# Other spellings of scenarios.
 OTHER_FORMS = ["a=2*return", "a=panic", "a=1*pause", "b=1*return;a=1*return", "stranger=1*return"]
 SCENARIOS = ["none", *FAULTS, *ONWARD, *SEVERAL, *OTHER_FORMS]
 
 AGREED, REFUSED = "taken, and some component agrees", "refused, and none does"
 TWICE = "refused, though one does: one scenario, with hits and without"
-# Of two lines with which no component agrees one is that of a known plan and the other begins like it, but has the run of no plan, since
-MORE = "taken, though none does: more faults act in it than in a plan"
-KIND = "taken, though none does: a fault acts in it that is tried nowhere"
-LATER = "taken, though none does: a plan that it goes by has no answer yet"
-UNSEEN = "taken, though none does: nobody knows the hits of a plan that it goes by"
-FORM = "taken, though none does: its scenario has another form"
-# Or one is that of a known plan nowhere.
-NEITHER = "taken, though none does: neither line is that of a known plan"
-KNOWN = [AGREED, REFUSED, TWICE, MORE, KIND, UNSEEN, LATER, FORM, NEITHER]
+KNOWN = [AGREED, REFUSED, TWICE]
 
 
 class Line(NamedTuple):
@@ -161,48 +153,6 @@ def known_plans(lines):
     return plans
 
 
-def first_fault(scenario, hits):
-    """The first fault that acts along these hits: its point, the number among the hits of that, and what it does."""
-    acting = [at for at, answer in enumerate(answers_along(scenario, hits)) if answer != GO]
-    return (hits[acting[0]], hits[:acting[0] + 1].count(hits[acting[0]]), answers_along(scenario, hits)[acting[0]]) if acting else None
-
-
-def gap_of(scenario, told):
-    """Why a scenario has the run of no plan, given the hits of each scenario that is told. None if it has that of `none`."""
-    if told["none"] is None:
-        return UNSEEN
-    fault = first_fault(scenario, told["none"])
-    if fault is None or fault[2] not in ("return", "panic"):
-        return fault and KIND
-    point, ordinal, task = fault
-    once, onward = plan_at(point, ordinal, f"1*{task}"), plan_at(point, ordinal, "return")
-    if told.get(once) is None:
-        return UNSEEN if once in told else LATER
-    again = [at for at in range(len(told[once])) if told[once][:at + 1].count(point) == ordinal + 1]
-    shared = told[once][:again[0] + 1] if again and task == "return" else ""
-    if shared and told.get(onward) is None and answers_along(scenario, shared) == answers_along(onward, shared):
-        return UNSEEN if onward in told else LATER
-    return MORE
-
-
-def why_taken(lines, pair):
-    """By which gap a text with two such lines may be taken. None if it has to be refused: they answer one scenario, both are lines of plans, or one has the
-    run of the other's plan. What is said of a pause may be impossible by itself."""
-    if any(clash(line, line) for line in pair):
-        return FORM
-    if pair[0].scenario == pair[1].scenario:
-        return None
-    plans = known_plans(lines)
-    line, plan = sorted(pair, key=lambda line: line.scenario in plans)
-    if plan.scenario not in plans:
-        return NEITHER
-    if line.scenario in OTHER_FORMS:
-        return FORM
-    if line.scenario in plans or plan.hits is not None and answers_along(line.scenario, plan.hits) == answers_along(plan.scenario, plan.hits):
-        return None
-    return gap_of(line.scenario, {line.scenario: line.hits for line in lines})
-
-
 def names_a_clash(lines, told):
     """Whether a refusal tells of two lines that no component agrees with, and where they differ; or of two that answer one scenario otherwise."""
     found = re.fullmatch(r"answers: line (\d+): (\D+?)(?: from)?(?: line (\d+)(?: at hit (\d+)|, .*)?)?\n", told)
@@ -210,6 +160,8 @@ def names_a_clash(lines, told):
         return False
     line, others = lines[int(found[1]) - 1], [lines[int(found[3]) - 1]] if found[3] else lines
     end, places = len(line.hits or "") + 1, [clash_at(line, other) for other in others if None not in (line.hits, other.hits)]
+    if found[2] == "goes on after a pause":
+        return clash(line, line)
     if found[2] == "contradicts":
         return line.scenario == others[0].scenario and line != others[0]
     if found[2] == "verdict differs":
@@ -225,17 +177,14 @@ def judged(lines, status, told):
     pairs = [pair for pair in combinations_with_replacement(lines, 2) if clash(*pair)]
     if (component is None) != bool(pairs) or (component is not None and not all(agrees(component, line) for line in lines)):
         return "the search is wrong"
-    gaps = [why_taken(lines, pair) for pair in pairs]
     twice = any(line.scenario == other.scenario and line != other for line, other in combinations(lines, 2))
     if status == 2 and told.startswith("answers: line "):
         if not names_a_clash(lines, told):
             return "refused for two lines with which some component agrees, or at another place"
-        if None not in gaps and not twice:
-            return f"refused, and listed as {gaps[0]}" if gaps else "refused, though some component agrees"
-        return REFUSED if pairs else TWICE
+        return REFUSED if pairs else TWICE if twice else "refused, though some component agrees"
     if status != 0 or re.sub(r"answers: line \d+: no point is named stranger\n", "", told):
         return f"ended with {status}"
-    return "taken, though it has to be refused" if None in gaps or twice else min(gaps, key=KNOWN.index, default=AGREED)
+    return "taken, though it has to be refused" if pairs or twice else AGREED
 
 
 def written(line):
@@ -318,8 +267,6 @@ def tried(first, every):
     texts = islice(families(), first, None, every)
     counts, idle, shortest = Counter(), Counter(), {}
     for lines, what, is_left in perform(lines[::-1] if number % 2 else lines for number, lines in enumerate(texts)):
-        if what == LATER and not is_left:
-            what = "taken, though none does, and the plan that it goes by isn't asked"
         counts[what] += 1
         idle[what] += not is_left
         text = " / ".join(written(line).replace("\t", " ").strip() for line in lines)

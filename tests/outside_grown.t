@@ -333,7 +333,8 @@ With its last fault from then on a run goes as with this fault once, up to the n
   $ row pass a=return '2*a;b' | tail -n 1
   causes 0
 
-The first of them by the plans' order is told, whatever the lines' order; and none before the run that it grew from is known.
+The first of them by the plans' order is told, whatever the lines' order. If the run that they grew from isn't known, two others may contradict
+each other.
 
   $ { line pass 'b=1*return;c=1*return' 'a;b'; line pass 'b=1*return' 'a;b;c'; line pass 'b=1*panic' 'b'; line pass none 'a;b'; } > broken
   $ paklour asks three.toml < broken
@@ -343,7 +344,8 @@ The first of them by the plans' order is told, whatever the lines' order; and no
   answers: line 1: fault not met
   [2]
   $ sed '3,4d' broken | paklour asks three.toml
-  none
+  answers: line 2: hits differ from line 1 at hit 3
+  [2]
 
 Two lines with one run
 ----------------------
@@ -371,11 +373,11 @@ hits of `a` return one by one, and that is what a return from then on does.
   $ both unresolved 'a=1*return->1*return' - 2>&1 | sort -u
   answers: line 7: verdict differs from line 6
   $ both 'fail bad' 'a=1*return->1*return' 'a;b' 2>&1 | sort -u
-  answers: line 7: hits differ from line 6 at hit 2
+  answers: line 7: hits differ from line 2 at hit 2
   $ both pass 'a=1*return->1*return' '2*a;b' 2>&1 | sort -u
   answers: line 7: hits differ from line 6 at hit 3
   $ both pass 'a=1*return->1*return' a 2>&1 | sort -u
-  answers: line 7: hits differ from line 6 at hit 2
+  answers: line 7: hits differ from line 2 at hit 2
   $ both pass 'a=2*off->1*panic;b=1*return' '2*a;b' 2>&1 | sort -u
   answers: line 7: hits differ from line 1 at hit 3
 

@@ -11,7 +11,7 @@ use Rattle.plan_gen.specs.RiggedAnswers.{is_onward}
 use Rattle.grown_plans.specs.Promises.{EachTwo}
 use Rattle.grown_plans.proofs.Members.{all_contains, all_weaker, contains_head, contains_tail}
 use Rattle.grown_plans.proofs.RiggedScenarios.{same_text}
-use Rattle.known_runs.specs.Walks.{once}
+use Rattle.grown_runs.specs.known.Walks.{once}
 
 pub same_kind : Kind → Kind → Bool
 same_kind (OnceReturn a) (OnceReturn b) = is_same_text a b

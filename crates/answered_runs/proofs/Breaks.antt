@@ -16,12 +16,12 @@ use Rattle.grown_plans.proofs.Apart.{level_in_levels}
 use Rattle.grown_plans.proofs.Members.{all_append, all_both, all_of, all_map, all_flat, all_by_contains, all_contains, all_right, all_weaker}
 use Rattle.grown_plans.proofs.Levels.{IsGrown, level_grown}
 use Rattle.grown_plans.proofs.RiggedScenarios.{kind_once}
-use Rattle.known_runs.specs.Breaks.{Continues, break_of, forerunner_of, shared_to}
-use Rattle.known_runs.specs.Known.{Agrees, IsTrueOf, KnownRuns, Told, hits_of, hits_told, points_met}
-use Rattle.known_runs.specs.KnownPart.{is_reached, is_reached_onward, known_part, once_of}
-use Rattle.known_runs.specs.declared.breaks.Break.{Break}
-use Rattle.known_runs.proofs.Breaking.{breaks_never}
-use Rattle.known_runs.proofs.Ends.{filtered}
+use Rattle.grown_runs.specs.known.Breaks.{Continues, break_of, forerunner_of, shared_to}
+use Rattle.grown_runs.specs.known.Known.{Agrees, IsTrueOf, KnownRuns, Told, hits_of, hits_told, points_met}
+use Rattle.grown_runs.specs.known.KnownPart.{is_reached, is_reached_onward, known_part, once_of}
+use Rattle.grown_runs.specs.declared.known.breaks.Break.{Break}
+use Rattle.grown_runs.proofs.KnownLemmas.Breaking.{breaks_never}
+use Rattle.grown_runs.proofs.KnownLemmas.Ends.{filtered}
 use Rattle.answer_text.specs.Runs.{told_in}
 use Rattle.answered_runs.specs.Components.{AgreesWithRuns, IsComponent}
 use Rattle.answered_runs.specs.Broken.{IsUnbroken, break_at, break_told}
@@ -112,7 +112,7 @@ onward_whole t l d runs agrees =
     (all_flat (TrueBefore t runs) (onward_of t) (level t d) (all_by_contains _ (level t d) (λ leaf c. leaf_before t runs leaf (true_at t d d runs leaf agrees (omega arith) c))))
     (all_both (TrueAt t runs) (Continues t) (onward t d) (all_right (TrueAt t runs) (levels t d) (onward t d) agrees) (all_right (Continues t) (levels t d) (onward t d) (breaks_never t l d))))
 
-part_whole : (t : Subject) → IsLawful t → (d : ℕ) (runs : KnownRuns) → Agrees t d runs → AllByRecursion (IsUnbroken runs) (known_part t d runs)
+pub part_whole : (t : Subject) → IsLawful t → (d : ℕ) (runs : KnownRuns) → Agrees t d runs → AllByRecursion (IsUnbroken runs) (known_part t d runs)
 part_whole t l d runs agrees =
     all_append (IsUnbroken runs) (filter (is_reached runs) (levels t d)) (filter (is_reached_onward runs) (onward t d)) (filtered (is_reached runs) (IsUnbroken runs) (levels t d) (levels_whole t l d d runs agrees (omega arith)))
     (filtered (is_reached_onward runs) (IsUnbroken runs) (onward t d) (onward_whole t l d runs agrees))

@@ -20,7 +20,7 @@ use Rattle.grown_plans.specs.GrownPlans.{cut_point}
 use Rattle.grown_plans.specs.Promises.{IsLawful}
 use Rattle.grown_plans.proofs.KeptChildren.{usual_apart, usual_once, usual_texts}
 use Rattle.answered_runs.specs.Components.{AgreesWithRuns, IsComponent, IsTrueRun}
-use Rattle.answered_runs.specs.EndedRuns.{ended_asks, ended_component, ended_lines, ended_told, one_return, two_points}
+use Rattle.answered_runs.specs.EndedRuns.{ended_asks, ended_component, ended_told, one_return, two_points}
 
 asks_within : (answers : List Reply) → AsksWithin 2 (ended_asks answers)
 asks_within [] = omega arith

@@ -24,8 +24,8 @@ use Rattle.answer_text.proofs.Members.{same_printed}
 use Rattle.grown_plans.specs.GrownPlans.{Subject, is_before}
 use Rattle.grown_plans.specs.Promises.{IsLawful, verdict_of_rigs}
 use Rattle.grown_plans.proofs.Members.{all_map, all_weaker}
-use Rattle.known_runs.specs.Walks.{once}
-use Rattle.known_runs.proofs.Steps.{same_verdict}
+use Rattle.grown_runs.specs.known.Walks.{once}
+use Rattle.grown_runs.proofs.KnownLemmas.Steps.{same_verdict}
 use Rattle.answered_runs.specs.Answered.{plan_runs}
 use Rattle.answered_runs.specs.Components.{AgreesWithRuns, IsComponent, IsTrueRun}
 use Rattle.answered_runs.specs.Rigged.{are_in_order, are_lawful, are_short, are_small, is_short, if_made, make, most_hit, points_into, rigs_of_scenario}

@@ -4,9 +4,9 @@ use Rattle.std.specs.Prelude.{IfOk}
 use Rattle.std.specs.List.{AllByRecursion}
 use Rattle.action_eval.specs.RiggedScenario.{CanBeRigged}
 use Rattle.grown_plans.specs.GrownPlans.{Subject, rigs_of}
-use Rattle.known_runs.specs.declared.growing.ToldList.{ToldList}
+use Rattle.grown_runs.specs.declared.known.growing.ToldList.{ToldList}
 use Rattle.answer_text.specs.declared.runs.ToldRun.{ToldRun}
-use Rattle.known_runs.specs.KnownPlans.{AreKnown}
+use Rattle.grown_runs.specs.known.KnownPlans.{AreKnown}
 use Rattle.answer_text.specs.Runs.{told_in}
 use Rattle.answered_runs.specs.Answered.{Answered, known_plans, runs_in}
 use Rattle.answered_runs.specs.Components.{AgreesWithRuns, IsComponent}

@@ -4,12 +4,27 @@ pub mod Known
 pub mod EndedRuns
 pub mod Found
 pub mod Breaks
-pub mod Differences
 pub mod LineReading
-pub mod Contradicting
-pub mod Taken
+pub mod Laid
+pub mod Numbers
+pub mod Leading
+pub mod PlayedHits
+pub mod Places
+pub mod PutHits
+pub mod WithoutHits
+pub mod PlayedRuns
 pub mod WholeLists
 pub mod Within
 pub mod KnownLists
 pub mod ReadHits
 pub mod SomeComponent
+pub mod AskedLemmas
+pub mod GrownLemmas
+mod CertainAnswers
+mod LinePlays
+mod LineRuns
+mod Compared
+mod LinesRead
+mod Tests
+mod LineWords
+pub mod Disagreeing

@@ -1,181 +1,395 @@
--- Some component agrees with answers in which no run of a known plan breaks.
-use Rattle.std.proofs.Common.{◌≡◌, ℕ, ◌<◌, ◌≤◌, ◌&&◌, nat_le, Bool, true, false, cond, Option, None, Some, List, [], ◌∷◌, length, refl, ap, sym, ◌∙◌, subst, arith}
-use Rattle.std.specs.Prelude.{Contains, IfSome, option_and_then, option_map}
-use Rattle.std.specs.List.{AllByRecursion, list_all}
-use Rattle.std.proofs.lemmas.Bool.{le-leb, lt-ltb}
+-- Some component agrees with lines of which no two contradict each other. It does what the lines say, and where they say nothing, nobody knows what
+-- it does.
+use Rattle.std.proofs.Common.{◌≡◌, ℕ, ◌<◌, ◌≤◌, nat_le, Bool, true, false, cond, Option, None, Some, List, [], ◌∷◌, length, take, refl, ap, sym, ◌∙◌, subst, arith, ◌⊎◌, inl, inr, zero, suc, get_or}
+use Rattle.std.specs.Prelude.{IfSome, option_and_then, option_map, slice_get}
+use Rattle.std.specs.List.{AllByRecursion}
+use Rattle.std.proofs.lemmas.Bool.{cases_lt}
+use Rattle.std.proofs.lemmas.List.{length-take, take_all}
+use Rattle.std.proofs.lemmas.Option.{same_Some, slice_get-get_or, slice_get_past, slice_get_within}
 use Rattle.scenario_values.specs.Scenario.{Entries, IsScenario}
 use Rattle.scenario_values.specs.Tidied.{tidied}
-use Rattle.action_eval.specs.Answers.{given_of}
-use Rattle.action_eval.specs.SameMeaning.{MeansTheSame}
-use Rattle.action_eval.specs.RiggedScenario.{CanBeRigged}
+use Rattle.action_eval.specs.Answers.{Reply, given_of, is_cut_short}
 use Rattle.action_eval.specs.declared.rig.Kind.{Kind}
 use Rattle.action_eval.specs.declared.rig.Rig.{Rig}
-use Rattle.action_eval.proofs.Rigged.{rigged_scenario_keeps}
-use Rattle.action_eval.proofs.RunLaws.{tidied_means}
-use Rattle.target_trait.specs.Outcomes.{Told as Outcome, outcome}
-use Rattle.target_trait.proofs.Verdicts.{outcome_same, verdict_is}
+use Rattle.target_trait.specs.declared.judgement.Judgement.{Judgement}
+use Rattle.target_trait.specs.declared.judgement.Verdict.{Verdict}
+use Rattle.target_trait.specs.declared.judgement.Verdict.TheVariants as verdict
+use Rattle.target_trait.specs.Play.{AsksWithin, Done, Move, Unknown}
+use Rattle.target_trait.specs.Outcomes.{outcome}
 use Rattle.answer_text.specs.Hits.{most_hits, points_of}
 use Rattle.answer_text.specs.Runs.{KnownRuns as Answers, told_in}
 use Rattle.answer_text.specs.declared.hits.Stretch.{Stretch}
+use Rattle.answer_text.specs.declared.runs.RunLine.{RunLine}
 use Rattle.answer_text.specs.declared.runs.ToldRun.{ToldRun}
-use Rattle.campaign_plans.specs.GrownScenarios.{grown_scenario}
-use Rattle.grown_plans.specs.GrownPlans.{Subject, given_for, grown, rigs_of, run_of_plan, scenario_of}
-use Rattle.grown_plans.specs.Promises.{CanBeTried, NeedsNoSeed}
+use Rattle.answer_text.proofs.Members.{AreLawful, Has, lawful_has}
+use Rattle.grown_plans.specs.numbered.GrownScenarios.{grown_scenario}
+use Rattle.grown_plans.specs.GrownPlans.{Subject, grown, rigs_of}
+use Rattle.grown_plans.specs.Promises.{CanBeTried, IsLawful}
 use Rattle.grown_plans.proofs.ListedKinds.{listed_can}
-use Rattle.grown_plans.proofs.Members.{all_contains, all_weaker}
-use Rattle.grown_plans.proofs.Onward.{no_seed_needed}
-use Rattle.grown_plans.proofs.Rigged.{grown_can_be_rigged}
-use Rattle.known_runs.specs.Agreeing.{CanBeRun, ContinuesTold, HasSubject}
-use Rattle.known_runs.specs.Breaks.{forerunner_of, shared_to}
-use Rattle.known_runs.specs.Known.{Agrees, IsTrueOf, KnownRuns, Told, hits_of, hits_told, points_met}
-use Rattle.known_runs.proofs.ComponentList.{has_subject}
-use Rattle.known_runs.proofs.Kept.{part_short}
-use Rattle.known_runs.proofs.Sites.{asked_met}
-use Rattle.answered_runs.specs.Answered.{Answered, CanBeListed, hits_by, is_low, kinds_over, known_plans, runs_in, told_of}
-use Rattle.answered_runs.specs.Broken.{AreBroken, IsUnbroken, break_told}
-use Rattle.answered_runs.specs.Components.{AgreesWithRuns, IsComponent, IsTrueRun}
-use Rattle.answered_runs.specs.Unbroken.{AreOfPlans, HasComponent, WereRead}
-use Rattle.answered_runs.proofs.ReadHits.{AreFew, HasFew, ToldFew, known_run_few, points_below, points_many}
+use Rattle.grown_plans.proofs.Members.{all_weaker}
+use Rattle.grown_runs.specs.known.Known.{Agrees, IsTrueOf, Told}
+use Rattle.grown_runs.specs.known.KnownPart.{known_part}
+use Rattle.grown_runs.specs.known.ToldPart.{part_known}
+use Rattle.grown_runs.proofs.KnownLemmas.Listed.{part_is}
+use Rattle.answered_runs.specs.Agreement.{AreOfOne, EndsAtPause, HasItsRun, IsCertain, KeepsVerdict, Says, SayTheSame, end_by, line_of, move_said, run_over}
+use Rattle.answered_runs.specs.Answered.{Answered, CanBeListed, hits_by, kinds_over, known_plans, plan_runs, runs_in, told_of}
+use Rattle.answered_runs.specs.Broken.{AreBroken, IsUnbroken}
+use Rattle.answered_runs.specs.Components.{IsComponent, IsTrueRun}
+use Rattle.answered_runs.specs.SomeComponent.{HasComponent, WereRead}
+use Rattle.answered_runs.proofs.Breaks.{part_whole}
+use Rattle.answered_runs.proofs.CertainAnswers.{answers_many, answers_over, answers_take, rigs_certain}
+use Rattle.answered_runs.proofs.Compared.{Runs, hits_alike, runs_so, unresolved_unless}
+use Rattle.answered_runs.proofs.Disagreeing.{answers_reached, cut_reached}
+use Rattle.answered_runs.proofs.LineRuns.{AsksAt, cut_over, no_more}
+use Rattle.answered_runs.proofs.ReadHits.{AreFew, HasFew, ToldFew, points_many}
+use Rattle.answered_runs.proofs.Runs.{agree}
+use Rattle.answered_runs.proofs.LinesRead.{AreSome, Reading, kept_hits, read_few, reading, some_hits}
+use Rattle.answered_runs.proofs.LineWords.{own_said, said_by, said_so}
+use Rattle.answered_runs.proofs.Tests.{certain_scenario, is_certain, scenario_certain}
 
-read_few : (a : Answered) → WereRead a → (s : Entries) → ToldFew (length a.points) (told_in a.book s)
-read_few a w s = subst (λ (known : Answers). ToldFew (length a.points) (known s)) (sym w.read) (known_run_few w.needed w.names a.points w.text s)
+-- ---- what the component does
 
--- ---- what is recorded of a plan
+abbrev or_move : Option Move → Move → Move
+or_move None m = m
+or_move (Some m) later = m
 
-abbrev AreSome : ℕ → List ℕ → Type 0
-AreSome n hits = AllByRecursion (λ p. p < n) hits × (length hits ≤ most_hits)
+abbrev first_move : (RunLine → Option Move) → List RunLine → Move
+first_move say [] = Unknown
+first_move say (x ∷ xs) = or_move (say x) (first_move say xs)
 
-some_hits : (n : ℕ) (o : Option (List Stretch)) → HasFew n o → IfSome (option_and_then hits_by o) (AreSome n)
-some_hits n None few = tt
-some_hits n (Some hits) few = by_test (list_all is_low hits && nat_le (length (points_of hits)) most_hits)
+record FirstSaid (say : RunLine → Option Move) (runs : List RunLine) (m : Move) : Type 0 where
+  pub line : RunLine
+  pub has : Has runs line
+  pub said : say line ≡ Some m
+
+later_said : (say : RunLine → Option Move) (x : RunLine) (xs : List RunLine) (m : Move) → FirstSaid say xs m → FirstSaid say (x ∷ xs) m
+later_said say x xs m f = record { line = f.line; has = inr f.has; said = f.said }
+
+first_some : (say : RunLine → Option Move) (runs : List RunLine) (x : RunLine) (m : Move) → Has runs x → say x ≡ Some m → FirstSaid say runs (first_move say runs)
+first_some say [] x m h e = absurd h
+first_some say (y ∷ ys) x m h e = by_say (say y) refl h (λ k. first_some say ys x m k e)
   where
-    by_test : (b : Bool) → IfSome (cond b (Some (points_of hits)) None) (AreSome n)
-    by_test true = (points_below n hits few.points, let many = points_many hits in let less = few.count in omega (arith, many, less))
-    by_test false = tt
+    by_say : (o : Option Move) → say y ≡ o → (y ≡ x) ⊎ Has ys x → (Has ys x → FirstSaid say ys (first_move say ys)) → FirstSaid say (y ∷ ys) (or_move o (first_move say ys))
+    by_say (Some n) f k later = record { line = y; has = inl refl; said = f }
+    by_say None f (inl same) later = absurd (let g = ap say same in cc)
+    by_say None f (inr k) later = later_said say y ys (first_move say ys) (later k)
 
-some_told : (n : ℕ) (o : Option ToldRun) → ToldFew n o → IfSome (hits_told (option_map told_of o)) (AreSome n)
-some_told n None few = tt
-some_told n (Some r) few = some_hits n r.hits few
-
-plan_hits : (a : Answered) → WereRead a → (plan : List Rig) → IfSome (hits_of (runs_in a) plan) (AreSome (length a.points))
-plan_hits a w plan = by_test (nat_le (length plan) 64)
+first_is : (say : RunLine → Option Move) (runs : List RunLine) → (first_move say runs ≡ Unknown) ⊎ FirstSaid say runs (first_move say runs)
+first_is say [] = inl refl
+first_is say (y ∷ ys) = by_say (say y) refl (first_is say ys)
   where
-    s : Entries
-    s = tidied (grown_scenario a.points plan)
+    by_say : (o : Option Move) → say y ≡ o → (first_move say ys ≡ Unknown) ⊎ FirstSaid say ys (first_move say ys)
+        → (or_move o (first_move say ys) ≡ Unknown) ⊎ FirstSaid say (y ∷ ys) (or_move o (first_move say ys))
+    by_say (Some n) f later = inr (record { line = y; has = inl refl; said = f })
+    by_say None f (inl unknown) = inl unknown
+    by_say None f (inr h) = inr (later_said say y ys (first_move say ys) h)
 
-    by_test : (b : Bool) → IfSome (hits_told (cond b (option_map told_of (told_in a.book s)) None)) (AreSome (length a.points))
-    by_test true = some_told (length a.points) (told_in a.book s) (read_few a w s)
-    by_test false = tt
+abbrev said_told : List (List ℕ) → Entries → List Reply → Option ToldRun → Option Move
+said_told points s answers None = None
+said_told points s answers (Some r) = said_by points s r.verdict answers (option_and_then hits_by r.hits)
 
-if_left : {A : Type 0} (P Q : A → Type 0) (o : Option A) → IfSome o (λ x. P x × Q x) → IfSome o P
-if_left P Q None h = tt
-if_left P Q (Some x) h = h.0
+abbrev say : Answered → List Reply → RunLine → Option Move
+say a answers x = said_told a.points x.scenario answers (told_in a.book x.scenario)
 
-if_right : {A : Type 0} (P Q : A → Type 0) (o : Option A) → IfSome o (λ x. P x × Q x) → IfSome o Q
-if_right P Q None h = tt
-if_right P Q (Some x) h = h.1
+abbrev asks_by : Answered → List RunLine → List Reply → Move
+asks_by a runs answers = first_move (say a answers) runs
 
-continues : (known : KnownRuns) (plan : List Rig) → IsUnbroken known plan → ContinuesTold known plan
-continues known [] u = tt
-continues known (r ∷ parent) u = λ earlier hits e f.
-    ap (λ (o : Option (List ℕ)). break_told (shared_to r) o (Some hits)) (sym e)
-    ∙ ap (break_told (shared_to r) (hits_of known (forerunner_of (r ∷ parent)))) (sym f) ∙ u
+-- one of the lines says so
+record IsSaid (a : Answered) (answers : List Reply) (m : Move) : Type 0 where
+  pub scenario : Entries
+  pub lawful : IsScenario scenario
+  pub certain : IsCertain scenario
+  pub run : ToldRun
+  pub recorded : told_in a.book scenario ≡ Some run
+  pub says : Says a.points (line_of scenario (told_of run)) (length answers) answers m
 
-can_be_run : (a : Answered) → WereRead a → (plan : List Rig) → IsUnbroken (runs_in a) plan → CanBeRun (length a.points) most_hits (runs_in a) plan
-can_be_run a w plan u =
-    let some = plan_hits a w plan in
-    let P : List ℕ → Type 0 = AllByRecursion (λ p. p < length a.points) in
-    let Q : List ℕ → Type 0 = λ hits. length hits ≤ most_hits in
-    record {
-      within = if_left P Q (hits_of (runs_in a) plan) some;
-      few = if_right P Q (hits_of (runs_in a) plan) some;
-      continues = continues (runs_in a) plan u;
-    }
+is_said : (a : Answered) (runs : List RunLine) (answers : List Reply) (m : Move) → AreLawful runs → FirstSaid (say a answers) runs m → IsSaid a answers m
+is_said a runs answers m lawful f = by_told (told_in a.book f.line.scenario) refl f.said
+  where
+    by_told : (o : Option ToldRun) → told_in a.book f.line.scenario ≡ o → said_told a.points f.line.scenario answers o ≡ Some m → IsSaid a answers m
+    by_told None e h = absurd cc
+    by_told (Some r) e h =
+        let so = said_so a.points f.line.scenario r.verdict answers (option_and_then hits_by r.hits) m h in
+        record { scenario = f.line.scenario; lawful = lawful_has runs f.line lawful f.has; certain = so.0; run = r; recorded = e; says = so.1 }
 
--- ---- answers of nothing but known plans
+if_at : {A : Type 0} (P : A → Type 0) (o : Option A) (x : A) → o ≡ Some x → IfSome o P → P x
+if_at P o x e h = subst (λ y. IfSome y P) e h
 
-low_hits : (n : ℕ) (hits : List Stretch) → n ≤ 64 → AllByRecursion (λ s. s.point < n) hits → list_all is_low hits ≡ true
-low_hits n [] le all = refl
-low_hits n (s ∷ hits) le all = ap (λ (b : Bool). b && list_all is_low hits) (lt-ltb s.point 64 (let less = all.0 in omega (arith, less, le))) ∙ low_hits n hits le all.1
+-- it does what each line says
+asks_so : (a : Answered) (r : Reading a) → AreOfOne a → (s : Entries) (run : ToldRun) (answers : List Reply) (m : Move) → IsScenario s → told_in a.book s ≡ Some run
+    → said_by a.points s run.verdict answers (option_and_then hits_by run.hits) ≡ Some m → asks_by a r.runs answers ≡ m
+asks_so a r one s run answers m lawful recorded said =
+    let gave = r.gives s run lawful recorded in
+    let own : say a answers gave.line ≡ Some m =
+    ap (λ (x : Entries). said_told a.points x answers (told_in a.book x)) gave.scenario_is ∙ ap (said_told a.points s answers) recorded ∙ said
+    in
+    let first : IsSaid a answers (asks_by a r.runs answers) = is_said a r.runs answers (asks_by a r.runs answers) r.lawful (first_some (say a answers) r.runs gave.line m gave.has own) in
+    let so = said_so a.points s run.verdict answers (option_and_then hits_by run.hits) m said in
+    let same : SayTheSame a.points (line_of first.scenario (told_of first.run)) (line_of s (told_of run)) =
+    if_at (λ (q : ToldRun). SayTheSame a.points (line_of first.scenario (told_of first.run)) (line_of s (told_of q))) (told_in a.book s) run recorded
+    (if_at (λ (p : ToldRun). IfSome (told_in a.book s) (λ q. SayTheSame a.points (line_of first.scenario (told_of p)) (line_of s (told_of q)))) (told_in a.book first.scenario) first.run first.recorded
+    (one.same first.scenario s first.lawful first.certain lawful so.0))
+    in
+    same (length answers) answers (asks_by a r.runs answers) m first.says so.1
 
-kept_hits : (n : ℕ) (hits : List Stretch) → n ≤ 64 → AreFew n hits → hits_by hits ≡ Some (points_of hits)
-kept_hits n hits le few =
-    let many = points_many hits in
-    let less = few.count in
-    ap (λ (b : Bool). cond (b && nat_le (length (points_of hits)) most_hits) (Some (points_of hits)) None) (low_hits n hits le few.points)
-    ∙ ap (λ (b : Bool). cond b (Some (points_of hits)) None) (le-leb (length (points_of hits)) most_hits (omega (arith, many, less)))
+-- ---- it asks only its points
 
--- what is true of a plan is true of its scenario, tidied
-run_true : (t : Subject) (points : List (List ℕ)) (listed : List (List Kind)) (depth : ℕ) (plan : List Rig) (r : ToldRun) → IsComponent points listed t → depth ≤ 64 → Contains (grown t depth) plan
-    → HasFew (length points) r.hits → length points ≤ 64 → IsTrueOf t plan (told_of r) → IsTrueRun t (tidied (scenario_of t plan)) r
-run_true t points listed depth plan r is low c few many true_of = record {
-  verdict = λ seed stream.
-      ap (λ (x : Outcome). x.verdict) (same seed stream) ∙ sym (verdict_is t.asks t.names seed t.limit stream s) ∙ true_of.verdict seed stream;
-  hits = λ seed stream. by_hits seed stream r.hits few true_of.hits;
+all_at : (n : ℕ) (hits : List ℕ) (k p : ℕ) → AllByRecursion (λ q. q < n) hits → slice_get hits k ≡ Some p → p < n
+all_at n [] k p all e = absurd cc
+all_at n (x ∷ xs) k p all e = by_place k e (λ j f. all_at n xs j p all.1 f)
+  where
+    by_place : (j : ℕ) → slice_get (x ∷ xs) j ≡ Some p → ((i : ℕ) → slice_get xs i ≡ Some p → p < n) → p < n
+    by_place zero f later = subst (λ y. y < n) (same_Some x p f) all.0
+    by_place (suc i) f later = later i f
+
+end_within : (n : ℕ) (v : Verdict) → AsksWithin n (end_by v)
+end_within n verdict.Pass = tt
+end_within n (verdict.Fail code) = tt
+end_within n verdict.Unresolved = tt
+
+said_within : (n : ℕ) (v : Verdict) (hits : List ℕ) (count : ℕ) → AllByRecursion (λ q. q < n) hits → AsksWithin n (move_said v (slice_get hits count))
+said_within n v hits count all = by_next (slice_get hits count) refl
+  where
+    by_next : (o : Option ℕ) → slice_get hits count ≡ o → AsksWithin n (move_said v o)
+    by_next (Some p) e = all_at n hits count p all e
+    by_next None e = end_within n v
+
+asks_within : (a : Answered) (w : WereRead a) (r : Reading a) (answers : List Reply) → AsksWithin (length a.points) (asks_by a r.runs answers)
+asks_within a w r answers = by_first (first_is (say a answers) r.runs)
+  where
+    n : ℕ
+    n = length a.points
+
+    by_first : (asks_by a r.runs answers ≡ Unknown) ⊎ FirstSaid (say a answers) r.runs (asks_by a r.runs answers) → AsksWithin n (asks_by a r.runs answers)
+    by_first (inl e) = subst (AsksWithin n) (sym e) tt
+    by_first (inr f) =
+        let said = is_said a r.runs answers (asks_by a r.runs answers) r.lawful f in
+        let few : HasFew n said.run.hits = if_at (λ (q : ToldRun). HasFew n q.hits) (told_in a.book said.scenario) said.run said.recorded (read_few a w said.scenario) in
+        let some : AreSome n said.says.hits = if_at (AreSome n) (option_and_then hits_by said.run.hits) said.says.hits said.says.known (some_hits n said.run.hits few) in
+        subst (AsksWithin n) (sym said.says.move_is) (said_within n said.run.verdict said.says.hits (length answers) some.0)
+
+-- ---- the run of a line with hits
+
+abbrev Asked : (List Reply → Move) → List (List ℕ) → Entries → List ℕ → Type 0
+Asked asks points s hits = (k p : ℕ) → slice_get hits k ≡ Some p → AsksAt asks points s (take k hits) p
+
+ends_at_pause : (a : Answered) → AreOfOne a → (s : Entries) (run : ToldRun) (hits : List ℕ) → IsScenario s → IsCertain s → told_in a.book s ≡ Some run → (told_of run).hits ≡ Some hits
+    → (count : ℕ) → count ≤ length hits → cut_over a.points s (take count hits) ≡ true → (count ≡ length hits) × (run.verdict ≡ verdict.Unresolved)
+ends_at_pause a one s run hits lawful certain recorded known count within cut =
+    let pause : EndsAtPause a.points (line_of s (told_of run)) =
+    if_at (λ (r : ToldRun). EndsAtPause a.points (line_of s (told_of r))) (told_in a.book s) run recorded (one.alone s lawful certain)
+    in
+    if_at
+    (λ (hs : List ℕ). (n : ℕ) → n ≤ length hs → is_cut_short (run_over a.points s (take n hs)) ≡ true → (n ≡ length hs) × (run.verdict ≡ verdict.Unresolved))
+    (told_of run).hits hits known pause count within (cut_reached s a.points (take count hits) certain ∙ cut)
+
+many_answers : (s : Entries) (points : List (List ℕ)) (hits : List ℕ) (count : ℕ) → count ≤ length hits → length (answers_over points s (take count hits)) ≡ count
+many_answers s points hits count within = let many = answers_many s points (take count hits) in omega (arith, many, within, length-take count hits)
+
+own_move : (a : Answered) (r : Reading a) → AreOfOne a → (s : Entries) (run : ToldRun) (hits : List ℕ) → IsScenario s → IsCertain s → told_in a.book s ≡ Some run → (told_of run).hits ≡ Some hits
+    → (count : ℕ) → count ≤ length hits → cut_over a.points s (take count hits) ≡ false → asks_by a r.runs (answers_over a.points s (take count hits)) ≡ move_said run.verdict (slice_get hits count)
+own_move a r one s run hits lawful certain recorded known count within uncut =
+    let answers : List Reply = answers_over a.points s (take count hits) in
+    asks_so a r one s run answers (move_said run.verdict (slice_get hits count)) lawful recorded
+    (ap (said_by a.points s run.verdict answers) known ∙ own_said a.points s run.verdict hits answers count certain (many_answers s a.points hits count within) within refl uncut)
+
+line_asked : (a : Answered) (r : Reading a) → AreOfOne a → (s : Entries) (run : ToldRun) (hits : List ℕ) → IsScenario s → IsCertain s → told_in a.book s ≡ Some run → (told_of run).hits ≡ Some hits
+    → Asked (asks_by a r.runs) a.points s hits
+line_asked a r one s run hits lawful certain recorded known k p e =
+    (uncut, own_move a r one s run hits lawful certain recorded known k (omega (arith, less)) uncut ∙ ap (move_said run.verdict) e)
+  where
+    less : k < length hits
+    less = slice_get_within hits k p e
+
+    by_cut : (b : Bool) → cut_over a.points s (take k hits) ≡ b → b ≡ false
+    by_cut true f = absurd (let last = (ends_at_pause a one s run hits lawful certain recorded known k (omega (arith, less)) f).0 in omega (arith, less, last))
+    by_cut false f = refl
+
+    uncut : cut_over a.points s (take k hits) ≡ false
+    uncut = by_cut (cut_over a.points s (take k hits)) refl
+
+line_runs : (a : Answered) (r : Reading a) → AreOfOne a → (s : Entries) (run : ToldRun) (hits : List ℕ) → IsScenario s → IsCertain s → told_in a.book s ≡ Some run → (told_of run).hits ≡ Some hits
+    → length hits ≤ most_hits → Runs (asks_by a r.runs) a.points most_hits s hits run.verdict
+line_runs a r one s run hits lawful certain recorded known few =
+    runs_so (asks_by a r.runs) a.points most_hits s hits run.verdict certain few (line_asked a r one s run hits lawful certain recorded known)
+    (λ cut. (ends_at_pause a one s run hits lawful certain recorded known (length hits) (omega arith) (ap (cut_over a.points s) whole ∙ cut)).1)
+    (λ uncut. ap (λ (l : List ℕ). asks_by a r.runs (answers_over a.points s l)) (sym whole)
+    ∙ own_move a r one s run hits lawful certain recorded known (length hits) (omega arith) (ap (cut_over a.points s) whole ∙ uncut)
+    ∙ ap (move_said run.verdict) (slice_get_past hits (length hits) (omega arith)))
+  where
+    whole : take (length hits) hits ≡ hits
+    whole = take_all (length hits) hits (omega arith)
+
+-- ---- the run of a line without hits
+
+unknown_done : (j : Judgement) → Unknown ≡ Done j → ⊥
+unknown_done j e = cc
+
+resolved_end : (v : Verdict) (j : Judgement) → end_by v ≡ Done j → v ≡ verdict.Unresolved → ⊥
+resolved_end verdict.Pass j e f = cc
+resolved_end (verdict.Fail code) j e f = cc
+resolved_end verdict.Unresolved j e f = cc
+
+-- what is said of an end is the verdict of a line of which these are all hits
+all_said : (v : Verdict) (hits : List ℕ) (count : ℕ) (j : Judgement) → Done j ≡ move_said v (slice_get hits count) → (length hits ≤ count) × (end_by v ≡ Done j)
+all_said v hits count j e = by_next (slice_get hits count) refl e
+  where
+    by_next : (o : Option ℕ) → slice_get hits count ≡ o → Done j ≡ move_said v o → (length hits ≤ count) × (end_by v ≡ Done j)
+    by_next (Some p) f g = absurd cc
+    by_next None f g = (no_more hits count f, sym g)
+
+-- if a run comes to a recorded end, its scenario has the run of the line that records it
+has_run : (a : Answered) (r : Reading a) → AreOfOne a → (s : Entries) (hits : List ℕ) (j : Judgement) → IsCertain s → Asked (asks_by a r.runs) a.points s hits → cut_over a.points s hits ≡ false
+    → (said : IsSaid a (answers_over a.points s hits) (Done j)) → HasItsRun a.points s (line_of said.scenario (told_of said.run))
+has_run a r one s hits j certain asked uncut said = record {
+  hits = others;
+  known = said.says.known;
+  alike = λ count within.
+      answers_reached s a.points (take count others) certain ∙ first count ∙ sym (answers_reached said.scenario a.points (take count others) said.certain);
+  goes_on = λ count within. cut_reached s a.points (take count others) certain ∙ ap (λ (l : List ℕ). cut_over a.points s (take count l)) (sym same) ∙ goes count;
+  resolved = resolved_end said.run.verdict j end.1;
 }
   where
-    s : Entries
-    s = scenario_of t plan
+    others : List ℕ
+    others = said.says.hits
 
-    can : CanBeRigged (rigs_of plan)
-    can = all_contains (λ (p : List Rig). CanBeRigged (rigs_of p)) (grown t depth) plan (grown_can_be_rigged t is.lawful is.few depth low) c
+    end : (length others ≤ length (answers_over a.points s hits)) × (end_by said.run.verdict ≡ Done j)
+    end = all_said said.run.verdict others (length (answers_over a.points s hits)) j said.says.move_is
 
-    lawful : IsScenario s
-    lawful = rigged_scenario_keeps t.names (rigs_of plan) is.lawful.catalogue can.0 can.1 can.2
+    whole : take (length (answers_over a.points s hits)) others ≡ others
+    whole = take_all (length (answers_over a.points s hits)) others end.0
 
-    means : MeansTheSame (tidied s) s
-    means = tidied_means s lawful.distinct_names
+    reached : answers_over a.points s hits ≡ answers_over a.points said.scenario others
+    reached =
+        sym said.says.reached ∙ answers_reached said.scenario a.points (take (length (answers_over a.points s hits)) others) said.certain ∙ ap (answers_over a.points said.scenario) whole
 
-    same : (seed stream : ℕ) → outcome t.asks (given_of (tidied s) t.names seed stream t.limit) ≡ outcome t.asks (given_of s t.names seed stream t.limit)
-    same seed stream = outcome_same t.asks t.names seed stream t.limit (tidied s) s (means.at t.names seed stream t.limit)
+    same : hits ≡ others
+    same =
+        hits_alike (asks_by a r.runs) a.points s said.scenario hits others certain said.certain asked
+        (line_asked a r one said.scenario said.run others said.lawful said.certain said.recorded said.says.known) reached
 
-    needs_no_seed : NeedsNoSeed t plan
-    needs_no_seed = all_contains (NeedsNoSeed t) (grown t depth) plan (no_seed_needed t is.lawful depth) c
+    first : (count : ℕ) → answers_over a.points s (take count others) ≡ answers_over a.points said.scenario (take count others)
+    first count =
+        ap (λ (l : List ℕ). answers_over a.points s (take count l)) (sym same) ∙ answers_take s a.points hits count certain ∙ ap (take count) reached
+        ∙ sym (answers_take said.scenario a.points others count said.certain)
 
-    by_hits : (seed stream : ℕ) (o : Option (List Stretch)) → HasFew (length points) o → IfSome (option_and_then hits_by o) (λ met. points_met (run_of_plan t plan) ≡ met)
-        → IfSome o (λ hits. (outcome t.asks (given_of (tidied s) t.names seed stream t.limit)).asked ≡ points_of hits)
-    by_hits seed stream None f h = tt
-    by_hits seed stream (Some hits) f h =
-        ap (λ (x : Outcome). x.asked) (same seed stream) ∙ sym (asked_met t.asks (given_for t plan seed stream)) ∙ ap points_met (needs_no_seed seed stream)
-        ∙ subst (λ (o : Option (List ℕ)). IfSome o (λ met. points_met (run_of_plan t plan) ≡ met)) (kept_hits (length points) hits many f) h
+    goes : (count : ℕ) → cut_over a.points s (take count hits) ≡ false
+    goes count = elim (cases_lt count (length hits)) [
+      | inl less ↦ (asked count (get_or hits count 0) (slice_get-get_or hits count 0 less)).0
+      | inr all ↦ ap (cut_over a.points s) (take_all count hits all) ∙ uncut
+    ]
 
-whole_agrees : (a : Answered) (depth : ℕ) (t : Subject) → depth ≤ 64 → WereRead a → IsComponent a.points a.listed t → Agrees t depth (runs_in a) → grown t depth ≡ known_plans a depth → AreOfPlans a depth → AgreesWithRuns t (told_in a.book)
-whole_agrees a depth t low w is agrees list of = λ s lawful. by_told s (told_in a.book s) refl (read_few a w s) (of s lawful)
+unseen_runs : (a : Answered) (r : Reading a) → AreOfOne a → (s : Entries) (run : ToldRun) → IsScenario s → IsCertain s → told_in a.book s ≡ Some run → (told_of run).hits ≡ None → run.verdict ≡ verdict.Unresolved
+    → (hits : List ℕ) (j : Judgement) → Asked (asks_by a r.runs) a.points s hits → cut_over a.points s hits ≡ false → asks_by a r.runs (answers_over a.points s hits) ≡ Done j → ⊥
+unseen_runs a r one s run lawful certain recorded unseen unresolved hits j asked uncut e = by_first (first_is (say a answers) r.runs)
   where
-    plan_told : (plan : List Rig) (s : Entries) (r : ToldRun) → length plan ≤ 64 → s ≡ tidied (grown_scenario a.points plan) → told_in a.book s ≡ Some r → runs_in a plan ≡ Some (told_of r)
-    plan_told plan s r le same e =
-        ap (λ (b : Bool). cond b (option_map told_of (told_in a.book (tidied (grown_scenario a.points plan)))) None) (le-leb (length plan) 64 le)
-        ∙ ap (λ (x : Entries). option_map told_of (told_in a.book x)) (sym same) ∙ ap (option_map told_of) e
+    answers : List Reply
+    answers = answers_over a.points s hits
 
-    by_told : (s : Entries) (o : Option ToldRun) → told_in a.book s ≡ o → ToldFew (length a.points) o → IfSome o (λ r. (plan : List Rig) × Contains (known_plans a depth) plan × (s ≡ tidied (grown_scenario a.points plan)))
-        → IfSome o (IsTrueRun t s)
-    by_told s None e few h = tt
-    by_told s (Some r) e few h =
-        let (plan, known, same) = h in
-        let short : length plan ≤ depth = all_contains (λ (p : List Rig). length p ≤ depth) (known_plans a depth) plan (part_short (kinds_over a.points a.listed) (runs_in a) depth) known in
-        let c : Contains (grown t depth) plan = subst (λ (plans : List (List Rig)). Contains plans plan) (sym list) known in
-        let told : IfSome (runs_in a plan) (IsTrueOf t plan) = all_contains (λ (p : List Rig). IfSome (runs_in a p) (IsTrueOf t p)) (grown t depth) plan agrees c in
-        let true_of : IsTrueOf t plan (told_of r) = subst (λ (o : Option Told). IfSome o (IsTrueOf t plan)) (plan_told plan s r (omega (arith, short, low)) same e) told in
-        let there : s ≡ tidied (scenario_of t plan) = same ∙ ap (λ (names : List (List ℕ)). tidied (grown_scenario names plan)) (sym is.names) in
-        subst (λ (x : Entries). IsTrueRun t x r) (sym there) (run_true t a.points a.listed depth plan r is low c few w.points.few true_of)
+    by_said : IsSaid a answers (Done j) → ⊥
+    by_said said =
+        let has : HasItsRun a.points s (line_of said.scenario (told_of said.run)) = has_run a r one s hits j certain asked uncut said in
+        let keeps : KeepsVerdict a.points (line_of s (told_of run)) (line_of said.scenario (told_of said.run)) =
+        if_at (λ (q : ToldRun). KeepsVerdict a.points (line_of s (told_of run)) (line_of said.scenario (told_of q))) (told_in a.book said.scenario) said.run said.recorded
+        (if_at (λ (p : ToldRun). IfSome (told_in a.book said.scenario) (λ q. KeepsVerdict a.points (line_of s (told_of p)) (line_of said.scenario (told_of q)))) (told_in a.book s) run recorded
+        (one.unseen s said.scenario lawful certain said.lawful said.certain))
+        in
+        has.resolved (sym (keeps unseen has) ∙ unresolved)
+
+    by_first : (asks_by a r.runs answers ≡ Unknown) ⊎ FirstSaid (say a answers) r.runs (asks_by a r.runs answers) → ⊥
+    by_first (inl f) = absurd (unknown_done j (sym f ∙ e))
+    by_first (inr f) = by_said (is_said a r.runs answers (Done j) r.lawful (subst (FirstSaid (say a answers) r.runs) e f))
+
+-- ---- the component
+
+component_of : (a : Answered) → List RunLine → Subject
+component_of a runs = record { asks = asks_by a runs; names = a.points; limit = most_hits; kinds = kinds_over a.points a.listed }
+
+is_component : (a : Answered) (w : WereRead a) (r : Reading a) → IsComponent a.points a.listed (component_of a r.runs)
+unfolding component_of
+is_component a w r = record { lawful = lawful; names = refl; kinds = refl; few = omega arith }
+  where
+    tried : (point : ℕ) → CanBeTried (kinds_over a.points a.listed point)
+    tried = listed_can a.points a.listed (all_weaker CanBeListed CanBeTried (λ kinds can. can.tried) a.listed w.listed)
+
+    lawful : IsLawful (component_of a r.runs)
+    lawful = record {
+      catalogue = w.points;
+      within = asks_within a w r;
+      once = λ point. (tried point).once;
+      apart = λ point. (tried point).apart;
+      texts = λ point. (tried point).texts;
+    }
+
+is_true : (a : Answered) (w : WereRead a) (r : Reading a) → AreOfOne a → (s : Entries) → IsScenario s → IsCertain s → IfSome (told_in a.book s) (IsTrueRun (component_of a r.runs) s)
+unfolding component_of
+is_true a w r one s lawful certain = by_told (told_in a.book s) refl (read_few a w s)
+  where
+    with_hits : (run : ToldRun) → told_in a.book s ≡ Some run → (hits : List Stretch) → run.hits ≡ Some hits → AreFew (length a.points) hits → Runs (asks_by a r.runs) a.points most_hits s (points_of hits) run.verdict
+    with_hits run recorded hits e few =
+        line_runs a r one s run (points_of hits) lawful certain recorded (ap (option_and_then hits_by) e ∙ kept_hits (length a.points) hits w.points.few few)
+        (let many = points_many hits in let less = few.count in omega (arith, many, less))
+
+    by_hits : (run : ToldRun) → told_in a.book s ≡ Some run → (o : Option (List Stretch)) → run.hits ≡ o → HasFew (length a.points) o → IsTrueRun (component_of a r.runs) s run
+    by_hits run recorded None e few =
+        let unresolved : run.verdict ≡ verdict.Unresolved = (r.gives s run lawful recorded).unseen e in
+        record {
+          verdict = λ seed stream.
+              unresolved_unless (asks_by a r.runs) a.points most_hits s certain
+              (unseen_runs a r one s run lawful certain recorded (ap (option_and_then hits_by) e) unresolved) seed stream ∙ sym unresolved;
+          hits = λ seed stream. subst (λ (o : Option (List Stretch)). IfSome o (λ hits. (outcome (asks_by a r.runs) (given_of s a.points seed stream most_hits)).asked ≡ points_of hits)) (sym e) tt;
+        }
+    by_hits run recorded (Some hits) e few =
+        let runs = with_hits run recorded hits e few in
+        record {
+          verdict = runs.verdict;
+          hits = λ seed stream.
+              subst (λ (o : Option (List Stretch)). IfSome o (λ hits. (outcome (asks_by a r.runs) (given_of s a.points seed stream most_hits)).asked ≡ points_of hits)) (sym e) (runs.asked seed stream);
+        }
+
+    by_told : (o : Option ToldRun) → told_in a.book s ≡ o → ToldFew (length a.points) o → IfSome o (IsTrueRun (component_of a r.runs) s)
+    by_told None e few = tt
+    by_told (Some run) e few = by_hits run e run.hits refl few
+
+-- ---- plans
+
+-- what is recorded of certain scenarios
+abbrev certain_runs : Answers → Answers
+certain_runs known s = cond (is_certain s) (known s) None
+
+agrees_certain : (a : Answered) (t : Subject) → ((s : Entries) → IsScenario s → IsCertain s → IfSome (told_in a.book s) (IsTrueRun t s)) → (s : Entries) → IsScenario s → IfSome (certain_runs (told_in a.book) s) (IsTrueRun t s)
+agrees_certain a t agrees s lawful = by_test (is_certain s) refl
+  where
+    by_test : (b : Bool) → is_certain s ≡ b → IfSome (cond b (told_in a.book s) None) (IsTrueRun t s)
+    by_test true e = agrees s lawful (scenario_certain s e)
+    by_test false e = tt
+
+plan_told : (a : Answered) (plan : List Rig) → plan_runs a.points (certain_runs (told_in a.book)) plan ≡ runs_in a plan
+plan_told a plan =
+    let s : Entries = tidied (grown_scenario a.points plan) in
+    ap (λ (b : Bool). cond (nat_le (length plan) 64) (option_map told_of (cond b (told_in a.book s) None)) None) (certain_scenario s (rigs_certain a.points (rigs_of plan)))
+
+plans_true : (a : Answered) (depth : ℕ) (t : Subject) → depth ≤ 64 → IsComponent a.points a.listed t → ((s : Entries) → IsScenario s → IsCertain s → IfSome (told_in a.book s) (IsTrueRun t s)) → Agrees t depth (runs_in a)
+plans_true a depth t low is agrees =
+    all_weaker (λ (plan : List Rig). IfSome (plan_runs a.points (certain_runs (told_in a.book)) plan) (IsTrueOf t plan)) (λ (plan : List Rig). IfSome (runs_in a plan) (IsTrueOf t plan))
+    (λ plan h. subst (λ (o : Option Told). IfSome o (IsTrueOf t plan)) (plan_told a plan) h) (grown t depth)
+    (agree t a.points a.listed (certain_runs (told_in a.book)) depth is low (agrees_certain a t agrees))
 
 -- ---- the whole
 
-pub has_component : (a : Answered) (depth : ℕ) → depth ≤ 64 → WereRead a → AreBroken a (known_plans a depth) None → HasComponent a depth
-has_component a depth low w unbroken =
-    let tried : (point : ℕ) → CanBeTried (kinds_over a.points a.listed point) =
-    listed_can a.points a.listed (all_weaker CanBeListed CanBeTried (λ kinds can. can.tried) a.listed w.listed)
+-- What the lines say, put together, is a component that agrees with them.
+pub agreeing : (a : Answered) (depth : ℕ) → depth ≤ 64 → WereRead a → AreOfOne a → HasComponent a depth
+agreeing a depth low w one =
+    let r : Reading a = reading a w in
+    let is : IsComponent a.points a.listed (component_of a r.runs) = is_component a w r in
+    let agrees : (s : Entries) → IsScenario s → IsCertain s → IfSome (told_in a.book s) (IsTrueRun (component_of a r.runs) s) = is_true a w r one in
+    record { component = component_of a r.runs; is = is; agrees = agrees; plans = plans_true a depth (component_of a r.runs) low is agrees }
+
+-- So no run of a known plan breaks with the one that it has to begin like.
+pub component_unbroken : (a : Answered) (depth : ℕ) → HasComponent a depth → AreBroken a (known_plans a depth) None
+component_unbroken a depth h =
+    let t : Subject = h.component in
+    let same : known_part t depth (runs_in a) ≡ known_plans a depth =
+    part_is t h.is.lawful depth (runs_in a) h.plans ∙ ap (λ (kinds : ℕ → List Kind). part_known kinds (runs_in a) depth) h.is.kinds
     in
-    let h : HasSubject a.points (kinds_over a.points a.listed) most_hits depth (runs_in a) =
-    has_subject a.points (kinds_over a.points a.listed) most_hits depth (runs_in a) w.points tried
-    (all_weaker (IsUnbroken (runs_in a)) (CanBeRun (length a.points) most_hits (runs_in a)) (can_be_run a w) (known_plans a depth) unbroken)
-    in
-    let limit = h.limit_is in
-    let is : IsComponent a.points a.listed h.subject = record { lawful = h.lawful; names = h.names_are; kinds = h.kinds_are; few = omega (arith, limit) } in
-    record {
-      component = h.subject;
-      is = is;
-      agrees = h.agrees;
-      list = h.list;
-      whole = whole_agrees a depth h.subject low w is h.agrees h.list;
-    }
+    subst (λ (plans : List (List Rig)). AllByRecursion (IsUnbroken (runs_in a)) plans) same (part_whole t h.is.lawful depth (runs_in a) h.plans)

@@ -1,28 +1,22 @@
 -- Plans that are looked through one after another, and what is recorded of their runs.
 use Rattle.std.proofs.Common.{◌≡◌, ℕ, ◌+◌, ◌<◌, ◌≤◌, Bool, true, false, cond, List, [], ◌∷◌, ◌++◌, length, map, take, get_or, Option, Some, None, refl, ap, sym, ◌∙◌, subst, arith, length-append}
-use Rattle.std.specs.Prelude.{nat_le, option_map}
+use Rattle.std.specs.Prelude.{option_map}
 use Rattle.std.specs.Borrow.{Bor}
-use Rattle.std.specs.Option.{option_map_or}
-use Rattle.std.proofs.lemmas.Bool.Decides.{nat_tests}
-use Rattle.scenario_values.specs.Tidied.{tidied}
 use Rattle.std.specs.List.{filter}
 use Rattle.std.proofs.lemmas.List.{take_all, take_more}
 use Rattle.std.proofs.lemmas.List.Elements.{filter-append}
 use Rattle.action_eval.specs.declared.rig.Rig.{Rig}
 use Rattle.target_trait.specs.declared.judgement.Verdict.{Verdict}
 use Rattle.grown_plans.proofs.Members.{all_append}
-use Rattle.known_runs.specs.Known.{KnownRuns, Told}
-use Rattle.known_runs.specs.KnownPart.{are_told}
-use Rattle.known_runs.specs.Looks.{IsLook}
-use Rattle.known_runs.specs.Unseen.{is_unseen, is_without_hits}
-use Rattle.known_runs.specs.declared.table.Look.{Look}
-use Rattle.known_runs.specs.declared.table.Look.TheVariants as look
-use Rattle.known_runs.proofs.Found.{found_at}
-use Rattle.answer_text.specs.Runs.{told_in}
+use Rattle.grown_runs.specs.known.Known.{KnownRuns, Told}
+use Rattle.grown_runs.specs.known.KnownPart.{are_told}
+use Rattle.grown_runs.specs.known.Looks.{IsLook}
+use Rattle.grown_runs.specs.known.Unseen.{is_unseen, is_without_hits}
+use Rattle.grown_runs.specs.declared.known.table.Look.{Look}
+use Rattle.grown_runs.specs.declared.known.table.Look.TheVariants as look
+use Rattle.grown_runs.proofs.KnownLemmas.Found.{found_at}
 use Rattle.answer_text.specs.declared.runs.ToldRun.{ToldRun}
-use Rattle.campaign_plans.specs.GrownScenarios.{grown_scenario}
 use Rattle.answered_runs.specs.Answered.{Answered, plan_told}
-use Rattle.answered_runs.specs.Broken.{line_told}
 use Rattle.answered_runs.specs.KnownLists.{verdict_told}
 use Rattle.answered_runs.specs.WholeList.{AreAllTold, unseen_count}
 
@@ -38,17 +32,10 @@ module _ {A : Type 0} (f : A → Option Told) (known : KnownRuns) (runs : List A
   pub verdict_here : (y : A) → x ≡ y → option_map (λ told. told.verdict) (f y) ≡ verdict_told known (get_or plans n [])
   verdict_here y e = ap (option_map (λ told. told.verdict)) (ap f (sym e) ∙ found_here)
 
--- the line of a plan's run
-short_told : (a : Answered) (plan : List Rig) → length plan ≤ 64 → plan_told a plan ≡ told_in a.book (tidied (grown_scenario a.points plan))
-short_told a plan few =
-    let low : nat_le (length plan) 64 ≡ true = grind (arith, nat_tests, few) in
-    ap (λ (b : Bool). cond b (told_in a.book (tidied (grown_scenario a.points plan))) None) low
-
-pub line_here : (a : Answered) (runs : List (Option (Bor ToldRun))) (plans : List (List Rig)) (n : ℕ) (x : Option (Bor ToldRun)) → map (option_map (λ r. r.now)) runs ≡ map (plan_told a) plans → n < length plans
-    → length (get_or plans n []) ≤ 64 → x ≡ get_or runs n x → option_map_or (λ run. run.line) (option_map (λ r. r.now) x) 0 ≡ line_told a (get_or plans n [])
-line_here a runs plans n x found less few is =
-    ap (λ (o : Option ToldRun). option_map_or (λ run. run.line) o 0)
-    (ap (option_map (λ r. r.now)) is ∙ found_at (option_map (λ r. r.now)) (plan_told a) runs plans n x found less ∙ short_told a (get_or plans n []) few)
+-- what is recorded of a plan's run
+pub told_here : (a : Answered) (runs : List (Option (Bor ToldRun))) (plans : List (List Rig)) (n : ℕ) (x : Option (Bor ToldRun)) → map (option_map (λ r. r.now)) runs ≡ map (plan_told a) plans → n < length plans
+    → x ≡ get_or runs n x → option_map (λ r. r.now) x ≡ plan_told a (get_or plans n [])
+told_here a runs plans n x found less is = ap (option_map (λ r. r.now)) is ∙ found_at (option_map (λ r. r.now)) (plan_told a) runs plans n x found less
 
 -- ---- whether something is recorded of a run
 

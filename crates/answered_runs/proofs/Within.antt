@@ -14,14 +14,14 @@ use Rattle.answer_text.specs.Hits.{most_hits, points_of}
 use Rattle.answer_text.specs.Runs.{KnownRuns as Answers}
 use Rattle.answer_text.specs.declared.hits.Stretch.{Stretch}
 use Rattle.answer_text.specs.declared.runs.ToldRun.{ToldRun}
-use Rattle.campaign_plans.specs.GrownScenarios.{grown_scenario}
+use Rattle.grown_plans.specs.numbered.GrownScenarios.{grown_scenario}
 use Rattle.grown_plans.specs.AskedPoints.{from_then_on, goes_onward, sites_after, sites_from, sites_past}
 use Rattle.grown_plans.specs.GrownPlans.{levels_to, rigs_of}
 use Rattle.grown_plans.proofs.Members.{all_append, all_both, all_flat, all_map, all_weaker}
 use Rattle.grown_plans.proofs.Rigged.{rigs_can}
-use Rattle.known_runs.specs.Known.{KnownRuns, hits_of, hits_told}
-use Rattle.known_runs.specs.ToldPart.{children_known, children_told, level_known, levels_known, onward_told, part_known}
-use Rattle.known_runs.proofs.Kept.{part_short}
+use Rattle.grown_runs.specs.known.Known.{KnownRuns, hits_of, hits_told}
+use Rattle.grown_runs.specs.known.ToldPart.{children_known, children_told, level_known, levels_known, onward_told, part_known}
+use Rattle.grown_runs.proofs.KnownLemmas.Kept.{part_short}
 use Rattle.answered_runs.specs.Answered.{hits_by, is_low, plan_runs, told_of}
 
 -- ---- the hits of points are counted up to how many there are

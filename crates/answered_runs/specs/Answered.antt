@@ -8,13 +8,13 @@ use Rattle.answer_text.specs.declared.hits.Stretch.{Stretch}
 use Rattle.answer_text.specs.declared.runs.ToldRun.{ToldRun}
 use Rattle.action_eval.specs.declared.rig.Kind.{Kind}
 use Rattle.action_eval.specs.declared.rig.Rig.{Rig}
-use Rattle.campaign_plans.specs.GrownScenarios.{grown_scenario}
+use Rattle.grown_plans.specs.numbered.GrownScenarios.{grown_scenario}
 use Rattle.grown_plans.specs.GrownPlans.{kinds_at, tried_over}
 use Rattle.grown_plans.specs.Promises.{CanBeTried}
-use Rattle.known_runs.specs.Known.{Told}
-use Rattle.known_runs.specs.Known.{KnownRuns as PlanRuns}
-use Rattle.known_runs.specs.Looks.{told}
-use Rattle.known_runs.specs.ToldPart.{part_known}
+use Rattle.grown_runs.specs.known.Known.{Told}
+use Rattle.grown_runs.specs.known.Known.{KnownRuns as PlanRuns}
+use Rattle.grown_runs.specs.known.Looks.{told}
+use Rattle.grown_runs.specs.known.ToldPart.{part_known}
 
 -- The names of a component's points; the kinds of faults that are listed for each of them; and the recorded run of each printed scenario.
 pub record Answered : Type 0 where

@@ -5,17 +5,17 @@ use Rattle.std.specs.Option.{option_map_or}
 use Rattle.std.specs.List.{AllByRecursion}
 use Rattle.action_eval.specs.declared.rig.Rig.{Rig}
 use Rattle.action_eval.specs.declared.rig.Site.{Site}
-use Rattle.known_runs.specs.Breaks.{break_of, forerunner_of, shared_to}
-use Rattle.known_runs.specs.Known.{KnownRuns, hits_of}
-use Rattle.known_runs.specs.declared.breaks.Break.{Break}
-use Rattle.known_runs.specs.declared.breaks.Break.TheVariants.{Differs, NotMet}
+use Rattle.grown_runs.specs.known.Breaks.{break_of, forerunner_of, shared_to}
+use Rattle.grown_runs.specs.known.Known.{KnownRuns, hits_of}
+use Rattle.grown_runs.specs.declared.known.breaks.Break.{Break}
+use Rattle.grown_runs.specs.declared.known.breaks.Break.TheVariants.{Differs, NotMet}
 use Rattle.scenario_values.specs.Tidied.{tidied}
-use Rattle.campaign_plans.specs.GrownScenarios.{grown_scenario}
+use Rattle.grown_plans.specs.numbered.GrownScenarios.{grown_scenario}
 use Rattle.answer_text.specs.Runs.{told_in}
 use Rattle.answered_runs.specs.Answered.{Answered, runs_in}
 use Rattle.answered_runs.specs.declared.broken.BrokenRun.{BrokenRun}
 use Rattle.answered_runs.specs.declared.broken.Conflict.{Conflict}
-use Rattle.answered_runs.specs.declared.broken.Conflict.TheVariants.{Hits, Verdict}
+use Rattle.answered_runs.specs.declared.broken.Conflict.TheVariants.{Hits, Paused, Verdict}
 
 -- The break of a run's hits with those of another run, if both are recorded.
 abbrev pub break_told : Site → Option (List ℕ) → Option (List ℕ) → Option Break
@@ -58,6 +58,7 @@ text_by line earlier (Hits (Differs hit)) =
     codes "answers: line " ++ (decimal line ++ (codes ": hits differ from line " ++ (decimal earlier ++ (codes " at hit " ++ decimal hit))))
 text_by line earlier (Hits NotMet) = codes "answers: line " ++ (decimal line ++ codes ": fault not met")
 text_by line earlier Verdict = codes "answers: line " ++ (decimal line ++ (codes ": verdict differs from line " ++ decimal earlier))
+text_by line earlier Paused = codes "answers: line " ++ (decimal line ++ codes ": goes on after a pause")
 
 abbrev pub broken_text : BrokenRun → List ℕ
 broken_text b = text_by b.line b.earlier b.how

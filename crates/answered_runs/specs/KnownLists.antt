@@ -6,8 +6,8 @@ use Rattle.action_eval.specs.RiggedScenario.{CanBeRigged}
 use Rattle.target_trait.specs.declared.judgement.Verdict.{Verdict}
 use Rattle.grown_plans.specs.GrownPlans.{Subject, rigs_of}
 use Rattle.grown_plans.specs.declared.grown_list.GrownList.{GrownList}
-use Rattle.known_runs.specs.Known.{KnownRuns}
-use Rattle.known_runs.specs.KnownPlans.{AreKnown}
+use Rattle.grown_runs.specs.known.Known.{KnownRuns}
+use Rattle.grown_runs.specs.known.KnownPlans.{AreKnown}
 use Rattle.answer_text.specs.Runs.{told_in}
 use Rattle.answered_runs.specs.Answered.{Answered, known_plans, runs_in}
 use Rattle.answered_runs.specs.Components.{AgreesWithRuns, IsComponent}

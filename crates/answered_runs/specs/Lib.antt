@@ -1,12 +1,14 @@
+pub mod Agreement
 pub mod Answered
 pub mod Broken
 pub mod Components
-pub mod Contradictions
 pub mod EndedRuns
 pub mod Lines
 pub mod Rigged
 pub mod Verdicts
 pub mod WholeList
 pub mod KnownLists
-pub mod Unbroken
+pub mod SomeComponent
 pub mod inside
+pub mod asked
+pub mod grown

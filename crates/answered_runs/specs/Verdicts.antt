@@ -8,8 +8,8 @@ use Rattle.target_trait.specs.declared.judgement.Verdict.{Verdict}
 use Rattle.grown_plans.specs.GrownPlans.{Subject}
 use Rattle.answer_text.specs.Runs.{KnownRuns}
 use Rattle.answer_text.specs.declared.runs.ToldRun.{ToldRun}
-use Rattle.known_runs.specs.Known.{KnownRuns as PlanRuns}
-use Rattle.known_runs.specs.Walks.{verdict_walked}
+use Rattle.grown_runs.specs.known.Known.{KnownRuns as PlanRuns}
+use Rattle.grown_runs.specs.known.Walks.{verdict_walked}
 use Rattle.answered_runs.specs.Answered.{plan_runs}
 use Rattle.answered_runs.specs.Rigged.{rigs_of_scenario}
 

@@ -2,9 +2,9 @@
 use Rattle.std.specs.Prelude.{◌≡◌, ℕ, ◌<◌, true, List, [], Option, None, Some, length, slice_index_or, take}
 use Rattle.std.specs.List.{AllByRecursion, filter}
 use Rattle.action_eval.specs.declared.rig.Rig.{Rig}
-use Rattle.known_runs.specs.Known.{KnownRuns}
-use Rattle.known_runs.specs.KnownPart.{are_told}
-use Rattle.known_runs.specs.Unseen.{is_unseen}
+use Rattle.grown_runs.specs.known.Known.{KnownRuns}
+use Rattle.grown_runs.specs.known.KnownPart.{are_told}
+use Rattle.grown_runs.specs.known.Unseen.{is_unseen}
 
 -- The run of each of these plans is recorded.
 abbrev pub AreAllTold : KnownRuns → List (List Rig) → Type 0

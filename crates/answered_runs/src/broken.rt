@@ -6,8 +6,8 @@ ghost use Rattle.plan_gen.specs.RiggedAnswers.{is_onward};
 ghost use Rattle.grown_plans.specs.GrownPlans.{Subject};
 ghost use Rattle.answered_runs.specs.Answered.{runs_in};
 ghost use Rattle.answered_runs.specs.Broken.{AreBroken, break_at, broken_text, line_told};
-ghost use Rattle.known_runs.specs.Breaks.{forerunner_of};
-ghost use Rattle.known_runs.specs.Looks.{IsLook};
+ghost use Rattle.grown_runs.specs.known.Breaks.{forerunner_of};
+ghost use Rattle.grown_runs.specs.known.Looks.{IsLook};
 ghost use Rattle.answered_runs.specs.Components.{AgreesWithRuns, IsComponent};
 ghost use Rattle.answered_runs.specs.declared.broken.Conflict.TheVariants.{Hits};
 
@@ -15,7 +15,7 @@ use crate::plans::KnownPlans;
 use crate::scenarios::plan_scenario;
 use crate::table::AnsweredRuns;
 use action_eval::{Kind, Rig};
-use known_runs::{Break, Look, break_of, look_up};
+use grown_runs::{Break, Look, break_of, look_up};
 use std::alloc::{AllocError, Global};
 use std::fmt;
 
@@ -126,6 +126,8 @@ pub enum Conflict {
     Hits(Break),
     /// It has the same hits, or hits that nobody knows, and another verdict.
     Verdict,
+    /// It goes on after a pause, which ends every run.
+    Paused,
 }
 
 /// A recorded run that contradicts another one, so that no component has both.
@@ -161,6 +163,7 @@ impl fmt::Display for BrokenRun {
                     "answers: line {line}: verdict differs from line {earlier}"
                 )
             }
+            Conflict::Paused => write!(f, "answers: line {line}: goes on after a pause"),
         }
     }
 }

@@ -1,14 +1,14 @@
 //! Laws on answered runs, as contracts of functions that do nothing.
-ghost use Rattle.std.specs.Prelude.{◌≤◌, ℕ, List, [], None};
+ghost use Rattle.std.specs.Prelude.{◌≤◌, ℕ, List, []};
 ghost use Rattle.action_eval.specs.declared.rig.Kind.{Kind};
 ghost use Rattle.answer_text.specs.Runs.{KnownRuns};
 ghost use Rattle.grown_plans.specs.GrownPlans.{Subject};
-ghost use Rattle.known_runs.specs.Known.{Agrees};
-ghost use Rattle.answered_runs.specs.Answered.{Answered, known_plans, plan_runs};
-ghost use Rattle.answered_runs.specs.Broken.{AreBroken};
+ghost use Rattle.grown_runs.specs.known.Known.{Agrees};
+ghost use Rattle.answered_runs.specs.Agreement.{AreOfOne};
+ghost use Rattle.answered_runs.specs.Answered.{Answered, plan_runs};
 ghost use Rattle.answered_runs.specs.Components.{AgreesWithRuns, IsComponent};
 ghost use Rattle.answered_runs.specs.EndedRuns.{ended_component, ended_told, two_points};
-ghost use Rattle.answered_runs.specs.Unbroken.{HasComponent, WereRead};
+ghost use Rattle.answered_runs.specs.SomeComponent.{HasComponent, WereRead};
 ghost use Rattle.answered_runs.specs.Verdicts.{AreVerdictsOf, verdict_by};
 
 /// What answers record of the runs of plans is true of each component that agrees with the answers.
@@ -30,8 +30,8 @@ pub fn ended_runs_have_a_component()
     ensures agrees { AgreesWithRuns ended_component ended_told }
 {}
 
-/// If no run of a known plan breaks, some component agrees with what the answers record of the runs of plans; and with all that they record if this is
-/// nothing else. So what is promised for each component that agrees with the answers isn't empty.
-pub fn unbroken_runs_have_a_component()
-    ensures { (a : Answered) (depth : ℕ) → depth ≤ 64 → WereRead a → AreBroken a (known_plans a depth) None → HasComponent a depth }
+/// If no two lines of answers contradict each other, some component agrees with each line of a certain scenario, and so with what the answers record
+/// of plans. So what is promised for each component that agrees with the answers isn't empty.
+pub fn agreeing_lines_have_a_component()
+    ensures { (a : Answered) (depth : ℕ) → depth ≤ 64 → WereRead a → AreOfOne a → HasComponent a depth }
 {}

@@ -1,22 +1,34 @@
-//! Recorded runs of a component that somebody else runs, as texts of answers have them: the plans that grow from them, the verdicts that follow, the
-//! first run that doesn't begin as it ought to, and the first one that contradicts the run of a plan.
+//! Recorded runs of a component that somebody else runs, as texts of answers have them: the plans that grow from them, what is still to be tried, the
+//! verdicts that follow, and the first run that can't be one of the same component.
 #![tactic(auto)]
 
+mod asked;
 mod broken;
+mod certain;
 mod contradictions;
+mod grown;
 mod laws;
 mod lines;
 mod plans;
+mod played;
+mod replies;
 mod rigged;
+mod saying;
 mod scenarios;
+mod segments;
 mod table;
+mod told_lines;
+mod tree;
+mod unseen;
 mod verdicts;
 
+pub use asked::{AskedLines, AskedPart, a_shard_keeps_the_order, shards_are_disjoint_and_whole};
 pub use broken::{BrokenRun, Conflict, broken_run};
-pub use contradictions::{contradiction, lines_that_are_taken_are_true};
+pub use contradictions::contradiction;
+pub use grown::{Causes, asks, census, further_behind, further_plans, known_causes, reached};
 pub use laws::{
-    answers_tell_plans, answers_tell_verdicts, ended_runs_have_a_component,
-    unbroken_runs_have_a_component,
+    agreeing_lines_have_a_component, answers_tell_plans, answers_tell_verdicts,
+    ended_runs_have_a_component,
 };
 pub use lines::AnswerLines;
 pub use plans::{KnownPlans, MOST_PLANS};

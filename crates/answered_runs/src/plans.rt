@@ -1,16 +1,15 @@
 //! The plans that are known by answers, with the recorded run of each.
 ghost use Rattle.std.specs.Prelude.{◌≡◌, ◌≤◌, ◌<◌, ◌^◌, [], length, map, option_map, slice_index_or, IfOk, IsErrOf, OnOk};
 ghost use Rattle.std.specs.List.{AllByRecursion};
-ghost use Rattle.known_runs.specs.Looks.{IsLook};
+ghost use Rattle.grown_runs.specs.known.Looks.{IsLook};
 ghost use Rattle.answered_runs.specs.Answered.{known_plans, plan_told, runs_in, told_of};
-ghost use Rattle.answered_runs.specs.Broken.{line_told};
 ghost use Rattle.answered_runs.specs.KnownLists.{IsKnownList, known_list, verdict_told};
 ghost use Rattle.answered_runs.specs.WholeList.{AreTold, unseen_count};
 
 use crate::table::AnsweredRuns;
 use answer_text::ToldRun;
 use grown_plans::{GrownList, Kinds};
-use known_runs::{Look, ToldList, read_found};
+use grown_runs::{Look, ToldList, read_found};
 use plan_gen::PlanFault;
 use std::alloc::{AllocError, Global};
 use std::marker::Model;
@@ -56,7 +55,7 @@ fn found_plans<'a>(
     ensures many { IsErrOf result PlanFault.TooManyPlans → 65536 < length (known_plans runs.now depth) }
 {
     let kinds = Kinds::with(runs.points(), runs.listed());
-    known_runs::known_plans(alloc, runs, &kinds, depth, MOST_PLANS)
+    grown_runs::known_plans(alloc, runs, &kinds, depth, MOST_PLANS)
 }
 
 impl<'a> KnownPlans<'a> {
@@ -119,15 +118,12 @@ impl<'a> KnownPlans<'a> {
         }
     }
 
-    /// The number of the line that records the run of the plan of this number; 0 if none does.
-    pub(crate) fn line_told(&self, number: usize) -> u32
+    /// The recorded run of the plan of this number, if there is one.
+    pub(crate) fn told(&self, number: usize) -> Option<&ToldRun>
         requires { number < length self.now.list.plans }
-        ensures { result ≡ line_told self.now.answered (slice_index_or self.now.list.plans number []) }
+        ensures { option_map (λ r. r.now) result ≡ plan_told self.now.answered (slice_index_or self.now.list.plans number []) }
     {
-        match self.told.runs[number] {
-            Some(run) => run.line,
-            None => 0,
-        }
+        self.told.runs[number]
     }
 
     /// The number of the first plan whose run isn't recorded.

@@ -4,7 +4,7 @@ ghost use Rattle.std.specs.List.{AllByRecursion};
 ghost use Rattle.action_eval.specs.Answers.{texts};
 ghost use Rattle.action_eval.specs.Catalogue.{IsCatalogue};
 ghost use Rattle.action_eval.specs.RiggedScenario.{rigged_scenario};
-ghost use Rattle.campaign_plans.specs.GrownScenarios.{grown_scenario};
+ghost use Rattle.grown_plans.specs.numbered.GrownScenarios.{grown_scenario};
 
 use action_eval::{Rig, have_lawful_texts};
 use grown_plans::rigs_of;

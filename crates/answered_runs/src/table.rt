@@ -6,7 +6,7 @@ ghost use Rattle.action_eval.specs.Answers.{texts};
 ghost use Rattle.action_eval.specs.Catalogue.{IsCatalogue};
 ghost use Rattle.answer_text.specs.Runs.{told_in};
 ghost use Rattle.grown_plans.specs.Promises.{CanBeTried};
-ghost use Rattle.known_runs.specs.Looks.{IsLook};
+ghost use Rattle.grown_runs.specs.known.Looks.{IsLook};
 ghost use Rattle.answered_runs.specs.Answered.{CanBeListed, answered, is_low, told_of};
 ghost use Rattle.answered_runs.specs.Lines.{AreLinesOf};
 
@@ -14,7 +14,7 @@ use crate::lines::AnswerLines;
 use crate::scenarios::plan_scenario;
 use action_eval::{Kind, Rig};
 use answer_text::{MOST_HITS, Runs, Stretch, ToldRun};
-use known_runs::{Look, RunTable};
+use grown_runs::{Look, RunTable};
 use scenario_values::Scenario;
 use std::alloc::{AllocError, Global};
 use std::marker::Model;
@@ -37,7 +37,7 @@ pub struct AnsweredRuns<'a> {
 }
 
 impl<'a> Model for AnsweredRuns<'a> {
-    ghost use Rattle.std.specs.Prelude.{map};
+    ghost use Rattle.std.specs.Prelude.{◌≡◌, map};
     ghost use Rattle.std.specs.List.{AllByRecursion};
     ghost use Rattle.action_eval.specs.Answers.{texts};
     ghost use Rattle.action_eval.specs.Catalogue.{IsCatalogue};
@@ -49,7 +49,7 @@ impl<'a> Model for AnsweredRuns<'a> {
     ghost view = { λ a. record { points = texts a.points.now; listed = map (λ kinds. kinds.items) a.listed.now; book = a.runs.now } };
 
     ghost invariant = { λ a. IsCatalogue (texts a.points.now) × AllByRecursion (λ kinds. CanBeListed kinds.items) a.listed.now
-        × AreLinesOf a.lines.codes.now a.lines.points.now a.lines.text.now a.runs.now };
+        × AreLinesOf a.lines.codes.now a.lines.points.now a.lines.text.now a.runs.now × (a.lines.points.now ≡ texts a.points.now) };
 }
 
 impl<'a> AnsweredRuns<'a> {
@@ -65,6 +65,7 @@ impl<'a> AnsweredRuns<'a> {
         requires points { IsCatalogue (texts points.now) }
         requires listed { AllByRecursion (λ kinds. CanBeListed kinds.items) listed.now }
         requires lines { AreLinesOf lines.codes.now lines.points.now lines.text.now runs.now }
+        requires names { lines.points.now ≡ texts points.now }
         ensures { result ≡ answered (texts points.now) (map (λ kinds. kinds.items) listed.now) runs.now }
     {
         AnsweredRuns {
@@ -103,7 +104,8 @@ impl<'a> AnsweredRuns<'a> {
 
     /// The text that the runs were read from.
     pub(crate) fn lines(&self) -> AnswerLines<'a>
-        ensures { AreLinesOf result.codes.now result.points.now result.text.now self.now.book }
+        ensures of { AreLinesOf result.codes.now result.points.now result.text.now self.now.book }
+        ensures names { result.points.now ≡ self.now.points }
     {
         self.lines
     }

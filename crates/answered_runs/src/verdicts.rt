@@ -8,7 +8,7 @@ ghost use Rattle.answered_runs.specs.Verdicts.{verdict_by, walked_by};
 
 use crate::rigged::rigs_of_scenario;
 use crate::table::AnsweredRuns;
-use known_runs::verdict_of;
+use grown_runs::verdict_of;
 use scenario_values::{Scenario, tidy};
 use std::alloc::{AllocError, Global};
 use target_trait::Verdict;

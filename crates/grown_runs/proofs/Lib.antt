@@ -6,3 +6,5 @@ pub mod RangeParts
 pub mod LevelRuns
 pub mod Begun
 pub mod Begins
+pub mod RangesLemmas
+pub mod KnownLemmas

@@ -5,8 +5,8 @@ use Rattle.std.proofs.lemmas.List.{length-append, length_push, append-nil}
 use Rattle.std.proofs.Math.Seq.{get_or-append_seam}
 use Rattle.action_eval.specs.declared.rig.Rig.{Rig}
 use Rattle.grown_plans.specs.GrownPlans.{Subject}
-use Rattle.plan_ranges.specs.Ranges.{range_count, range_start}
-use Rattle.plan_ranges.specs.Ordered.{AreAnswers}
+use Rattle.grown_runs.specs.ranges.Ranges.{range_count, range_start}
+use Rattle.grown_runs.specs.ranges.Ordered.{AreAnswers}
 use Rattle.target_trait.specs.declared.target.Target.{Ghosts}
 use Rattle.grown_runs.specs.declared.grower.Setup.{Setup}
 use Rattle.grown_runs.specs.declared.input.GrownRunInput.{GrownRunInput}

@@ -1,7 +1,7 @@
 //! Runs of the plans of a part of a list, range by range, as a job of workers.
 ghost use Rattle.std.specs.Prelude.{◌≡◌, ℕ, ◌+◌, ◌-◌, List, length};
 ghost use Rattle.grown_plans.specs.GrownPlans.{usual_subject};
-ghost use Rattle.plan_ranges.specs.Ranges.{range_count, range_start};
+ghost use Rattle.grown_runs.specs.ranges.Ranges.{range_count, range_start};
 ghost use Rattle.std.proofs.Props.{props};
 ghost use Rattle.grown_runs.specs.inside.Beginnings.{AskLikeParents};
 ghost use Rattle.grown_runs.specs.inside.Growths.{subject_on, IsGrowth};
@@ -9,8 +9,8 @@ ghost use Rattle.grown_runs.specs.inside.Growths.{subject_on, IsGrowth};
 use crate::growth::Workspace;
 use crate::input::{GrownRunInput, Part};
 use crate::kept::Growth;
+use crate::ranges::{ended_of, range_bounds};
 use action_eval::Rig;
-use plan_ranges::{ended_of, range_bounds};
 use std::alloc::{AllocError, Global};
 use std::collections::LinkedList;
 use target_trait::Target;

@@ -1,4 +1,4 @@
-//! Runs of plans that grow: their verdicts, and what grows from them.
+//! Runs of plans that grow: those that workers make, in ranges, and those that a table has recorded, with what grows from them.
 #![tactic(auto)]
 
 mod buffers;
@@ -7,11 +7,19 @@ mod grower;
 mod growth;
 mod input;
 mod kept;
+mod known;
 mod levels;
 mod outcomes;
 mod parts;
+mod ranges;
 
 pub use causes::{fails_with, leave_out};
 pub use input::Limits;
+pub use known::{
+    Break, Look, RunTable, ToldList, Workspace, break_of, each_plan_is_to_be_run_once, known_plans,
+    known_runs_tell_others, lawful_runs_never_break, look_up, nothing_is_skipped_as_far_as_seen,
+    nothing_to_run_is_the_whole_list, plan_of, read_found, verdict_of,
+};
 pub use levels::{Grown, grow, grow_list};
 pub use parts::Conditions;
+pub use ranges::{RangeGate, answers_of, ended_of, range_bounds, range_count, ranges_in_order};

@@ -4,3 +4,4 @@ pub mod Lines
 pub mod Open
 pub mod ResultLemmas
 pub mod PlansFound
+pub mod WithDepthLemmas

@@ -11,7 +11,7 @@ use Rattle.scenario_values.specs.Tidied.{tidied}
 use Rattle.target_trait.specs.declared.judgement.Verdict.{Verdict}
 use Rattle.result_book.specs.Verdicts.{verdicts_from}
 use Rattle.report.specs.ReportText.{scenario_text}
-use Rattle.asked_lines.specs.Lines.{lines_behind, lines_for}
+use Rattle.answered_runs.specs.asked.Lines.{lines_behind, lines_for}
 use Rattle.answer_text.specs.Known.{KnownVerdicts}
 use Rattle.outside_campaign.specs.Outside.{Components, say_each, EachAgrees}
 use Rattle.outside_campaign.specs.Asked.{open_plans, plan_verdicts}

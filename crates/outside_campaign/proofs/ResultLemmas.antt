@@ -22,12 +22,12 @@ use Rattle.campaign_core.specs.Findings.{finding}
 use Rattle.outside_campaign.specs.Outside.{Component, Components, say, say_each, EachAgrees}
 use Rattle.outside_campaign.specs.Asked.{open_plans, open_requests, plan_verdicts, known_failures}
 use Rattle.outside_campaign.specs.Campaigns.{plans as plans_of, code_name, report as report_by, report_in, runs_told, shown, first_failure, unmet_by, untried}
-use Rattle.report_forms.specs.Forms.{text_in}
+use Rattle.report.specs.forms.Forms.{text_in}
 use Rattle.outside_campaign.specs.Readable.{IsReadable}
 use Rattle.outside_campaign.specs.Unmet.{unmet_count}
 use Rattle.outside_campaign.specs.inside.ToldPlans.{AreOf, AreResults}
 use Rattle.outside_campaign.specs.inside.Results.{IsFirst, AreWithVerdicts, facts_of}
-use Rattle.report_forms.specs.declared.forms.Form.{Form}
+use Rattle.report.specs.declared.forms.forms.Form.{Form}
 use Rattle.outside_campaign.proofs.Gathered.{each_by_known, each_by_known_agrees}
 use Rattle.outside_campaign.proofs.Lines.{verdicts_known_are}
 use Rattle.outside_campaign.specs.declared.results.Results.{Results}

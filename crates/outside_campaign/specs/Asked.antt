@@ -5,7 +5,7 @@ use Rattle.scenario_values.specs.Tidied.{tidied}
 use Rattle.target_trait.specs.declared.judgement.Verdict.{Verdict}
 use Rattle.result_book.specs.FirstFailures.{first_failures}
 use Rattle.result_book.specs.Slots.{in_book}
-use Rattle.asked_lines.specs.Lines.{lines_for}
+use Rattle.answered_runs.specs.asked.Lines.{lines_for}
 use Rattle.answer_text.specs.Known.{KnownVerdicts}
 use Rattle.campaign_core.specs.Findings.{plan_at}
 use Rattle.outside_campaign.specs.Reached.{open_candidates}

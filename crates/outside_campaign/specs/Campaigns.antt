@@ -8,9 +8,9 @@ use Rattle.result_book.specs.Verdicts.{verdicts_from, numbered}
 use Rattle.result_book.specs.FirstFailures.{first_failures}
 use Rattle.report.specs.Reports.{ReportFacts}
 use Rattle.report.specs.ReportText.{text_of}
-use Rattle.asked_lines.specs.Lines.{lines_for}
-use Rattle.asked_lines.specs.Parts.{part_text}
-use Rattle.asked_lines.specs.declared.parts.AskedPart.{AskedPart}
+use Rattle.answered_runs.specs.asked.Lines.{lines_for}
+use Rattle.answered_runs.specs.asked.Parts.{part_text}
+use Rattle.answered_runs.specs.declared.asked.parts.AskedPart.{AskedPart}
 use Rattle.answer_text.specs.Known.{KnownVerdicts, verdicts_in}
 use Rattle.answer_text.specs.Runs.{KnownRuns}
 use Rattle.campaign_given.specs.Description.{Description}
@@ -21,12 +21,12 @@ use Rattle.campaign_core.specs.declared.ending.CampaignFault.{CampaignFault}
 use Rattle.campaign_core.specs.declared.ending.CampaignFault.TheVariants as campaign
 use Rattle.outside_campaign.specs.Outside.{Component, say}
 use Rattle.outside_campaign.specs.Asked.{to_try, known_failures}
-use Rattle.report_json.specs.About.{ShownFacts, shown_of}
-use Rattle.report_forms.specs.Forms.{text_in}
-use Rattle.report_forms.specs.Runs.{Telling}
+use Rattle.report.specs.json_form.About.{ShownFacts, shown_of}
+use Rattle.report.specs.forms.Forms.{text_in}
+use Rattle.report.specs.forms.Runs.{Telling}
 use Rattle.outside_campaign.specs.Telling.{telling}
 use Rattle.outside_campaign.specs.Unmet.{unmet_count}
-use Rattle.report_forms.specs.declared.forms.Form.{Form}
+use Rattle.report.specs.declared.forms.forms.Form.{Form}
 use Rattle.outside_campaign.specs.declared.refusal.OutsideFault.{OutsideFault}
 use Rattle.outside_campaign.specs.declared.refusal.OutsideFault.TheVariants as refusal
 

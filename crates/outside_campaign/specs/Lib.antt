@@ -9,3 +9,4 @@ pub mod Partial
 pub mod Results
 pub mod Told
 pub mod inside
+pub mod with_depth

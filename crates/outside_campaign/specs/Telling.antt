@@ -7,9 +7,9 @@ use Rattle.answer_text.specs.Hits.{points_of}
 use Rattle.answer_text.specs.Runs.{KnownRuns}
 use Rattle.answer_text.specs.declared.hits.Stretch.{Stretch}
 use Rattle.answer_text.specs.declared.runs.ToldRun.{ToldRun}
-use Rattle.run_explained.specs.Told.{RunFacts}
-use Rattle.run_explained.specs.ByAnswer.{answer_facts}
-use Rattle.report_forms.specs.Runs.{Telling, most_hits_shown}
+use Rattle.report.specs.explained.Told.{RunFacts}
+use Rattle.report.specs.explained.ByAnswer.{answer_facts}
+use Rattle.report.specs.forms.Runs.{Telling, most_hits_shown}
 
 -- A run is explained if its hits are recorded, with these names of points and codes.
 abbrev pub hits_told : List (List ℕ) → (ℕ → List ℕ) → Entries → Verdict → Option (List Stretch) → Option RunFacts

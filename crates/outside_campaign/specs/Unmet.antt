@@ -8,7 +8,7 @@ use Rattle.answer_text.specs.Hits.{points_of}
 use Rattle.answer_text.specs.Runs.{KnownRuns}
 use Rattle.answer_text.specs.declared.hits.Stretch.{Stretch}
 use Rattle.answer_text.specs.declared.runs.ToldRun.{ToldRun}
-use Rattle.run_explained.specs.ByAnswer.{has_idle}
+use Rattle.report.specs.explained.ByAnswer.{has_idle}
 
 abbrev pub passes : Verdict → Bool
 passes verdict.Pass = true

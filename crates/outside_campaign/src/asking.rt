@@ -1,15 +1,15 @@
 //! The scenarios that are still to be tried.
 ghost use Rattle.std.specs.Prelude.{◌≡◌, ◌<◌, ◌∷◌, ◌++◌, [], All, length, IfOk, OnOk, string_bytes};
-ghost use Rattle.asked_lines.specs.Lines.{lines_behind, lines_for};
-ghost use Rattle.asked_lines.specs.Parts.{part_text};
+ghost use Rattle.answered_runs.specs.asked.Lines.{lines_behind, lines_for};
+ghost use Rattle.answered_runs.specs.asked.Parts.{part_text};
 ghost use Rattle.outside_campaign.specs.Asked.{asked, open_plans};
 ghost use Rattle.outside_campaign.specs.Campaigns.{untried};
 
 use crate::findings::{Findings, findings_known};
 use crate::table::VerdictTable;
 use crate::verdicts::plan_verdicts;
-use asked_lines::{AskedLines, AskedPart};
-use campaign_plans::{CampaignPlan, CampaignPlans};
+use answered_runs::{AskedLines, AskedPart};
+use grown_plans::{CampaignPlan, CampaignPlans};
 use result_book::first_failures_of;
 use scenario_values::{Scenario, tidy};
 use std::alloc::{AllocError, Global};

@@ -5,7 +5,7 @@ ghost use Rattle.outside_campaign.specs.inside.Told.{IsLook, IsGathered};
 
 use crate::reduction::{Reached, reduce_known};
 use crate::table::VerdictTable;
-use campaign_plans::CampaignPlans;
+use grown_plans::CampaignPlans;
 use report::Finding;
 use scenario_values::{Scenario, keep, tidy};
 use std::alloc::{AllocError, Global};

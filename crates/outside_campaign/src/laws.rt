@@ -7,7 +7,7 @@ ghost use Rattle.result_book.specs.FirstFailures.{first_failures};
 ghost use Rattle.answer_text.specs.Known.{KnownVerdicts, Agrees};
 ghost use Rattle.outside_campaign.specs.Outside.{Component, Components, say_each, EachAgrees};
 ghost use Rattle.outside_campaign.specs.Reached.{place_of, ComesTo};
-ghost use Rattle.asked_lines.specs.Lines.{lines_for};
+ghost use Rattle.answered_runs.specs.asked.Lines.{lines_for};
 ghost use Rattle.outside_campaign.specs.Asked.{open_plans, known_failures, IsUntried};
 ghost use Rattle.outside_campaign.specs.Campaigns.{untried};
 

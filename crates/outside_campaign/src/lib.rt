@@ -1,4 +1,4 @@
-//! Campaigns on components that somebody else runs, by what is recorded of their runs: what is still to be tried, the report,
+//! Campaigns on components that somebody else runs, with a depth or without, by what is recorded of their runs: what is still to be tried, the report,
 //! and the interim report.
 #![tactic(auto)]
 
@@ -18,6 +18,7 @@ mod teller;
 mod telling;
 mod unmet;
 mod verdicts;
+mod with_depth;
 
 pub use answers::read_answers;
 pub use asking::asks_text;
@@ -36,3 +37,7 @@ pub use teller::AnswerTeller;
 pub use telling::{Words, first_number};
 pub use unmet::count_unmet;
 pub use verdicts::{Verdicts, plan_verdicts, verdicts_known};
+pub use with_depth::{
+    Explained, QuestionFault, ReadRuns, all_plans, explained_text, grown_lines, grown_partial,
+    grown_report, kinds_of_settings_can_be_tried, known_plans, verdicts_of,
+};

@@ -10,7 +10,7 @@ ghost use Rattle.outside_campaign.specs.inside.Found.{IsAdded, IsFound};
 use crate::campaign::OutsideCampaign;
 use crate::table::VerdictTable;
 use crate::telling::Words;
-use campaign_plans::{CampaignPlan, CampaignPlans};
+use grown_plans::{CampaignPlan, CampaignPlans};
 use report::{Names, write_scenario, write_verdict};
 use scenario_values::Scenario;
 use std::alloc::{AllocError, Global};

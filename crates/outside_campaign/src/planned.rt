@@ -7,7 +7,7 @@ ghost use Rattle.outside_campaign.specs.Campaigns.{plans, plans_text, IsCut, IsU
 
 use crate::campaign::OutsideCampaign;
 use campaign_core::{CampaignFault, plans_text};
-use campaign_plans::CampaignPlans;
+use grown_plans::CampaignPlans;
 use plan_gen::{Census, PlanFault, PlanList, plans};
 use report::write_report;
 use scenario_values::Text;

@@ -12,8 +12,8 @@ use crate::results::{Results, results_known};
 use crate::telling::{first_number, report_of, reported_text};
 use crate::unmet::count_unmet;
 use answer_text::Runs;
-use campaign_plans::CampaignPlans;
-use report_forms::Form;
+use grown_plans::CampaignPlans;
+use report::Form;
 use std::alloc::Global;
 
 /// The text of the report in a form, and the number of the first plan that fails. For every component that agrees with what is recorded, a function

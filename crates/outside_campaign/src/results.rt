@@ -10,7 +10,7 @@ ghost use Rattle.outside_campaign.specs.inside.Results.{IsFirst, AreWithVerdicts
 use crate::findings::{Findings, findings_known};
 use crate::table::VerdictTable;
 use crate::verdicts::{Verdicts, plan_verdicts, verdicts_known};
-use campaign_plans::CampaignPlans;
+use grown_plans::CampaignPlans;
 use report::Finding;
 use result_book::first_failures_of;
 use scenario_values::Scenario;

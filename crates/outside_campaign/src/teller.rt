@@ -7,8 +7,7 @@ use crate::planned::borrowed;
 use crate::telling::Words;
 use answer_text::{Runs, ToldRun};
 use campaign_given::Outside;
-use report_forms::{MOST_HITS_SHOWN, Teller};
-use run_explained::{RunByAnswer, ToldRun as ToldLines, tell_answer};
+use report::{MOST_HITS_SHOWN, RunByAnswer, Teller, ToldRun as ToldLines, tell_answer};
 use scenario_values::Scenario;
 use std::alloc::{AllocError, Global};
 

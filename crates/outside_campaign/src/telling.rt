@@ -3,18 +3,16 @@ ghost use Rattle.std.specs.Prelude.{◌≡◌, ◌<◌, [], None, length, IfOk, 
 ghost use Rattle.campaign_given.specs.Description.{IsDescription};
 ghost use Rattle.answer_text.specs.Runs.{told_in};
 ghost use Rattle.outside_campaign.specs.Campaigns.{code_name, plans as listed, runs_told, shown};
-ghost use Rattle.report_json.specs.About.{shown_of};
-ghost use Rattle.report_forms.specs.Forms.{text_in};
+ghost use Rattle.report.specs.json_form.About.{shown_of};
+ghost use Rattle.report.specs.forms.Forms.{text_in};
 ghost use Rattle.outside_campaign.specs.inside.Results.{facts_of};
 
 use crate::campaign::OutsideCampaign;
 use crate::teller::AnswerTeller;
 use answer_text::Runs;
 use campaign_given::Outside;
-use campaign_plans::CampaignPlans;
-use report::{Finding, Names, Report};
-use report_forms::{Form, text_in};
-use report_json::Shown;
+use grown_plans::CampaignPlans;
+use report::{Finding, Form, Names, Report, Shown, text_in};
 use std::alloc::{AllocError, Global};
 use target_trait::Verdict;
 

@@ -6,8 +6,8 @@ ghost use Rattle.answer_text.specs.Runs.{told_in};
 ghost use Rattle.outside_campaign.specs.Unmet.{is_unmet, leaves_idle, unmet_count};
 
 use answer_text::{Hits, Runs, ToldRun};
-use campaign_plans::{CampaignPlan, CampaignPlans};
-use run_explained::has_idle;
+use grown_plans::{CampaignPlan, CampaignPlans};
+use report::has_idle;
 use scenario_values::{Scenario, tidy};
 use std::alloc::{AllocError, Global};
 use target_trait::Verdict;

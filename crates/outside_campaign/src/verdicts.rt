@@ -8,7 +8,7 @@ ghost use Rattle.outside_campaign.specs.Asked.{plan_verdicts};
 ghost use Rattle.outside_campaign.specs.Told.{AreVerdicts};
 
 use crate::table::VerdictTable;
-use campaign_plans::CampaignPlans;
+use grown_plans::CampaignPlans;
 use scenario_values::{Scenario, tidy};
 use std::alloc::{AllocError, Global};
 use target_trait::Verdict;

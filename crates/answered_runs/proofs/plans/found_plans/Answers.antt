@@ -7,7 +7,7 @@ use Rattle.action_eval.specs.RiggedScenario.{CanBeRigged, HasLawfulText}
 use Rattle.answer_text.specs.Runs.{told_in}
 use Rattle.grown_plans.specs.GrownPlans.{kinds_at, rigs_of, tried_over}
 use Rattle.grown_plans.proofs.ListedKinds.{listed_can}
-use Rattle.known_runs.specs.ToldPart.{part_known}
+use Rattle.grown_runs.specs.known.ToldPart.{part_known}
 use Rattle.answered_runs.specs.Answered.{Answered, kinds_over, runs_in}
 use Rattle.answered_runs.proofs.KnownLists.{known_list}
 use Rattle.answered_runs.proofs.Runs.{agree}

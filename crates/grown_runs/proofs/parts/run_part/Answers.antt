@@ -2,7 +2,7 @@ use Rattle.std.proofs.Common.{◌≡◌, ◌≤◌, ◌-◌, ◌∷◌, ◌++◌
 use Rattle.std.proofs.lemmas.List.{length-map, append_assoc}
 use Rattle.grown_plans.specs.GrownPlans.{Subject}
 use Rattle.grown_runs.specs.Grown.{subject_in}
-use Rattle.plan_ranges.specs.Ranges.{range_count}
+use Rattle.grown_runs.specs.ranges.Ranges.{range_count}
 use Rattle.grown_runs.specs.inside.Growths.{IsGrowth}
 use Rattle.grown_runs.proofs.RangeParts.{AreRanges, range_begin, range_at, range_next, range_room, ranges_whole, same_setup, none_left}
 use Rattle.grown_runs.proofs.parts.run_part.Goals as goal

@@ -1,6 +1,6 @@
 use Rattle.std.proofs.Common.{◌≡◌, ◌++◌, length}
 use Rattle.grown_runs.specs.Grown.{subject_in}
-use Rattle.plan_ranges.specs.Ranges.{range_start}
+use Rattle.grown_runs.specs.ranges.Ranges.{range_start}
 use Rattle.grown_runs.specs.inside.Growths.{IsGrowth}
 use Rattle.grown_runs.proofs.parts.run_part.Given as goal
 

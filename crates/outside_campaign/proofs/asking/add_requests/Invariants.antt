@@ -1,5 +1,5 @@
 use Rattle.std.proofs.Common.{◌≡◌, take}
-use Rattle.asked_lines.specs.Lines.{lines_behind}
+use Rattle.answered_runs.specs.asked.Lines.{lines_behind}
 use Rattle.outside_campaign.proofs.asking.add_requests.Given as goal
 
 abbrev pub invariant-loop-request : goal.invariant-loop-request

@@ -1,5 +1,5 @@
 use Rattle.std.proofs.Common.{ap}
-use Rattle.asked_lines.specs.Lines.{lines_for}
+use Rattle.answered_runs.specs.asked.Lines.{lines_for}
 use Rattle.outside_campaign.proofs.Lines.{none_once}
 use Rattle.outside_campaign.proofs.laws.nothing_is_asked_where_nothing_is_to_be_tried.Goals as goal
 

@@ -1,8 +1,8 @@
 use Rattle.std.proofs.Common.{◌≡◌, Option, ap, refl, sym, subst, ◌∙◌, length}
 use Rattle.std.specs.Prelude.{IfSome}
 use Rattle.report.specs.Reports.{GrowthFacts}
-use Rattle.report_json.specs.About.{ShownFacts}
-use Rattle.report_forms.specs.Runs.{GrownAreFirst}
+use Rattle.report.specs.json_form.About.{ShownFacts}
+use Rattle.report.specs.forms.Runs.{GrownAreFirst}
 use Rattle.outside_campaign.proofs.telling.reported_text.Goals as goal
 
 pub text_in-requires-clause-counts : goal.text_in-requires-clause-counts

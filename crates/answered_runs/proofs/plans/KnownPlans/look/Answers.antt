@@ -1,6 +1,6 @@
 use Rattle.std.proofs.Common.{get_or, [], length, ◌<◌, subst, sym}
 use Rattle.std.proofs.lemmas.Result.{IfOk-weaker}
-use Rattle.known_runs.specs.Looks.{IsLook}
+use Rattle.grown_runs.specs.known.Looks.{IsLook}
 use Rattle.answered_runs.specs.Answered.{runs_in}
 use Rattle.answered_runs.specs.KnownLists.{KnownList}
 use Rattle.answered_runs.proofs.WholeLists.{look_here}

@@ -1,5 +1,5 @@
 use Rattle.std.proofs.Common.{◌≡◌, ◌+◌, ◌-◌, ℕ, ap, arith, subst, sym}
-use Rattle.plan_ranges.specs.Ranges.{range_start}
+use Rattle.grown_runs.specs.ranges.Ranges.{range_start}
 use Rattle.grown_runs.specs.inside.Beginnings.{AskLikeParents}
 use Rattle.grown_runs.specs.inside.Growths.{subject_on, IsGrowth}
 use Rattle.grown_runs.proofs.grower.GrowerJob.perform.Goals as goal

@@ -1,9 +1,0 @@
-use Rattle.std.proofs.Common.{length}
-use Rattle.answered_runs.proofs.LineReading.{Lines}
-use Rattle.answered_runs.proofs.contradictions.contradiction.Given as goal
-
-abbrev pub invariant-loop-line : goal.invariant-loop-line
-invariant-loop-line l = Lines l.names.codes.now l.names.points l.known l.rest l.number
-
-abbrev pub decreases-loop-line : goal.decreases-loop-line
-decreases-loop-line l = length l.rest

@@ -1,0 +1,144 @@
+//! Which lines there are: the first ones with their scenarios, those of known plans before the others.
+ghost use Rattle.std.specs.Prelude.{◌≡◌, ◌<◌, ◌^◌, ◌⊎◌, [], ℕ, false, true, length, slice_index_or, IfOk, OnOk};
+ghost use Rattle.scenario_values.specs.Tidied.{tidied};
+ghost use Rattle.grown_plans.specs.numbered.GrownScenarios.{grown_scenario};
+ghost use Rattle.answered_runs.specs.inside.Played.{AreAdded, AreDone, AreMarked, IsLineAdded, IsState};
+
+use crate::broken::BrokenRun;
+use crate::lines::{LineNames, cut_line, scenario_on};
+use crate::plans::KnownPlans;
+use crate::played::{Played, add_run};
+use crate::scenarios::plan_scenario;
+use crate::table::AnsweredRuns;
+use answer_text::PointNames;
+use scenario_values::{Scenario, tidy};
+use std::alloc::{AllocError, Global};
+
+/// The tidied scenario of the plan of this number.
+fn scenario_of(alloc: Global, known: &KnownPlans<'_>, number: usize) -> Result<Scenario, AllocError>
+    requires { number < length known.now.list.plans }
+    ensures { IfOk result (λ s. s ≡ tidied (grown_scenario known.now.answered.points (slice_index_or known.now.list.plans number []))) }
+{
+    let _ = known.list();
+    let mut faults = Vec::new(alloc);
+    known.list().plans.faults_of(number, &mut faults)?;
+    let scenario = plan_scenario(alloc, known.runs().points(), faults.as_slice())?;
+    tidy(alloc, &scenario)
+}
+
+/// Marks a line.
+fn mark(own: &mut Vec<bool>, line: u32) -> Result<(), AllocError>
+    ensures { OnOk result ((i : ℕ) → slice_index_or own.new.items i false ≡ true → (i ≡ line) ⊎ (slice_index_or own.old.items i false ≡ true)) }
+{
+    let line = line as usize;
+    if own.len() <= line {
+        own.resize(line + 1, false)?;
+    }
+    own[line] = true;
+    Ok(())
+}
+
+/// Whether a line is marked.
+fn is_own(own: &[bool], line: usize) -> bool
+    ensures { result ≡ slice_index_or own.now line false }
+{
+    line < own.len() && own[line]
+}
+
+/// Adds the recorded run of the plan of this number, if there is one, and marks its line.
+fn add_plan(
+    alloc: Global,
+    known: &KnownPlans<'_>,
+    played: &mut Played,
+    number: usize,
+) -> Result<Option<BrokenRun>, AllocError>
+    requires number { number < length known.now.list.plans }
+    requires state { IsState known.now.answered played.old }
+    requires marked { AreMarked known.now.answered played.old }
+    ensures { IfOk result (AreAdded AreMarked known.now.answered played.new) }
+{
+    let _ = known.runs().lines();
+    let Some(run) = known.told(number) else {
+        return Ok(None);
+    };
+    let scenario = scenario_of(alloc, known, number)?;
+    let _ = scenario.entries();
+    if let Some(broken) = add_run(alloc, known.runs(), played, scenario, run)? {
+        return Ok(Some(broken));
+    }
+    mark(&mut played.own, run.line)?;
+    Ok(None)
+}
+
+/// Adds the recorded runs of known plans, in the order of the plans, and marks their lines.
+pub(crate) fn add_plans(
+    alloc: Global,
+    known: &KnownPlans<'_>,
+    played: &mut Played,
+) -> Result<Option<BrokenRun>, AllocError>
+    requires state { IsState known.now.answered played.old }
+    requires marked { AreMarked known.now.answered played.old }
+    ensures { IfOk result (AreAdded AreMarked known.now.answered played.new) }
+{
+    for number in 0..known.list().plans.len() {
+        if let Some(broken) = add_plan(alloc, known, played, number)? {
+            return Ok(Some(broken));
+        }
+    }
+    Ok(None)
+}
+
+/// Adds the run that the line of this number records. A marked line is passed over, and so is one that can't be read, or that repeats an earlier one.
+fn add_line(
+    alloc: Global,
+    runs: &AnsweredRuns<'_>,
+    names: &LineNames<'_>,
+    played: &mut Played,
+    number: usize,
+    line: &[u8],
+) -> Result<Option<BrokenRun>, AllocError>
+    requires codes { length names.now.codes.now < 2 ^ 32 }
+    requires state { IsState runs.now played.old }
+    requires marked { AreMarked runs.now played.old }
+    ensures { IfOk result (IsLineAdded names.now.codes.now names.now.points runs.now played.old played.new line.now number) }
+{
+    if is_own(played.own.as_slice(), number) {
+        return Ok(None);
+    }
+    let Some(scenario) = scenario_on(alloc, names, line)? else {
+        return Ok(None);
+    };
+    let Some(run) = runs.told(&scenario)? else {
+        return Ok(None);
+    };
+    if run.line as usize != number {
+        return Ok(None);
+    }
+    add_run(alloc, runs, played, scenario, run)
+}
+
+/// Adds the runs that other lines record, in the text's order.
+pub(crate) fn add_lines(
+    alloc: Global,
+    runs: &AnsweredRuns<'_>,
+    played: &mut Played,
+) -> Result<Option<BrokenRun>, AllocError>
+    requires state { IsState runs.now played.old }
+    requires marked { AreMarked runs.now played.old }
+    ensures { IfOk result (AreAdded AreDone runs.now played.new) }
+{
+    let lines = runs.lines();
+    let codes = lines.codes;
+    let points = PointNames::new(alloc, lines.points)?;
+    let names = LineNames { codes, points };
+    let mut number = 1;
+    let mut rest = lines.text;
+    while let Some((line, after)) = cut_line(rest) {
+        if let Some(broken) = add_line(alloc, runs, &names, played, number, line)? {
+            return Ok(Some(broken));
+        }
+        number += 1;
+        rest = after;
+    }
+    Ok(None)
+}

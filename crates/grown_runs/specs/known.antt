@@ -1,0 +1,11 @@
+pub mod Known
+pub mod Looks
+pub mod KnownPart
+pub mod ToldPart
+pub mod KnownPlans
+pub mod Walks
+pub mod Breaks
+pub mod Unseen
+pub mod SeenPromises
+pub mod Promises
+pub mod inside

@@ -1,0 +1,271 @@
+-- A report by answers keeps its promises of each behaviour that doesn't begin like a run recorded without its hits.
+use Rattle.std.proofs.Common.{◌≡◌, ℕ, zero, suc, ◌+◌, ◌<◌, ◌≤◌, ◌⊎◌, inl, inr, Bool, true, false, cond, Some, List, [], ◌∷◌, ◌++◌, get_or, length, map, refl, ap, sym, ◌∙◌, subst, arith}
+use Rattle.std.specs.Prelude.{All, Contains, Option, slice_get, slice_index_or, sum}
+use Rattle.std.specs.List.{AllByRecursion, filter, range_with_len}
+use Rattle.std.proofs.lemmas.List.{append-nil, get_or_append_left, get_or-map, length-append, length-map}
+use Rattle.std.proofs.lemmas.List.Elements.{All-from_recursion}
+use Rattle.std.proofs.lemmas.List.FromFn.{map-range_with_len_more}
+use Rattle.std.proofs.lemmas.Option.{slice_get-get_or, slice_get_within}
+use Rattle.scenario_values.specs.Scenario.{DistinctNames, Entries, IsScenario}
+use Rattle.action_eval.specs.declared.rig.Rig.{Rig}
+use Rattle.action_eval.specs.Answers.{Return}
+use Rattle.target_trait.specs.declared.judgement.Verdict.{Verdict}
+use Rattle.target_trait.specs.declared.judgement.Verdict.TheVariants.{Fail}
+use Rattle.grown_plans.specs.Runs.{Met, acting}
+use Rattle.grown_plans.specs.GrownPlans.{Subject, level, levels, levels_to, onward, run_of_plan, scenario_of}
+use Rattle.grown_plans.specs.Promises.{IsCause, IsLawful, ReturnsOnward, run_in, verdict_of_plan}
+use Rattle.grown_plans.proofs.Apart.{IsGrownTo, levels_grown}
+use Rattle.grown_plans.proofs.Causes.{has_causes}
+use Rattle.grown_plans.proofs.Faults.{faults as faults_of}
+use Rattle.grown_plans.proofs.Members.{all_contains, all_weaker, contains_map}
+use Rattle.grown_plans.proofs.Paths.{some_is}
+use Rattle.grown_plans.proofs.PlanRuns.{plan_judged}
+use Rattle.grown_runs.specs.GrownRuns.{cause_at, over}
+use Rattle.grown_runs.specs.known.Known.{KnownRuns}
+use Rattle.grown_runs.specs.known.KnownPart.{is_reached, is_reached_onward, known_levels, to_run}
+use Rattle.grown_runs.specs.known.KnownPlans.{level_size}
+use Rattle.grown_runs.specs.known.SeenPromises.{IsTriedAsSeen}
+use Rattle.grown_runs.specs.known.Unseen.{BeginsUnseen}
+use Rattle.grown_runs.proofs.KnownLemmas.Seen.{apart, contains_filtered, from_then_on, nothing_skipped, reached_or_unseen, stands_in, whole}
+use Rattle.answered_runs.specs.grown.Further.{further_known}
+use Rattle.result_book.specs.Verdicts.{numbered, verdicts_from}
+use Rattle.result_book.specs.FirstFailures.{first_failures}
+use Rattle.result_book.proofs.EachCodeLemmas.{firsts_of}
+use Rattle.report.specs.Reports.{CauseFacts}
+use Rattle.campaign_core.specs.promises.AsSeen.{HasUnseenCause, IsToldOrUnseen, PromisesAsSeen}
+use Rattle.campaign_core.specs.promises.Behaviours.{IsBehaviourOfKinds, faults}
+use Rattle.campaign_core.specs.promises.Promises.{HasCause}
+use Rattle.campaign_core.specs.promises.Promises.{IsCause as IsToldCause}
+use Rattle.campaign_core.specs.promises.Told.{HasBehaviour, HasVerdict, Told, count_of_all, count_of_levels}
+use Rattle.campaign_core.proofs.PromisesLemmas.Cases.{case_for, case_runs}
+use Rattle.campaign_core.proofs.PromisesLemmas.Counted.{has_acting}
+use Rattle.campaign_core.proofs.PromisesLemmas.Faults.{faults_among}
+use Rattle.campaign_core.proofs.PromisesLemmas.Least.{no_lesser}
+use Rattle.campaign_core.proofs.PromisesLemmas.Listed.{Lists, all_are, all_counted, by_case, has_behaviour, no_two, told_once}
+use Rattle.campaign_core.proofs.PromisesLemmas.Numbers.{at_contained, contains_at, get_front, get_in_front, get_map, get_unmapped, sum_more}
+use Rattle.campaign_core.specs.Findings.{IsCauseAmong, cause_of}
+use Rattle.campaign_core.specs.Headline.{Campaign, grower, say}
+use Rattle.campaign_core.proofs.Causes.{each_is}
+use Rattle.campaign_core.proofs.Findings.{found_of, once_each, reduced_at}
+use Rattle.campaign_core.proofs.Firsts.{each_fails, findings_minimal}
+use Rattle.campaign_core.proofs.Promised.{cause_here, in_flat, verdict_at}
+use Rattle.answer_text.specs.Runs.{told_in}
+use Rattle.answered_runs.specs.Answered.{runs_in}
+use Rattle.answered_runs.specs.Components.{AgreesWithRuns, IsComponent}
+use Rattle.answered_runs.specs.KnownLists.{KnownList}
+use Rattle.campaign_given.specs.Description.{Description}
+use Rattle.campaign_given.specs.Given.{Given}
+use Rattle.answered_runs.specs.grown.Further.{census_seen}
+use Rattle.grown_runs.specs.known.Known.{hits_of}
+use Rattle.outside_campaign.specs.with_depth.Grown.{campaign}
+use Rattle.outside_campaign.specs.with_depth.Seen.{growth_seen, plans_seen, told_seen}
+use Rattle.outside_campaign.specs.declared.with_depth.candidates.Told.{Told as ToldOutcome}
+use Rattle.outside_campaign.specs.with_depth.inside.Outcomes.{IsDecided}
+use Rattle.outside_campaign.proofs.WithDepthLemmas.Reports.{plans_are}
+
+-- ---- the sizes of the known levels
+
+filter_both : {A : Type 0} (p : A → Bool) (xs ys : List A) → filter p (xs ++ ys) ≡ filter p xs ++ filter p ys
+filter_both p [] ys = refl
+filter_both {A} p (x ∷ xs) ys = ap (λ (l : List A). cond (p x) (x ∷ l) l) (filter_both p xs ys) ∙ by_test (p x)
+  where
+    by_test : (b : Bool) → cond b (x ∷ filter p xs ++ filter p ys) (filter p xs ++ filter p ys) ≡ cond b (x ∷ filter p xs) (filter p xs) ++ filter p ys
+    by_test true = refl
+    by_test false = refl
+
+sizes_known : (t : Subject) (known : KnownRuns) (d : ℕ) → sum (map (level_size t known) (range_with_len 0 (d + 1))) ≡ length (known_levels t d known)
+unfolding levels_to
+sizes_known t known zero = omega arith
+sizes_known t known (suc d) =
+    ap (λ k. sum (map (level_size t known) (range_with_len 0 k))) (let goal : suc d + 1 ≡ d + 1 + 1 = omega arith in goal)
+    ∙ ap (λ (l : List ℕ). sum l) (map-range_with_len_more (level_size t known) 0 (d + 1) (suc d) (omega arith))
+    ∙ sum_more (map (level_size t known) (range_with_len 0 (d + 1))) (level_size t known (suc d))
+    ∙ ap (λ n. n + level_size t known (suc d)) (sizes_known t known d)
+    ∙ sym (length-append (filter (is_reached known) (levels t d)) (filter (is_reached known) (level t (suc d))))
+    ∙ ap (λ (l : List (List Rig)). length l) (sym (filter_both (is_reached known) (levels t d) (level t (suc d))))
+
+-- ---- the promises
+
+module _ (c : Campaign) (depth : ℕ) (known : KnownRuns) (l : IsLawful (grower c)) (done : to_run (grower c) depth known ≡ [])
+    (lawful : AllByRecursion (λ s. IsScenario s) (plans_seen c depth known)) where
+  abbrev t : Subject
+  t = grower c
+
+  abbrev seed : ℕ
+  seed = c.given.plans.seed
+
+  abbrev plans : List Entries
+  plans = plans_seen c depth known
+
+  abbrev first : List (List Rig)
+  first = known_levels t depth known
+
+  abbrev behind : List (List Rig)
+  behind = filter (is_reached_onward known) (onward t depth)
+
+  abbrev told : Told
+  told = told_seen c depth known
+
+  abbrev IsUnseen : List Met → Type 0
+  IsUnseen hits = BeginsUnseen t depth known hits
+
+  -- the plans that grew stand first in the list
+  plan_at : (n : ℕ) (plan : List Rig) → slice_get (first ++ behind) n ≡ Some plan → slice_get plans n ≡ Some (scenario_of t plan)
+  plan_at n plan e =
+      get_front (map (scenario_of t) (first ++ behind)) (further_known t c.given.plans (known [])) n (scenario_of t plan) (get_map (scenario_of t) (first ++ behind) n plan e)
+
+  comes_at : (n : ℕ) (plan : List Rig) → slice_get (first ++ behind) n ≡ Some plan → slice_get told.report.verdicts n ≡ Some (verdict_of_plan t seed n plan)
+  comes_at n plan e =
+      verdict_at (say c) 0 plans n (scenario_of t plan) (plan_at n plan e)
+      ∙ ap (λ i. Some (say c i (scenario_of t plan))) (let goal : 0 + n ≡ n = omega arith in goal)
+
+  lists : Lists t first behind told
+  lists = record { first_are = sizes_known t known depth; behind_are = refl; behaves = refl; comes = comes_at; apart = apart t l depth known done }
+
+  -- ---- behaviours
+
+  in_front : (bound : ℕ) (xs ys : List (List Rig)) → first ++ behind ≡ xs ++ ys → bound ≡ length xs → (hits : List Met) (b : IsBehaviourOfKinds t hits)
+      → IsTriedAsSeen t depth known xs (case_for t l hits b) → IsToldOrUnseen t told IsUnseen bound hits
+  in_front bound xs ys split size hits b (inl one) =
+      inl (by_case t l first behind told lists bound hits b (told_once t l first behind told lists xs ys bound (case_for t l hits b) split size one))
+  in_front bound xs ys split size hits b (inr begins) = inr (subst IsUnseen (case_runs t l hits b) begins)
+
+  skipped_none : (hits : List Met) → IsBehaviourOfKinds t hits → acting hits ≤ depth → IsToldOrUnseen t told IsUnseen (count_of_levels told) hits
+  skipped_none hits b few =
+      let same : acting (run_in t (case_for t l hits b)) ≡ acting hits = ap (λ (ms : List Met). acting ms) (case_runs t l hits b) in
+      in_front (count_of_levels told) first behind refl (sizes_known t known depth) hits b (nothing_skipped t l depth known done (case_for t l hits b) (omega (arith, few, same)))
+
+  whole_told : told.growth.beyond ≡ 0 → (hits : List Met) → IsBehaviourOfKinds t hits → IsToldOrUnseen t told IsUnseen (count_of_levels told) hits
+  whole_told none hits b =
+      in_front (count_of_levels told) first behind refl (sizes_known t known depth) hits b (whole t l depth known done none (case_for t l hits b))
+
+  onward_told : (before after : List Met) (hit : Met) (text : Option (List ℕ)) → hit.reply ≡ Return text → IsBehaviourOfKinds t (before ++ hit ∷ after)
+      → acting before < depth → ReturnsOnward text hit.site.point after → IsToldOrUnseen t told IsUnseen (count_of_all told) (before ++ hit ∷ after)
+  onward_told before after hit text ret b few on =
+      let hits : List Met = before ++ hit ∷ after in
+      in_front (count_of_all told) (first ++ behind) [] (sym (append-nil (first ++ behind))) (all_are t l first behind told lists) hits b
+      (from_then_on t l depth known done (case_for t l hits b) before after hit text (case_runs t l hits b) ret few on)
+
+  -- ---- plans by their numbers
+
+  -- a plan of the levels
+  in_levels : (number : ℕ) (plan : List Rig) → number < count_of_levels told → slice_get (first ++ behind) number ≡ Some plan → Contains (levels t depth) plan
+  in_levels number plan low at =
+      let size = sizes_known t known depth in
+      contains_filtered (is_reached known) (levels t depth) plan (contains_at first number plan (get_in_front first behind number plan (omega (arith, low, size)) at))
+
+  grown_to : (plan : List Rig) → Contains (levels t depth) plan → IsGrownTo t depth plan
+  grown_to plan in_them = all_contains (IsGrownTo t depth) (levels t depth) plan (levels_grown t l depth) in_them
+
+  -- ---- causes
+
+  named_first : (n : ℕ) → n < length (first ++ behind) → get_or plans n [] ≡ scenario_of t (get_or (first ++ behind) n [])
+  named_first n lt =
+      let made = length-map (first ++ behind) (scenario_of t) in
+      get_or_append_left (map (scenario_of t) (first ++ behind)) (further_known t c.given.plans (known [])) [] n (omega (arith, made, lt))
+      ∙ get_or-map (scenario_of t) (first ++ behind) n [] [] lt
+
+  among_all : All (IsCauseAmong t seed (first ++ behind)) told.growth.causes
+  among_all =
+      All-from_recursion (IsCauseAmong t seed (first ++ behind)) (map (cause_of plans) (over (cause_at t seed) (first ++ behind) 0 (length (first ++ behind))))
+      (each_is t seed plans (first ++ behind) named_first 0 (length (first ++ behind)) (omega arith))
+
+  cause_at_place : (n : ℕ) (none : CauseFacts) → n < length told.growth.causes → IsToldCause t told (slice_index_or told.growth.causes n none)
+  cause_at_place n none low =
+      let x : CauseFacts = slice_index_or told.growth.causes n none in
+      let h : IsCauseAmong t seed (first ++ behind) x = among_all n none low in
+      let plan : List Rig = slice_index_or (first ++ behind) x.number [] in
+      let at : slice_get (first ++ behind) x.number ≡ Some plan = slice_get-get_or (first ++ behind) x.number [] h.among in
+      let all = all_are t l first behind told lists in
+      let inside = h.among in
+      record {
+        told_of = omega (arith, inside, all);
+        fails = comes_at x.number plan at ∙ ap (λ (v : Verdict). Some v) h.least.0;
+        least = λ levels_low found hits left b has behaves answered.
+            let runs : run_of_plan t plan ≡ found = some_is (run_of_plan t plan) found (sym (has_behaviour t l first behind told lists x.number plan at) ∙ b) in
+            no_lesser t l depth seed x.number x.code plan found hits left (grown_to plan (in_levels x.number plan levels_low at)) runs h.least has behaves answered;
+      }
+
+  listed_cause : (n code : ℕ) (plan : List Rig) → slice_get (first ++ behind) n ≡ Some plan → IsCause t seed n code plan → Contains told.growth.causes (cause_of plans (n, code))
+  listed_cause n code plan at cause =
+      let size : n < length (first ++ behind) = slice_get_within (first ++ behind) n plan at in
+      let zero_plus : 0 + n ≡ n = omega arith in
+      let one : cause_at t seed (0 + n) plan ≡ (n, code) ∷ [] = ap (λ i. cause_at t seed i plan) zero_plus ∙ cause_here t seed n code plan cause in
+      contains_map (cause_of plans) (over (cause_at t seed) (first ++ behind) 0 (length (first ++ behind))) (n, code)
+      (in_flat (cause_at t seed) [] (first ++ behind) 0 (length (first ++ behind)) n plan (n, code) size (ap (λ i. slice_get (first ++ behind) i) zero_plus ∙ at) one)
+
+  -- faults of a plan are those of its run
+  faults_in : (plan cause : List Rig) (hits found : List Met) → IsGrownTo t depth plan → IsGrownTo t depth cause → run_of_plan t plan ≡ hits → run_of_plan t cause ≡ found
+      → AllByRecursion (Contains plan) cause → AllByRecursion (Contains (faults hits)) (faults found)
+  faults_in plan cause hits found own grew runs same among =
+      faults_among found hits
+      (subst (λ (rigs : List Rig). AllByRecursion (Contains rigs) (faults_of [] found)) (sym own.2.runs ∙ ap (faults_of []) runs)
+      (subst (λ (rigs : List Rig). AllByRecursion (Contains plan) rigs) (sym grew.2.runs ∙ ap (faults_of []) same) among))
+
+  caused_of : (number code : ℕ) (hits : List Met) → number < count_of_levels told → HasBehaviour told number hits → HasVerdict told number (Fail code)
+      → HasCause told code hits ⊎ HasUnseenCause t IsUnseen code hits
+  caused_of number code hits low b comes =
+      let of_number = get_unmapped (run_of_plan t) (first ++ behind) number hits b in
+      let plan : List Rig = of_number.0 in
+      let in_them = in_levels number plan low of_number.1 in
+      let fails : verdict_of_plan t seed number plan ≡ Fail code = some_is (verdict_of_plan t seed number plan) (Fail code) (sym (comes_at number plan of_number.1) ∙ comes) in
+      let why = has_causes t l depth seed number code plan in_them fails in
+      let s = stands_in t depth why.0 why.1 in
+      by_found plan why.0 (grown_to plan in_them) (grown_to why.0 why.1) of_number.2 why.2 why.3 (reached_or_unseen t l depth known done s.n why.0 s.le s.in_level)
+    where
+      by_found : (plan cause : List Rig) → IsGrownTo t depth plan → IsGrownTo t depth cause → run_of_plan t plan ≡ hits → AllByRecursion (Contains plan) cause
+          → ((stream : ℕ) → IsCause t seed stream code cause) → Contains first cause ⊎ BeginsUnseen t depth known (run_of_plan t cause)
+          → HasCause told code hits ⊎ HasUnseenCause t IsUnseen code hits
+      by_found plan cause own grew runs among is (inl here) =
+          let place = at_contained first cause here in
+          let n : ℕ = place.0 in
+          let at : slice_get (first ++ behind) n ≡ Some cause = get_front first behind n cause place.2 in
+          inl (record {
+            cause = cause_of plans (n, code);
+            listed = listed_cause n code cause at (is n);
+            code_is = refl;
+            among = λ found told_so.
+                faults_in plan cause hits found own grew runs (some_is (run_of_plan t cause) found (sym (has_behaviour t l first behind told lists n cause at) ∙ told_so)) among;
+          })
+      by_found plan cause own grew runs among is (inr begins) =
+          inr (record {
+            hits = run_of_plan t cause;
+            behaves = (has_acting t l grew.0 cause grew.2).0;
+            fails = sym (plan_judged t l cause grew.2.can seed 0) ∙ (is 0).0;
+            among = faults_in plan cause hits (run_of_plan t cause) own grew runs refl among;
+            unseen = begins;
+          })
+
+  -- ---- the record
+
+  pub keeps_promises : PromisesAsSeen t told (BeginsUnseen t depth known)
+  keeps_promises =
+      let counts = census_seen t seed (hits_of known []) in
+      let grew = growth_seen t seed plans depth known in
+      let verdicts : List Verdict = verdicts_from (say c) 0 plans in
+      let minimal = findings_minimal c.asks c.points seed c.given.max_hits plans (first_failures (numbered verdicts))
+      (All-from_recursion (λ s. DistinctNames s) plans (all_weaker (λ (s : Entries). IsScenario s) (λ (s : Entries). DistinctNames s) (λ s is. is.distinct_names) plans lawful))
+      (each_fails (say c) plans (first_failures (numbered verdicts)) (firsts_of verdicts)) in
+      record {
+        nothing_skipped = skipped_none;
+        all_told = all_counted t l first behind told lists;
+        nothing_twice = no_two t l first behind told lists;
+        from_then_on = onward_told;
+        whole = whole_told;
+        findings = reduced_at c c.label counts plans (Some grew) grew told.behaviours minimal;
+        found = found_of c c.label counts plans (Some grew) grew told.behaviours minimal;
+        once = once_each c c.label counts plans (Some grew) grew told.behaviours minimal;
+        causes = cause_at_place;
+        caused = caused_of;
+      }
+
+-- ---- the scenarios of each component's list
+
+pub lawful_seen : (outside : Description) (given : Given) (k : KnownList) (further list : List Entries) (all : List Verdict) (told : ToldOutcome) → IsDecided outside given k further list all told
+    → (t : Subject) → IsComponent k.answered.points k.answered.listed t → AgreesWithRuns t (told_in k.answered.book)
+    → AllByRecursion (λ s. IsScenario s) (plans_seen (campaign outside given k.depth t) k.depth (runs_in k.answered))
+lawful_seen outside given k further list all told d t is agrees =
+    let whole = d.lists_are.whole t is agrees in
+    let e : list ≡ plans_seen (campaign outside given k.depth t) k.depth (runs_in k.answered) =
+    plans_are outside given k.answered k.depth t is agrees d.low d.points list (d.plans_are ∙ whole.whole) in
+    subst (AllByRecursion (λ s. IsScenario s)) e d.lawful

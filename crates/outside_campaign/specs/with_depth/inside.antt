@@ -1,0 +1,2 @@
+-- What the code keeps. No clause that a caller sees names any of it.
+pub mod Outcomes
