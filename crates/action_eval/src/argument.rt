@@ -6,8 +6,8 @@ ghost use Rattle.action_eval.specs.RiggedScenario.{is_same_text, most_text};
 use std::marker::Model;
 use std::str;
 
-/// The most bytes that a text has.
-const MOST_TEXT: usize = 32;
+/// The most bytes that the text of a rigged hit has.
+pub const MOST_TEXT: usize = 32;
 
 /// The text with which a rigged hit fails, or none. A text is a lawful argument of at most 32 bytes. They lie in the value itself, so that faults are
 /// plain values. Contracts see the text's bytes, or that there is none.

@@ -13,8 +13,7 @@ ghost use Rattle.action_eval.specs.inside.Session.{terms_of};
 use crate::counts::push_counts;
 use crate::found::{Found, Layout, Span, first_head};
 use crate::rig::{Kind, Rig};
-use crate::terms::FULL_SHARE;
-use scenario_values::{Task, Term, Text};
+use scenario_values::{FULL_SHARE, Task, Term, Text};
 use std::alloc::{AllocError, Global};
 use std::marker::Model;
 

@@ -7,8 +7,7 @@ ghost use Rattle.action_eval.specs.Answers.{texts};
 ghost use Rattle.action_eval.specs.inside.Session.{AreSpans, IsSpan, Rest, StartsUnspent, first_head, found_of, head_of, seen_in, spanned, start_of, terms_of};
 ghost use Rattle.action_eval.specs.Trial.{is_spent};
 
-use crate::terms::FULL_SHARE;
-use scenario_values::{Scenario, Task, Term};
+use scenario_values::{FULL_SHARE, Scenario, Task, Term};
 
 /// The place of a chain among the terms of all entries: its entry, its first term, and the place after its last. Each term has a count at its place.
 /// Spent terms at the chain's head may be left out: a count never grows, so they stay spent.

@@ -16,7 +16,7 @@ mod session;
 mod terms;
 
 pub use answer::{Answer, Note, Stop};
-pub use argument::{Argument, is_same_text};
+pub use argument::{Argument, MOST_TEXT, is_same_text};
 pub use fault_table::{FaultTable, push_chain};
 pub use laws::{
     clean_until_a_fault_acts, dropped_faults_never_act, dropped_terms_never_act,
@@ -24,5 +24,5 @@ pub use laws::{
     tidied_without_a_fault, tidy_keeps_meaning,
 };
 pub use replay::{Answered, history, name_of};
-pub use rig::{Kind, Rig, Site, have_lawful_texts};
+pub use rig::{Kind, MOST_POINTS, MOST_RIGS, Rig, Site, have_lawful_texts};
 pub use session::{Session, SessionBuffers};

@@ -4,6 +4,12 @@ ghost use Rattle.action_eval.specs.RiggedScenario.{text_of, HasLawfulText, HaveL
 
 use crate::argument::Argument;
 
+/// The most points that a catalogue has.
+pub const MOST_POINTS: usize = 64;
+
+/// The most hits that are rigged in one run.
+pub const MOST_RIGS: usize = 64;
+
 /// A hit of a point.
 #[derive(Clone, Copy, Debug, PartialEq, Eq)]
 pub struct Site {

@@ -9,10 +9,7 @@ ghost use Rattle.scenario_values.specs.declared.term.Task.TheVariants.{Off};
 ghost use Rattle.scenario_values.specs.declared.term.Term.{Term};
 
 use crate::draws::Draws;
-use scenario_values::{Task, Term};
-
-/// The share of a term that acts at each hit that reaches it: a million millionths.
-pub const FULL_SHARE: u32 = 1_000_000;
+use scenario_values::{FULL_SHARE, Task, Term};
 
 /// The place of the term that acts, if one does, by what is left of the counts. Each term that draws takes its word; the word of a term with share 0
 /// isn't looked at.

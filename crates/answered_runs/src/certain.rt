@@ -4,16 +4,13 @@ ghost use Rattle.std.specs.List.{list_all};
 ghost use Rattle.scenario_values.specs.Scenario.{IsScenario};
 ghost use Rattle.answered_runs.specs.inside.Steps.{is_certain, is_sure};
 
-use scenario_values::{Scenario, Term};
-
-/// The share of a term that acts at each hit that reaches it.
-const FULL: u32 = 1000000;
+use scenario_values::{FULL_SHARE, Scenario, Term};
 
 /// Whether a term acts at each hit that reaches it, or at none.
 fn is_sure(term: &Term) -> bool
     ensures { result ≡ is_sure term.now }
 {
-    term.share == 0 || term.share == FULL
+    term.share == 0 || term.share == FULL_SHARE
 }
 
 /// Whether each of these terms does.

@@ -31,7 +31,7 @@ pub use laws::{
     ended_runs_have_a_component,
 };
 pub use lines::AnswerLines;
-pub use plans::{KnownPlans, MOST_PLANS};
+pub use plans::KnownPlans;
 pub use rigged::rigs_of_scenario;
 pub use scenarios::{plan_scenario, rigged_scenario};
 pub use table::AnsweredRuns;

@@ -10,13 +10,10 @@ use crate::table::AnsweredRuns;
 use answer_text::ToldRun;
 use grown_plans::{GrownList, Kinds};
 use grown_runs::{Look, ToldList, read_found};
-use plan_gen::PlanFault;
+use plan_gen::{MOST_PLANS, PlanFault};
 use std::alloc::{AllocError, Global};
 use std::marker::Model;
 use target_trait::Verdict;
-
-/// The most plans that a list may have.
-pub const MOST_PLANS: usize = 65536;
 
 /// The plans up to a depth that are known by answers, each with its recorded run, if there is one. Each plan was looked up once, so its run is read
 /// by its number. Contracts see the answers, the depth and the list.

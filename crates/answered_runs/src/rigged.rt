@@ -9,19 +9,10 @@ ghost use Rattle.answered_runs.specs.Rigged.{are_in_order, are_lawful, are_short
 ghost use Rattle.answered_runs.specs.inside.Steps.{Took, TookTo, return_kind};
 
 use crate::scenarios::rigged_scenario;
-use action_eval::{Argument, Kind, Rig, Site};
+use action_eval::{Argument, Kind, MOST_RIGS, MOST_TEXT, Rig, Site};
 use scenario_grammar::{is_argument, print};
-use scenario_values::{Scenario, Task, Term, Text};
+use scenario_values::{FULL_SHARE, Scenario, Task, Term, Text};
 use std::alloc::{AllocError, Global};
-
-/// The share of a term that acts at each hit that reaches it.
-const FULL: u32 = 1000000;
-
-/// The most rigged hits that a scenario is made of.
-const MOST_RIGS: usize = 64;
-
-/// The most bytes that the text of a rigged hit may have.
-const MOST_TEXT: usize = 32;
 
 /// Adds a rigged hit.
 fn push(rigs: &mut Vec<Rig>, site: Site, kind: Kind) -> Result<(), AllocError>
@@ -101,7 +92,7 @@ fn push_term(
     let Some(hit) = done.checked_add(term.count.unwrap_or(1)) else {
         return Ok(None);
     };
-    if term.share == FULL && push_task(rigs, Site { point, hit }, term.count, &term.task)? {
+    if term.share == FULL_SHARE && push_task(rigs, Site { point, hit }, term.count, &term.task)? {
         Ok(Some(hit))
     } else {
         Ok(None)

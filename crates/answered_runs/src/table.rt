@@ -12,18 +12,12 @@ ghost use Rattle.answered_runs.specs.Lines.{AreLinesOf};
 
 use crate::lines::AnswerLines;
 use crate::scenarios::plan_scenario;
-use action_eval::{Kind, Rig};
+use action_eval::{Kind, MOST_POINTS, MOST_RIGS, Rig};
 use answer_text::{MOST_HITS, Runs, Stretch, ToldRun};
 use grown_runs::{Look, RunTable};
 use scenario_values::Scenario;
 use std::alloc::{AllocError, Global};
 use std::marker::Model;
-
-/// The most faults that a plan has.
-const MOST_FAULTS: usize = 64;
-
-/// The most points that a catalogue has.
-const MOST_POINTS: u32 = 64;
 
 /// The recorded runs of a component with these points. A plan's run is the one that is recorded for the plan's scenario, tidied. Contracts see the
 /// names of the points, the kinds of faults that are listed for them, and what is recorded for each tidied scenario.
@@ -122,7 +116,7 @@ impl<'a> AnsweredRuns<'a> {
 fn is_low(stretch: &Stretch) -> bool
     ensures { result ≡ is_low stretch.now }
 {
-    stretch.point < MOST_POINTS
+    (stretch.point as usize) < MOST_POINTS
 }
 
 fn are_low(stretches: &[Stretch]) -> bool
@@ -163,7 +157,7 @@ impl<'a> RunTable for AnsweredRuns<'a> {
     ghost keeps = { plan_told };
 
     fn find(&self, faults: &[Rig]) -> Result<Option<&ToldRun>, AllocError> {
-        if faults.len() > MOST_FAULTS {
+        if faults.len() > MOST_RIGS {
             return Ok(None);
         }
         let scenario = plan_scenario(self.alloc, self.points, faults)?;

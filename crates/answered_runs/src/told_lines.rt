@@ -88,30 +88,37 @@ pub(crate) fn add_plans(
     Ok(None)
 }
 
-/// Adds the run that the line of this number records. A marked line is passed over, and so is one that can't be read, or that repeats an earlier one.
+/// A line of a text of answers.
+#[derive(Drop)]
+struct Line<'a> {
+    /// From 1.
+    number: usize,
+    text: &'a [u8],
+}
+
+/// Adds the run that a line records. A marked line is passed over, and so is one that can't be read, or that repeats an earlier one.
 fn add_line(
     alloc: Global,
     runs: &AnsweredRuns<'_>,
     names: &LineNames<'_>,
     played: &mut Played,
-    number: usize,
-    line: &[u8],
+    line: &Line<'_>,
 ) -> Result<Option<BrokenRun>, AllocError>
     requires codes { length names.now.codes.now < 2 ^ 32 }
     requires state { IsState runs.now played.old }
     requires marked { AreMarked runs.now played.old }
-    ensures { IfOk result (IsLineAdded names.now.codes.now names.now.points runs.now played.old played.new line.now number) }
+    ensures { IfOk result (IsLineAdded names.now.codes.now names.now.points runs.now played.old played.new line.now.text.now line.now.number) }
 {
-    if is_own(played.own.as_slice(), number) {
+    if is_own(played.own.as_slice(), line.number) {
         return Ok(None);
     }
-    let Some(scenario) = scenario_on(alloc, names, line)? else {
+    let Some(scenario) = scenario_on(alloc, names, line.text)? else {
         return Ok(None);
     };
     let Some(run) = runs.told(&scenario)? else {
         return Ok(None);
     };
-    if run.line as usize != number {
+    if run.line as usize != line.number {
         return Ok(None);
     }
     add_run(alloc, runs, played, scenario, run)
@@ -133,8 +140,9 @@ pub(crate) fn add_lines(
     let names = LineNames { codes, points };
     let mut number = 1;
     let mut rest = lines.text;
-    while let Some((line, after)) = cut_line(rest) {
-        if let Some(broken) = add_line(alloc, runs, &names, played, number, line)? {
+    while let Some((text, after)) = cut_line(rest) {
+        let line = Line { number, text };
+        if let Some(broken) = add_line(alloc, runs, &names, played, &line)? {
             return Ok(Some(broken));
         }
         number += 1;

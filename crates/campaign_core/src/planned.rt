@@ -14,15 +14,12 @@ use grown_plans::{
     CampaignPlans, GrownPlans, each_plan_can_be_rigged, each_target_is_a_lawful_subject,
 };
 use grown_runs::{Conditions, Grown, Limits, grow, grow_list};
-use plan_gen::{Census, PlanFault, PlanList, by_census, further_plans, plans};
+use plan_gen::{Census, MOST_PLANS, PlanFault, PlanList, by_census, further_plans, plans};
 use std::alloc::{AllocError, Global};
 use std::sync::Wait;
 use std::thread::Threads;
 use target_trait::{Target, Verdict};
 use work_gate::Gate;
-
-/// The most plans that a campaign may have.
-const MOST_PLANS: u32 = 65536;
 
 /// The lists of a campaign's plans.
 #[derive(Drop)]
@@ -52,7 +49,7 @@ fn census_of<T: Target>(alloc: Global, subject: &Subject<'_, T>) -> Result<Censu
 fn room_to_grow(settings: &CampaignSettings) -> u32
     ensures { result + settings.now.plans.storms + length settings.now.plans.listed ≡ most_plans }
 {
-    MOST_PLANS - settings.storms - settings.scenarios.len() as u32
+    MOST_PLANS as u32 - settings.storms - settings.scenarios.len() as u32
 }
 
 /// What the plans of a campaign need to grow to this depth: the target with its workload, the threads, and the limits.

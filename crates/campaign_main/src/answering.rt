@@ -324,8 +324,9 @@ fn explained(
 ///
 /// `Scenario` comes first, if the text whose run is to be explained spells no scenario. Then comes `Answers`, the first fault of the answers.
 /// `Unseen` has the line that records that run without hits. Without a depth `Census` has the line that records other numbers of hits of the run
-/// without faults than the settings say. With one `Broken` comes if a run doesn't begin like that of its plan's forerunner, or if a line contradicts the
-/// run of a plan: the component's next hit isn't a function of the answers to its earlier hits, or the answers are those of two components.
+/// without faults than the settings say. With one `Broken` comes if no component agrees with the answers: after the same answers two lines say
+/// different things, or one goes on after a pause. So the component's next hit isn't a function of the answers to its earlier hits, or the answers are
+/// those of two components.
 /// `NotAnswered` has a scenario that a report still waits for, or whose run is to be explained and isn't recorded. `TooManyPlans` comes only if more
 /// than 65536 plans are known, or, with a depth, the run without faults has at least as many hits. `Write` never comes, and any other fault means that
 /// memory was refused.

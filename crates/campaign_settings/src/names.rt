@@ -4,10 +4,8 @@ ghost use Rattle.std.specs.List.{list_all, list_any};
 ghost use Rattle.std.specs.Str.{bytes_eq};
 ghost use Rattle.campaign_given.specs.Description.{are_codes, are_distinct, are_points, has_control, is_code, is_label, is_point, is_return_text};
 
+use action_eval::MOST_TEXT;
 use scenario_grammar::{Text, is_argument, is_name};
-
-// The most bytes of a return's text.
-const MOST_TEXT: usize = 32;
 
 /// Whether a byte of the text is an ASCII control character.
 pub fn has_control(text: &str) -> bool

@@ -2,10 +2,8 @@
 ghost use Rattle.std.specs.Prelude.{[], OnOk};
 ghost use Rattle.grown_plans.specs.AskedPoints.{AreCounts};
 
+use action_eval::MOST_POINTS;
 use std::alloc::AllocError;
-
-/// The most points that a catalogue has.
-const MOST_POINTS: usize = 64;
 
 /// Puts a count of 0 for each point into the list, in place of what stood there.
 pub(crate) fn count_none(counts: &mut Vec<u32>) -> Result<(), AllocError>

@@ -38,24 +38,31 @@ pub struct Ran<'a> {
     pub verdict: Verdict,
 }
 
-/// Whether these rigged hits don't fail with a code if any one of them is left out.
+/// A run that has failed: its rigged hits, its number, and its code.
+#[derive(Drop)]
+struct Failed<'a> {
+    rigs: &'a [Rig],
+    number: u32,
+    code: u32,
+}
+
+/// Whether the rigged hits of a run that has failed don't fail with its code if any one of them is left out.
 fn is_cause<T: Target>(
     buffers: &mut RunBuffers,
     less: &mut Vec<Rig>,
     target: &mut T,
     input: &GrownRunInput<'_, T>,
-    ran: &Ran<'_>,
-    code: u32,
+    failed: &Failed<'_>,
 ) -> Result<bool, AllocError>
-    requires { CanBeRigged ran.now.rigs.now }
+    requires { CanBeRigged failed.now.rigs.now }
     ensures least { IfOk result (λ is_cause. is_cause
-        ≡ is_least (subject_on T.Target target.old input.now) input.now.limits.seed ran.now.number code ran.now.rigs.now) }
+        ≡ is_least (subject_on T.Target target.old input.now) input.now.limits.seed failed.now.number failed.now.code failed.now.rigs.now) }
     ensures setup { target.new ≡ target.old }
 {
-    for left_out in 0..ran.rigs.len() {
-        leave_out(less, ran.rigs, left_out)?;
-        let verdict = buffers.run(target, input, less.as_slice(), u64::from(ran.number))?;
-        if fails_with(code, verdict) {
+    for left_out in 0..failed.rigs.len() {
+        leave_out(less, failed.rigs, left_out)?;
+        let verdict = buffers.run(target, input, less.as_slice(), u64::from(failed.number))?;
+        if fails_with(failed.code, verdict) {
             return Ok(false);
         }
     }
@@ -80,7 +87,12 @@ pub fn cause_of<T: Target>(
     let (Purpose::Report, Verdict::Fail(code)) = (input.part.purpose, ran.verdict) else {
         return Ok(None);
     };
-    if is_cause(buffers, less, target, input, ran, code)? {
+    let failed = Failed {
+        rigs: ran.rigs,
+        number: ran.number,
+        code,
+    };
+    if is_cause(buffers, less, target, input, &failed)? {
         Ok(Some(code))
     } else {
         Ok(None)

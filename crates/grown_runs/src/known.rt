@@ -7,7 +7,7 @@ mod table;
 mod walking;
 
 pub use breaks::{Break, break_of};
-pub use growing::{ToldList, Workspace, known_plans};
+pub use growing::{ToldList, known_plans};
 pub use laws::{
     each_plan_is_to_be_run_once, known_runs_tell_others, lawful_runs_never_break,
     nothing_is_skipped_as_far_as_seen, nothing_to_run_is_the_whole_list,

@@ -16,7 +16,7 @@ mod ranges;
 pub use causes::{fails_with, leave_out};
 pub use input::Limits;
 pub use known::{
-    Break, Look, RunTable, ToldList, Workspace, break_of, each_plan_is_to_be_run_once, known_plans,
+    Break, Look, RunTable, ToldList, break_of, each_plan_is_to_be_run_once, known_plans,
     known_runs_tell_others, lawful_runs_never_break, look_up, nothing_is_skipped_as_far_as_seen,
     nothing_to_run_is_the_whole_list, plan_of, read_found, verdict_of,
 };

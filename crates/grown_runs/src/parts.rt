@@ -10,7 +10,7 @@ use crate::grower::Grower;
 use crate::growth::Workspace;
 use crate::input::{GrownRunInput, Limits, Part};
 use crate::kept::Growth;
-use crate::ranges::ranges_in_order;
+use crate::ranges::{RangeGate, ranges_in_order};
 use grown_plans::{GrownPlans, Kinds};
 use std::alloc::{AllocError, Global};
 use std::sync::Wait;
@@ -86,9 +86,13 @@ where
     };
     let alloc = on.alloc;
     let jobs = growers(alloc, on.gate, on.target, &input)?;
-    let count = (end - first) as u32;
-    on.gate.expect(stage, count);
-    let ranges = ranges_in_order(on.rt, alloc, on.gate, jobs, first as u32, count)?;
+    let gate = RangeGate {
+        gate: on.gate,
+        first: first as u32,
+        plans: (end - first) as u32,
+    };
+    gate.expect(stage, gate.plans);
+    let ranges = ranges_in_order(on.rt, alloc, &gate, jobs)?;
     let mut whole = Growth::none(alloc, T::catalogue().len())?;
     for growth in ranges {
         whole.absorb(growth)?;

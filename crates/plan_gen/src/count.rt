@@ -4,7 +4,7 @@ ghost use Rattle.plan_gen.specs.inside.Counts.{pairs_count};
 ghost use Rattle.plan_gen.specs.PlanList.{most_plans};
 
 /// The most plans that a list has.
-const MOST_PLANS: u64 = 65536;
+pub const MOST_PLANS: usize = 65536;
 
 /// How many pairs this many sites make.
 fn pair_count(sites: u64) -> u64
@@ -24,14 +24,15 @@ pub fn plan_count(sites: u64, pairs: bool, storms: u32, listed: usize) -> Option
     ensures small { IfSome result (λ count. count ≤ most_plans) }
     ensures many { IfNone result (most_plans < 1 + 3 * sites + (if pairs then 2 * pairs_count sites else 0) + storms + listed) }
 {
-    if sites > MOST_PLANS {
+    let most = MOST_PLANS as u64;
+    if sites > most {
         return None;
     }
     let mut made = 1 + 3 * sites + u64::from(storms);
     if pairs {
         made += 2 * pair_count(sites);
     }
-    if made > MOST_PLANS || listed as u64 > MOST_PLANS - made {
+    if made > most || listed as u64 > most - made {
         return None;
     }
     Some(made + listed as u64)
@@ -42,9 +43,8 @@ pub fn are_few(before: usize, storms: u32, listed: usize) -> bool
     ensures few { result ≡ true → before + storms + listed ≤ most_plans }
     ensures many { result ≡ false → most_plans < before + storms + listed }
 {
-    let most = MOST_PLANS as usize;
-    if before > most || listed > most - before {
+    if before > MOST_PLANS || listed > MOST_PLANS - before {
         return false;
     }
-    storms as usize <= most - before - listed
+    storms as usize <= MOST_PLANS - before - listed
 }

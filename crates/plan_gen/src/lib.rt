@@ -19,6 +19,7 @@ mod sites;
 mod storms;
 
 pub use census::{Census, by_census, counts_of};
+pub use count::MOST_PLANS;
 pub use further::further_plans;
 pub use laws::{hits_are_answered_as_rigged, plans_rig_hits_in_order};
 pub use list::{PlanFault, PlanList, plans};

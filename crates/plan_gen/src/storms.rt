@@ -6,14 +6,11 @@ ghost use Rattle.plan_gen.specs.PlanList.{most_plans, storm_kind, storm};
 ghost use Rattle.action_eval.specs.RiggedScenario.{rig, most_rigs, HasLawfulText, HaveLawfulTexts};
 
 use crate::packed::PackedSite;
-use action_eval::{Argument, Kind, Rig};
+use action_eval::{Argument, Kind, MOST_RIGS, Rig};
 use rand_chacha::ChaCha8Rng;
 use rand_core::SeedableRng;
 use rand_core::utils::NextWord;
 use std::alloc::AllocError;
-
-/// The most sites that a storm takes.
-const MOST_SITES: usize = 64;
 
 /// The stream number of the first storm's words. The numbers from 0 on are those under which plans run.
 const FIRST_STREAM: u64 = 4_294_967_296;
@@ -61,7 +58,7 @@ fn add_taken(rigs: &mut Vec<Rig>, word: u32, site: PackedSite)
     ensures small { AllByRecursion (λ r. r.site.hit < 2 ^ 32) rigs.old.items → AllByRecursion (λ r. r.site.hit < 2 ^ 32) rigs.new.items }
     ensures texts { HaveLawfulTexts rigs.old.items → HaveLawfulTexts rigs.new.items }
 {
-    if rigs.len() < MOST_SITES {
+    if rigs.len() < MOST_RIGS {
         rigs.push_reserved(site.rig(storm_kind(word)));
     }
 }
@@ -101,7 +98,7 @@ pub fn storm(
     ensures err { OnErr result (rigs.new.items ≡ []) }
 {
     rigs.clear();
-    rigs.reserve(MOST_SITES)?;
+    rigs.reserve(MOST_RIGS)?;
     let mut rng = generator(seed, FIRST_STREAM + u64::from(number));
     for site in sites {
         draw(rigs, rate, rng.next_word(), site);

@@ -27,6 +27,6 @@ pub use laws::{
 pub use numbering::faults;
 pub use place::Place;
 pub use scenario::Scenario;
-pub use term::{Task, Term, is_off};
+pub use term::{FULL_SHARE, Task, Term, is_off};
 pub use text::Text;
 pub use tidying::tidy;

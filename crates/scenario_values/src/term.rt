@@ -27,6 +27,9 @@ pub enum Task {
     Delay(u32),
 }
 
+/// The share of a term that acts at each hit that reaches it: a million millionths.
+pub const FULL_SHARE: u32 = 1_000_000;
+
 /// How often a term acts, how many times, and what it does then.
 #[derive(Clone, Debug, Drop, PartialEq, Eq)]
 pub struct Term {

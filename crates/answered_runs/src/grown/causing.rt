@@ -1,14 +1,15 @@
 //! Which plans are causes.
-ghost use Rattle.std.specs.Prelude.{◌≡◌, ◌<◌, ◌≤◌, ◌++◌, ◌+◌, ◌∷◌, [], length, map, slice_index_or, slice_range, if◌then◌else◌, IfOk, OnOk};
+ghost use Rattle.std.specs.Prelude.{◌≡◌, ◌<◌, ◌≤◌, ◌++◌, ◌∷◌, [], length, map, slice_index_or, if◌then◌else◌, IfOk, OnOk};
 ghost use Rattle.answer_text.specs.Runs.{told_in};
 ghost use Rattle.grown_plans.specs.GrownPlans.{Subject, rigs_of};
 ghost use Rattle.grown_plans.specs.Promises.{lesser};
 ghost use Rattle.answered_runs.specs.Components.{AgreesWithRuns, IsComponent};
 ghost use Rattle.answered_runs.specs.grown.Causes.{AreAmong, AreCauses, AreCausesOf, AreVerdictsFrom, cause_known, is_failure, known_causes, one_fails, open_of, open_scenarios, rigged_in, unknown, verdicts_in};
 
-use crate::{AnsweredRuns, KnownPlans, rigged_scenario};
+use crate::{KnownPlans, rigged_scenario};
 use action_eval::Rig;
 use grown_plans::rigs_of;
+use grown_runs::leave_out;
 use scenario_values::{Scenario, tidy};
 use std::alloc::{AllocError, Global};
 use target_trait::Verdict;
@@ -22,11 +23,14 @@ pub enum Causes {
     Open(Vec<Scenario>),
 }
 
-/// The causes among the plans so far, and the scenarios whose verdicts have yet to decide.
+/// The causes among the plans so far, the scenarios whose verdicts have yet to decide, and lists in which a plan's rigged hits are made.
 #[derive(Drop)]
-struct Found {
+struct Search {
     causes: Vec<(u32, u32)>,
     waiting: Vec<Scenario>,
+    faults: Vec<Rig>,
+    ordered: Vec<Rig>,
+    rigs: Vec<Rig>,
 }
 
 /// Whether a verdict is known to be a failure with this code.
@@ -42,53 +46,44 @@ fn is_failure(verdict: Option<Verdict>, code: u32) -> bool
 /// The verdict of rigged hits, if it is known. If it isn't, their tidied scenario is added.
 fn verdict_or_open(
     alloc: Global,
-    runs: &AnsweredRuns<'_>,
-    depth: u32,
+    known: &KnownPlans<'_>,
     rigs: &[Rig],
     waiting: &mut Vec<Scenario>,
 ) -> Result<Option<Verdict>, AllocError>
     requires { length rigs.now ≤ 64 }
-    ensures verdict { IfOk result (λ verdict. verdict ≡ verdicts_in runs.now depth rigs.now) }
-    ensures waiting { OnOk result (waiting.new.items ≡ waiting.old.items ++ map (rigged_in runs.now) (unknown (verdicts_in runs.now depth) (rigs.now ∷ []))) }
+    ensures verdict { IfOk result (λ verdict. verdict ≡ verdicts_in known.now.answered known.now.depth rigs.now) }
+    ensures waiting { OnOk result (waiting.new.items ≡ waiting.old.items ++ map (rigged_in known.now.answered)
+        (unknown (verdicts_in known.now.answered known.now.depth) (rigs.now ∷ []))) }
 {
+    let runs = known.runs();
     let scenario = rigged_scenario(alloc, runs.points(), rigs)?;
-    let verdict = runs.verdict_of(alloc, depth, &scenario)?;
+    let verdict = runs.verdict_of(alloc, known.depth(), &scenario)?;
     if verdict.is_none() {
         waiting.push(tidy(alloc, &scenario)?)?;
     }
     Ok(verdict)
 }
 
-/// Puts all of these rigged hits except one into the list, in place of what stood there.
-fn leave_out(less: &mut Vec<Rig>, rigs: &[Rig], left_out: usize) -> Result<(), AllocError>
-    requires { left_out < length rigs.now }
-    ensures { OnOk result (less.new.items ≡ slice_range rigs.now 0 left_out ++ slice_range rigs.now (left_out + 1) (length rigs.now)) }
-{
-    less.clear();
-    less.extend_from_slice(&rigs[..left_out])?;
-    less.extend_from_slice(&rigs[left_out + 1..])
-}
-
 /// Whether these rigged hits without one of them are known to fail with this code, whichever is left out. If no such failure is known, the scenarios
 /// with one left out whose verdicts aren't known are added.
 fn one_fails(
     alloc: Global,
-    runs: &AnsweredRuns<'_>,
-    depth: u32,
+    known: &KnownPlans<'_>,
     rigs: &[Rig],
     code: u32,
     waiting: &mut Vec<Scenario>,
 ) -> Result<bool, AllocError>
     requires { length rigs.now ≤ 64 }
-    ensures fails { IfOk result (λ fails. fails ≡ one_fails (verdicts_in runs.now depth) code (lesser rigs.now)) }
-    ensures waiting { OnOk result (waiting.new.items ≡ waiting.old.items ++ map (rigged_in runs.now)
-        (if one_fails (verdicts_in runs.now depth) code (lesser rigs.now) then [] else unknown (verdicts_in runs.now depth) (lesser rigs.now))) }
+    ensures fails { IfOk result (λ fails. fails ≡ one_fails (verdicts_in known.now.answered known.now.depth) code (lesser rigs.now)) }
+    ensures waiting { OnOk result (waiting.new.items ≡ waiting.old.items ++ map (rigged_in known.now.answered)
+        (if one_fails (verdicts_in known.now.answered known.now.depth) code (lesser rigs.now) then []
+        else unknown (verdicts_in known.now.answered known.now.depth) (lesser rigs.now))) }
 {
     let before = waiting.len();
     let mut less = Vec::new(alloc);
     for left_out in 0..rigs.len() {
         leave_out(&mut less, rigs, left_out)?;
-        let verdict = verdict_or_open(alloc, runs, depth, less.as_slice(), waiting)?;
+        let verdict = verdict_or_open(alloc, known, less.as_slice(), waiting)?;
         if is_failure(verdict, code) {
             waiting.truncate(before);
             return Ok(true);
@@ -97,46 +92,40 @@ fn one_fails(
     Ok(false)
 }
 
-/// The lists in which a plan's rigged hits are made.
-#[derive(Drop)]
-struct RigLists {
-    faults: Vec<Rig>,
-    ordered: Vec<Rig>,
-    rigs: Vec<Rig>,
-}
-
 /// Adds the plan of this number if it is a cause, or else the scenarios that have to decide that. `verdict` is the plan's, if it is known.
 fn note(
     alloc: Global,
     known: &KnownPlans<'_>,
     number: usize,
     verdict: Option<Verdict>,
-    lists: &mut RigLists,
-    found: &mut Found,
+    search: &mut Search,
 ) -> Result<(), AllocError>
     requires within { number < length known.now.list.plans }
     requires verdict { verdict ≡ verdicts_in known.now.answered known.now.depth (rigs_of (slice_index_or known.now.list.plans number [])) }
-    ensures causes { OnOk result (found.new.causes.items ≡ found.old.causes.items
+    ensures causes { OnOk result (search.new.causes.items ≡ search.old.causes.items
         ++ cause_known (verdicts_in known.now.answered known.now.depth) number (slice_index_or known.now.list.plans number [])) }
-    ensures waiting { OnOk result (found.new.waiting.items ≡ found.old.waiting.items
+    ensures waiting { OnOk result (search.new.waiting.items ≡ search.old.waiting.items
         ++ map (rigged_in known.now.answered) (open_of (verdicts_in known.now.answered known.now.depth) (slice_index_or known.now.list.plans number []))) }
 {
     if let Some(Verdict::Pass | Verdict::Unresolved) = verdict {
         return Ok(());
     }
-    let runs = known.runs();
-    known.list().plans.faults_of(number, &mut lists.faults)?;
-    rigs_of(&mut lists.rigs, &mut lists.ordered, lists.faults.as_slice())?;
-    let rigs = lists.rigs.as_slice();
-    let waiting = &mut found.waiting;
+    known.list().plans.faults_of(number, &mut search.faults)?;
+    rigs_of(
+        &mut search.rigs,
+        &mut search.ordered,
+        search.faults.as_slice(),
+    )?;
+    let rigs = search.rigs.as_slice();
+    let waiting = &mut search.waiting;
     match verdict {
         Some(Verdict::Fail(code)) => {
-            if !one_fails(alloc, runs, known.depth(), rigs, code, waiting)? {
-                found.causes.push((number as u32, code))?;
+            if !one_fails(alloc, known, rigs, code, waiting)? {
+                search.causes.push((number as u32, code))?;
             }
         }
         Some(Verdict::Pass | Verdict::Unresolved) | None => {
-            let scenario = rigged_scenario(alloc, runs.points(), rigs)?;
+            let scenario = rigged_scenario(alloc, known.runs().points(), rigs)?;
             waiting.push(tidy(alloc, &scenario)?)?;
         }
     }
@@ -148,32 +137,23 @@ fn find_all(
     alloc: Global,
     known: &KnownPlans<'_>,
     verdicts: &[Option<Verdict>],
-) -> Result<Found, AllocError>
+) -> Result<Search, AllocError>
     requires { AreVerdictsFrom known.now.answered known.now.depth known.now.list.plans verdicts.now }
-    ensures causes { IfOk result (λ found. found.causes.items
+    ensures causes { IfOk result (λ search. search.causes.items
         ≡ known_causes (verdicts_in known.now.answered known.now.depth) known.now.list.plans) }
-    ensures waiting { IfOk result (λ found. found.waiting.items ≡ open_scenarios known.now.answered known.now.depth known.now.list.plans) }
+    ensures waiting { IfOk result (λ search. search.waiting.items ≡ open_scenarios known.now.answered known.now.depth known.now.list.plans) }
 {
-    let mut found = Found {
+    let mut search = Search {
         causes: Vec::new(alloc),
         waiting: Vec::new(alloc),
-    };
-    let mut lists = RigLists {
         faults: Vec::new(alloc),
         ordered: Vec::new(alloc),
         rigs: Vec::new(alloc),
     };
     for number in 0..known.list().plans.len() {
-        note(
-            alloc,
-            known,
-            number,
-            verdicts[number],
-            &mut lists,
-            &mut found,
-        )?;
+        note(alloc, known, number, verdicts[number], &mut search)?;
     }
-    Ok(found)
+    Ok(search)
 }
 
 /// Which of the known plans are causes. A cause fails with a code, and without any one of its rigged hits it doesn't fail with this code. The
@@ -197,7 +177,11 @@ pub fn known_causes(
         → AgreesWithRuns t (told_in known.now.answered.book) → AreCausesOf t known.now.list.plans causes) }
 {
     let _ = known.list();
-    let Found { causes, waiting } = find_all(alloc, known, verdicts)?;
+    let Search {
+        causes,
+        waiting,
+        ..
+    } = find_all(alloc, known, verdicts)?;
     if waiting.is_empty() {
         Ok(Causes::Told(causes))
     } else {

@@ -9,9 +9,9 @@ ghost use Rattle.answer_text.specs.Runs.{told_in};
 ghost use Rattle.answered_runs.specs.Components.{AgreesWithRuns, IsComponent};
 ghost use Rattle.answered_runs.specs.grown.Further.{AreTooMany, HasFewHits, census_told, clean_hits, clean_run, further_known, further_told};
 
-use crate::{AnsweredRuns, MOST_PLANS};
+use crate::AnsweredRuns;
 use grown_runs::{Look, look_up};
-use plan_gen::{Census, PlanFault, PlanList, PlanSettings, counts_of};
+use plan_gen::{Census, MOST_PLANS, PlanFault, PlanList, PlanSettings, counts_of};
 use scenario_values::Scenario;
 use std::alloc::{AllocError, Global};
 

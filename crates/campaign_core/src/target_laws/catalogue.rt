@@ -4,12 +4,11 @@ ghost use Rattle.action_eval.specs.Answers.{texts};
 ghost use Rattle.action_eval.specs.Catalogue.{IsCatalogue};
 ghost use Rattle.campaign_core.specs.target_laws.inside.Names.{IsLawfulAt, IsNewAt};
 
+use action_eval::MOST_POINTS;
 use scenario_grammar::is_name;
 use std::fmt;
 
-/// The most points of a catalogue, and the most bytes of a name.
-const MOST_POINTS: usize = 64;
-
+/// The most bytes of a name.
 const MOST_BYTES: usize = 200;
 
 /// What is wrong with a catalogue.

@@ -12,12 +12,19 @@ ghost use Rattle.grown_runs.specs.known.Walks.{do_alike, first_acting, if_alike,
 ghost use Rattle.grown_runs.specs.known.inside.Grown.{again_told};
 ghost use Rattle.grown_runs.specs.known.inside.WalkSteps.{CameTo, IsOnward, IsStep, grew_at};
 
-use crate::known::growing::Workspace;
 use crate::known::table::{Look, RunTable, look_up};
 use action_eval::{Kind, Rig, Site, is_same_text};
 use grown_plans::{Child, Kinds, add_children};
 use std::alloc::{AllocError, Global};
 use target_trait::Verdict;
+
+/// The lists in which a walk works. What stands in them before a step makes no difference to it.
+#[derive(Drop)]
+struct Lists {
+    hits: Vec<u32>,
+    counts: Vec<u32>,
+    children: Vec<Child>,
+}
 
 /// What follows the plan that a walk has come to.
 #[derive(Clone, Copy, Debug)]
@@ -99,17 +106,16 @@ fn next_step<T: RunTable>(
     table: &T,
     rigs: &[Rig],
     plan: &[Rig],
-    workspace: &mut Workspace,
-    children: &mut Vec<Child>,
+    lists: &mut Lists,
 ) -> Result<Step, AllocError>
     ensures { IfOk result (IsStep (T.known table.now) rigs.now plan.now) }
 {
-    match look_up(table, plan, &mut workspace.hits)? {
+    match look_up(table, plan, &mut lists.hits)? {
         Look::Unknown | Look::Unseen(_) => Ok(Step::Unknown),
         Look::Seen(verdict) => {
-            let hits = workspace.hits.as_slice();
-            put_children(children, &mut workspace.counts, plan, hits)?;
-            match first_acting(rigs, children.as_slice()) {
+            let hits = lists.hits.as_slice();
+            put_children(&mut lists.children, &mut lists.counts, plan, hits)?;
+            match first_acting(rigs, lists.children.as_slice()) {
                 Some(fault) => Ok(Step::Acts(fault)),
                 None => Ok(Step::Ends(verdict)),
             }
@@ -177,18 +183,17 @@ fn verdict_alike<T: RunTable>(
     table: &T,
     rigs: &[Rig],
     plan: &[Rig],
-    workspace: &mut Workspace,
-    children: &mut Vec<Child>,
+    lists: &mut Lists,
 ) -> Result<Option<Verdict>, AllocError>
     ensures { IfOk result (CameTo (T.known table.now) (if_alike rigs.now plan.now (hits_of (T.known table.now) plan.now)) plan.now) }
 {
-    let Look::Seen(verdict) = look_up(table, plan, &mut workspace.hits)? else {
+    let Look::Seen(verdict) = look_up(table, plan, &mut lists.hits)? else {
         return Ok(None);
     };
     // children at each hit, as none of them is past a fault of the plan without faults
-    let hits = workspace.hits.as_slice();
-    put_children(children, &mut workspace.counts, &[], hits)?;
-    if do_alike(rigs, plan, children.as_slice()) {
+    let hits = lists.hits.as_slice();
+    put_children(&mut lists.children, &mut lists.counts, &[], hits)?;
+    if do_alike(rigs, plan, lists.children.as_slice()) {
         Ok(Some(verdict))
     } else {
         Ok(None)
@@ -199,16 +204,15 @@ fn verdict_alike<T: RunTable>(
 fn is_asked_again<T: RunTable>(
     table: &T,
     plan: &[Rig],
-    workspace: &mut Workspace,
-    children: &mut Vec<Child>,
+    lists: &mut Lists,
 ) -> Result<bool, AllocError>
     ensures { IfOk result (λ is_again. is_again ≡ again_told plan.now (hits_of (T.known table.now) plan.now)) }
 {
-    let Look::Seen(_) = look_up(table, plan, &mut workspace.hits)? else {
+    let Look::Seen(_) = look_up(table, plan, &mut lists.hits)? else {
         return Ok(false);
     };
-    let hits = workspace.hits.as_slice();
-    put_children(children, &mut workspace.counts, plan, hits)
+    let hits = lists.hits.as_slice();
+    put_children(&mut lists.children, &mut lists.counts, plan, hits)
 }
 
 /// Puts a plan into the list with its last fault as a sticky fault, in place of what stood there. Returns false, and puts nothing, if that fault
@@ -217,8 +221,7 @@ fn put_onward<T: RunTable>(
     table: &T,
     plan: &[Rig],
     onward: &mut Vec<Rig>,
-    workspace: &mut Workspace,
-    children: &mut Vec<Child>,
+    lists: &mut Lists,
 ) -> Result<bool, AllocError>
     ensures { IfOk result (IsOnward (onward_told plan.now (hits_of (T.known table.now) plan.now)) onward.new.items) }
 {
@@ -228,7 +231,7 @@ fn put_onward<T: RunTable>(
     if !matches!(last.kind, Kind::OnceReturn(_)) {
         return Ok(false);
     }
-    if !is_asked_again(table, plan, workspace, children)? {
+    if !is_asked_again(table, plan, lists)? {
         return Ok(false);
     }
     onward.clear();
@@ -246,16 +249,15 @@ fn go_onward<T: RunTable>(
     table: &T,
     rigs: &[Rig],
     plan: &mut Vec<Rig>,
-    workspace: &mut Workspace,
-    children: &mut Vec<Child>,
+    lists: &mut Lists,
 ) -> Result<Option<Verdict>, AllocError>
     ensures { IfOk result (CameTo (T.known table.now) (onward_walked (T.known table.now) rigs.now plan.old.items) plan.new.items) }
 {
     let mut onward = Vec::new(alloc);
-    if !put_onward(table, plan.as_slice(), &mut onward, workspace, children)? {
+    if !put_onward(table, plan.as_slice(), &mut onward, lists)? {
         return Ok(None);
     }
-    let verdict = verdict_alike(table, rigs, onward.as_slice(), workspace, children)?;
+    let verdict = verdict_alike(table, rigs, onward.as_slice(), lists)?;
     *plan = onward;
     Ok(verdict)
 }
@@ -266,15 +268,14 @@ fn end_walk<T: RunTable>(
     table: &T,
     rigs: &[Rig],
     plan: &mut Vec<Rig>,
-    workspace: &mut Workspace,
-    children: &mut Vec<Child>,
+    lists: &mut Lists,
 ) -> Result<Option<Verdict>, AllocError>
     ensures { IfOk result (CameTo (T.known table.now) (walk_from (T.known table.now) rigs.now 0 plan.old.items) plan.new.items) }
 {
-    match next_step(table, rigs, plan.as_slice(), workspace, children)? {
+    match next_step(table, rigs, plan.as_slice(), lists)? {
         Step::Unknown => Ok(None),
         Step::Ends(verdict) => Ok(Some(verdict)),
-        Step::Acts(_) => go_onward(alloc, table, rigs, plan, workspace, children),
+        Step::Acts(_) => go_onward(alloc, table, rigs, plan, lists),
     }
 }
 
@@ -291,16 +292,19 @@ fn walk<T: RunTable>(
     ensures { IfOk result (CameTo (T.known table.now) (walk (T.known table.now) rigs.now depth) plan.new.items) }
 {
     plan.clear();
-    let mut workspace = Workspace::new(alloc);
-    let mut children = Vec::new(alloc);
+    let mut lists = Lists {
+        hits: Vec::new(alloc),
+        counts: Vec::new(alloc),
+        children: Vec::new(alloc),
+    };
     for _ in 0..depth {
-        match next_step(table, rigs, plan.as_slice(), &mut workspace, &mut children)? {
+        match next_step(table, rigs, plan.as_slice(), &mut lists)? {
             Step::Unknown => return Ok(None),
             Step::Ends(verdict) => return Ok(Some(verdict)),
             Step::Acts(fault) => put_first(plan, fault)?,
         }
     }
-    end_walk(alloc, table, rigs, plan, &mut workspace, &mut children)
+    end_walk(alloc, table, rigs, plan, &mut lists)
 }
 
 /// The plan whose run rigged hits have, which are in order, if recorded runs lead to it with at most `depth` faults. It is the plan at which a walk

@@ -6,34 +6,34 @@ use Rattle.answered_runs.proofs.LineReading.{low_number}
 use Rattle.answered_runs.proofs.PlayedRuns.{Lines, all_lines, first_line, line_more}
 use Rattle.answered_runs.proofs.told_lines.add_lines.Goals as goal
 
-pub loop-line-init : goal.loop-line-init
-loop-line-init c =
+pub loop-text-init : goal.loop-text-init
+loop-text-init c =
     let a : Answered = c.args.runs.now in
     let lines = c.lines-lines.result in
     let short : length lines.text.now < 2 ^ 63 = search rules in
     subst (λ (points : List (List ℕ)). Lines lines.codes.now points a c.args.played.now lines.text.now 1) (sym c.in_ok-points.ensures)
     (first_line lines.codes.now lines.points.now lines.text.now a c.args.played.now c.lines-lines.ensures.of short c.requires.state c.requires.marked)
 
-pub loop-line-smaller : goal.loop-line-smaller
-loop-line-smaller c = shorter c.loop-line.rest.now c.in-Some.line.now c.in-Some.after.now (sym c.in-Some.ensures)
+pub loop-text-smaller : goal.loop-text-smaller
+loop-text-smaller c = shorter c.loop-text.rest.now c.in-Some.text.now c.in-Some.after.now (sym c.in-Some.ensures)
 
 pub overflow_add-number : goal.overflow_add-number
 overflow_add-number c =
-    let l = c.loop-line.invariant in
-    let low = low_number _ _ l.text l.short c.loop-line.rest.now c.in-Some.line.now c.in-Some.after.now c.loop-line.number (sym c.in-Some.ensures) l.at in
+    let l = c.loop-text.invariant in
+    let low = low_number _ _ l.text l.short c.loop-text.rest.now c.in-Some.text.now c.in-Some.after.now c.loop-text.number (sym c.in-Some.ensures) l.at in
     omega (arith, low)
 
 pub add_line-requires-clause-state : goal.add_line-requires-clause-state
-add_line-requires-clause-state c = c.loop-line.invariant.state
+add_line-requires-clause-state c = c.loop-text.invariant.state
 
 pub add_line-requires-clause-marked : goal.add_line-requires-clause-marked
-add_line-requires-clause-marked c = c.loop-line.invariant.marked
+add_line-requires-clause-marked c = c.loop-text.invariant.marked
 
-pub loop-line-preserved : goal.loop-line-preserved
-loop-line-preserved c =
-    let l = c.loop-line.invariant in
-    line_more _ _ c.args.runs.now c.loop-line.played c.add_line.new.played c.loop-line.rest.now c.in-Some.line.now c.in-Some.after.now c.loop-line.number (sym c.in-Some.ensures) l
-    (subst (IsLineAdded _ _ c.args.runs.now c.loop-line.played c.add_line.new.played c.in-Some.line.now c.loop-line.number) c.in_default-2.is c.in_ok-broken.ensures)
+pub loop-text-preserved : goal.loop-text-preserved
+loop-text-preserved c =
+    let l = c.loop-text.invariant in
+    line_more _ _ c.args.runs.now c.loop-text.played c.add_line.new.played c.loop-text.rest.now c.in-Some.text.now c.in-Some.after.now c.loop-text.number (sym c.in-Some.ensures) l
+    (subst (IsLineAdded _ _ c.args.runs.now c.loop-text.played c.add_line.new.played c.in-Some.text.now c.loop-text.number) c.in_default-2.is c.in_ok-broken.ensures)
 
 pub returns : goal.returns
-returns c = all_lines _ _ c.args.runs.now c.loop-line.played c.loop-line.rest.now c.loop-line.number (sym c.in_default.ensures) c.loop-line.invariant
+returns c = all_lines _ _ c.args.runs.now c.loop-text.played c.loop-text.rest.now c.loop-text.number (sym c.in_default.ensures) c.loop-text.invariant

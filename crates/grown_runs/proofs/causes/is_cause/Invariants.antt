@@ -7,5 +7,5 @@ use Rattle.grown_runs.proofs.causes.is_cause.Given as goal
 abbrev pub invariant-loop-left_out : goal.invariant-loop-left_out
 invariant-loop-left_out g l = record {
   setup : l.target ≡ l.fn.target;
-  fine : AreFine (λ less. not (fails_with l.code (told_of_rigs (subject_on g.T.Target l.fn.target l.input) l.input.limits.seed l.ran.number less).verdict)) l.ran.rigs.now l.left_out;
+  fine : AreFine (λ less. not (fails_with l.failed.code (told_of_rigs (subject_on g.T.Target l.fn.target l.input) l.input.limits.seed l.failed.number less).verdict)) l.failed.rigs.now l.left_out;
 }
