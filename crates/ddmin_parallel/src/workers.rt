@@ -29,9 +29,10 @@ struct CountedBoard {
     requests: u32,
 }
 
-/// What the workers share: the board under a lock, and the condition by which a waiting worker is woken.
+/// What the workers share: the gate, the board under a lock, and the condition by which a waiting worker is woken.
 #[derive(Drop)]
-struct Shared {
+struct Shared<'a, G> {
+    gate: &'a G,
     counted: Mutex<CountedBoard>,
     moved: Condvar,
 }
@@ -66,11 +67,12 @@ impl CountedBoard {
     }
 }
 
-impl Shared {
-    fn start(alloc: Global, faults: u32) -> Shared
+impl<'a, G: Gate> Shared<'a, G> {
+    fn start(alloc: Global, gate: &'a G, faults: u32) -> Self
         requires { faults ≤ 4096 }
     {
         Shared {
+            gate,
             counted: Mutex::new(CountedBoard {
                 board: Board::start(alloc, faults),
                 moves: 0,
@@ -137,8 +139,7 @@ fn asked<P: Probe, G: Gate>(
 fn turn<R: Wait, P: Probe, G: Gate>(
     rt: &R,
     alloc: Global,
-    gate: &G,
-    shared: &Shared,
+    shared: &Shared<'_, G>,
     probe: &mut P,
     told: &mut Answered,
 ) -> bool
@@ -151,7 +152,7 @@ fn turn<R: Wait, P: Probe, G: Gate>(
     let Some((request, number)) = shared.next_request(rt, alloc) else {
         return false;
     };
-    match asked(alloc, gate, probe, &request, number) {
+    match asked(alloc, shared.gate, probe, &request, number) {
         Ok((set, fails)) => {
             told.push_reserved((set, fails));
             shared.put(rt, alloc, request, fails)
@@ -167,8 +168,7 @@ fn turn<R: Wait, P: Probe, G: Gate>(
 fn work<R: Wait, P: Probe, G: Gate>(
     rt: &R,
     alloc: Global,
-    gate: &G,
-    shared: &Shared,
+    shared: &Shared<'_, G>,
     probe: P,
 ) -> (P, Answered)
     ensures setup { P.answers result.0 ≡ P.answers probe }
@@ -177,7 +177,7 @@ fn work<R: Wait, P: Probe, G: Gate>(
     let mut probe = probe;
     let mut told = Vec::new(alloc);
     for _ in rt.forever() {
-        if !turn(rt, alloc, gate, shared, &mut probe, &mut told) {
+        if !turn(rt, alloc, shared, &mut probe, &mut told) {
             break;
         }
     }
@@ -191,8 +191,7 @@ fn work<R: Wait, P: Probe, G: Gate>(
 fn told_apart<R: Threads + Wait + Sync, P: Probe, G: Gate>(
     rt: &R,
     alloc: Global,
-    gate: &G,
-    shared: &Shared,
+    shared: &Shared<'_, G>,
     mut workers: Vec<P>,
 ) -> Result<Vec<(P, Answered)>, AllocError>
     ensures { IfOk result (λ all. AreBack P.answers workers.items all.items) }
@@ -207,12 +206,12 @@ fn told_apart<R: Threads + Wait + Sync, P: Probe, G: Gate>(
             ensures { (P.answers result.0 ≡ P.answers probe) × AreAnswers (P.answers probe) result.1.items }
         {
             thread::yield_now();
-            work(rt, alloc, gate, shared, probe)
+            work(rt, alloc, shared, probe)
         },
         move || -> Result<Vec<(P, Answered)>, AllocError>
             requires { IsSync R.row × IsSync G.row × IsSend P.row }
             ensures { IfOk result (λ all. AreBack P.answers workers.items all.items) }
-        { told_apart(rt, alloc, gate, shared, workers) },
+        { told_apart(rt, alloc, shared, workers) },
     );
     let mut all = others?;
     all.push(told)?;
@@ -223,24 +222,23 @@ fn told_apart<R: Threads + Wait + Sync, P: Probe, G: Gate>(
 fn all_told<R: Threads + Wait + Sync, P: Probe, G: Gate>(
     rt: &R,
     alloc: Global,
-    gate: &G,
-    shared: &Shared,
+    shared: &Shared<'_, G>,
     mut workers: Vec<P>,
 ) -> Result<Vec<(P, Answered)>, AllocError>
     ensures { IfOk result (λ all. AreBack P.answers workers.items all.items) }
 {
     if workers.len() > 1 {
-        return told_apart(rt, alloc, gate, shared, workers);
+        return told_apart(rt, alloc, shared, workers);
     }
     let mut all = Vec::new(alloc);
     if let Some(probe) = workers.pop() {
-        all.push(work(rt, alloc, gate, shared, probe))?;
+        all.push(work(rt, alloc, shared, probe))?;
     }
     Ok(all)
 }
 
 /// What is under the lock, once the threads are joined.
-fn left_on(shared: Shared) -> Board {
+fn left_on<G: Gate>(shared: Shared<'_, G>) -> Board {
     shared.counted.into_inner().board
 }
 
@@ -314,8 +312,8 @@ pub fn reduce<R: Threads + Wait + Sync, P: Probe, G: Gate>(
     requires one_setup { All (λ p. All (λ q. P.answers p ≡ P.answers q) workers.items) workers.items }
     ensures { IfOk result (λ r. All (λ p. r ≡ ddmin (P.answers p) faults) workers.items) }
 {
-    let shared = Shared::start(alloc, faults);
-    let all = all_told(rt, alloc, gate, &shared, workers)?;
+    let shared = Shared::start(alloc, gate, faults);
+    let all = all_told(rt, alloc, &shared, workers)?;
     let board = left_on(shared);
     let (mut probes, pairs) = parted(alloc, all)?;
     let mut probe = probes.pop().unwrap();
