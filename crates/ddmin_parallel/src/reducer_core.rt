@@ -82,10 +82,16 @@ pub enum RequestFault {
 #[derive(Drop)]
 pub struct Core {
     faults: u32,
-    known: Known,
-    out: Vec<FaultSet>,
-    stage: Stage,
-    cursor: Cursor,
+    progress: Progress,
+}
+
+/// How far a reduction has come: what is known, which sets are out, and the stage that it is at, with its cursor.
+#[derive(Drop)]
+pub(crate) struct Progress {
+    pub(crate) known: Known,
+    pub(crate) out: Vec<FaultSet>,
+    pub(crate) stage: Stage,
+    pub(crate) cursor: Cursor,
 }
 
 impl Model for Core {
@@ -133,46 +139,6 @@ fn learn(alloc: Global, known: &mut Known, set: &FaultSet, fails: bool) -> Resul
     known.insert(copy, fails)
 }
 
-/// Puts an answer among what is known, and moves the stage on. An `Err` changes nothing.
-fn settle(
-    alloc: Global,
-    known: &mut Known,
-    out: &mut Vec<FaultSet>,
-    stage: &mut Stage,
-    cursor: &mut Cursor,
-    request: TestRequest,
-    fails: bool,
-) -> Result<(), RequestFault>
-    requires lawful { IsLawful (position_of stage.old) }
-    requires small { IsSmall (position_of stage.old) }
-    requires open_sets { AreOpen known.old out.old.items }
-    requires reached { HasReached known.old out.old.items stage.old cursor.old }
-    ensures ok { OnOk result (IsSettled known.old out.old.items (position_of stage.old) request fails
-        known.new out.new.items (position_of stage.new)) }
-    ensures err { OnErr result ((known.new ≡ known.old) × (out.new.items ≡ out.old.items)
-        × (position_of stage.new ≡ position_of stage.old)) }
-    ensures fault { IfErr result (IsFault out.old.items request) }
-    ensures reached { HasReached known.new out.new.items stage.new cursor.new }
-{
-    if place_of(&request.packed, out.as_slice()).is_none() {
-        return Err(RequestFault::Stranger(request));
-    }
-    let heard = Heard::of(known, &request.packed, fails);
-    let (next, place) = match advanced(alloc, &heard, stage, cursor.place) {
-        Ok(advance) => advance,
-        Err(_) => return Err(RequestFault::Memory(request)),
-    };
-    match learn(alloc, known, &request.packed, fails) {
-        Ok(()) => {}
-        Err(_) => return Err(RequestFault::Memory(request)),
-    }
-    take_from(&request.packed, out);
-    let is_anew = fails | next.is_some();
-    *cursor = moved_cursor(*cursor, place, is_anew);
-    go_on(stage, next);
-    Ok(())
-}
-
 /// Adds a copy of a set to those that are out, and returns another copy. An `Err` changes nothing.
 fn add_out(alloc: Global, out: &mut Vec<FaultSet>, set: &FaultSet) -> Result<FaultSet, AllocError>
     ensures copy { IfOk result (λ other. other ≡ set.now) }
@@ -186,37 +152,74 @@ fn add_out(alloc: Global, out: &mut Vec<FaultSet>, set: &FaultSet) -> Result<Fau
     Ok(other)
 }
 
-/// Hands out the next request, with a copy of its set. An `Err` hands out none.
-fn hand_out(
-    alloc: Global,
-    known: &Known,
-    out: &mut Vec<FaultSet>,
-    stage: &Stage,
-    cursor: &mut Cursor,
-    ahead: bool,
-) -> Result<Option<(TestRequest, FaultSet)>, AllocError>
-    requires lawful { IsLawful (position_of stage.now) }
-    requires small { IsSmall (position_of stage.now) }
-    requires stuck { IsStuck known.now stage.now }
-    requires reached { HasReached known.now out.old.items stage.now cursor.old }
-    ensures request { IfOk result (λ o. option_then (λ r. r.0) o
-        ≡ next_at (known_map.get known.now) (is_among out.old.items) (position_of stage.now) ahead) }
-    ensures copy { IfOk result (λ o. IfSome o (λ r. r.1 ≡ r.0)) }
-    ensures out { IfOk result (λ o. out.new.items ≡ out_after out.old.items (option_then (λ r. r.0) o)) }
-    ensures err { OnErr result (out.new.items ≡ out.old.items) }
-    ensures reached { HasReached known.now out.new.items stage.now cursor.new }
-{
-    let (found, next) = open_set(alloc, known, out.as_slice(), stage, *cursor, ahead)?;
-    let request = match found {
-        None => {
-            *cursor = next;
-            return Ok(None);
+impl Progress {
+    /// Puts an answer among what is known, and moves the stage on. An `Err` changes nothing.
+    fn settle(
+        &mut self,
+        alloc: Global,
+        request: TestRequest,
+        fails: bool,
+    ) -> Result<(), RequestFault>
+        requires lawful { IsLawful (position_of self.old.stage) }
+        requires small { IsSmall (position_of self.old.stage) }
+        requires open_sets { AreOpen self.old.known self.old.out.items }
+        requires reached { HasReached self.old self.old.cursor }
+        ensures ok { OnOk result (IsSettled self.old.known self.old.out.items (position_of self.old.stage) request fails
+            self.new.known self.new.out.items (position_of self.new.stage)) }
+        ensures err { OnErr result ((self.new.known ≡ self.old.known) × (self.new.out.items ≡ self.old.out.items)
+            × (position_of self.new.stage ≡ position_of self.old.stage)) }
+        ensures fault { IfErr result (IsFault self.old.out.items request) }
+        ensures reached { HasReached self.new self.new.cursor }
+    {
+        if place_of(&request.packed, self.out.as_slice()).is_none() {
+            return Err(RequestFault::Stranger(request));
         }
-        Some(request) => request,
-    };
-    let other = add_out(alloc, out, &request.packed)?;
-    *cursor = next;
-    Ok(Some((request, other)))
+        let heard = Heard::of(&self.known, &request.packed, fails);
+        let (next, place) = match advanced(alloc, &heard, &self.stage, self.cursor.place) {
+            Ok(advance) => advance,
+            Err(_) => return Err(RequestFault::Memory(request)),
+        };
+        match learn(alloc, &mut self.known, &request.packed, fails) {
+            Ok(()) => {}
+            Err(_) => return Err(RequestFault::Memory(request)),
+        }
+        take_from(&request.packed, &mut self.out);
+        let is_anew = fails | next.is_some();
+        self.cursor = moved_cursor(self.cursor, place, is_anew);
+        go_on(&mut self.stage, next);
+        Ok(())
+    }
+
+    /// Hands out the next request, with a copy of its set. An `Err` hands out none.
+    fn hand_out(
+        &mut self,
+        alloc: Global,
+        ahead: bool,
+    ) -> Result<Option<(TestRequest, FaultSet)>, AllocError>
+        requires lawful { IsLawful (position_of self.old.stage) }
+        requires small { IsSmall (position_of self.old.stage) }
+        requires stuck { IsStuck self.old }
+        requires reached { HasReached self.old self.old.cursor }
+        ensures request { IfOk result (λ o. option_then (λ r. r.0) o
+            ≡ next_at (known_map.get self.old.known) (is_among self.old.out.items) (position_of self.old.stage) ahead) }
+        ensures copy { IfOk result (λ o. IfSome o (λ r. r.1 ≡ r.0)) }
+        ensures out { IfOk result (λ o. self.new.out.items ≡ out_after self.old.out.items (option_then (λ r. r.0) o)) }
+        ensures err { OnErr result (self.new.out.items ≡ self.old.out.items) }
+        ensures kept { (self.new.known ≡ self.old.known) × (self.new.stage ≡ self.old.stage) }
+        ensures reached { HasReached self.new self.new.cursor }
+    {
+        let (found, next) = open_set(alloc, self, ahead)?;
+        let request = match found {
+            None => {
+                self.cursor = next;
+                return Ok(None);
+            }
+            Some(request) => request,
+        };
+        let other = add_out(alloc, &mut self.out, &request.packed)?;
+        self.cursor = next;
+        Ok(Some((request, other)))
+    }
 }
 
 impl Core {
@@ -235,10 +238,12 @@ impl Core {
         };
         Core {
             faults,
-            known: Known::new(alloc),
-            out: Vec::new(alloc),
-            stage,
-            cursor: Cursor::at(0),
+            progress: Progress {
+                known: Known::new(alloc),
+                out: Vec::new(alloc),
+                stage,
+                cursor: Cursor::at(0),
+            },
         }
     }
 
@@ -267,14 +272,7 @@ impl Core {
         ensures event { IfOk result (λ o. self.new ≡ after_take self.old (option_then (λ r. r.0) o)) }
         ensures err { OnErr result (self.new ≡ self.old) }
     {
-        hand_out(
-            alloc,
-            &self.known,
-            &mut self.out,
-            &self.stage,
-            &mut self.cursor,
-            ahead,
-        )
+        self.progress.hand_out(alloc, ahead)
     }
 
     /// Takes the answer to any request that is out. The core moves only as far as the known answers decide every earlier candidate. An `Err` hands
@@ -290,15 +288,7 @@ impl Core {
         ensures err { OnErr result (self.new ≡ self.old) }
         ensures fault { IfErr result (IsPutFault self.old request) }
     {
-        settle(
-            alloc,
-            &mut self.known,
-            &mut self.out,
-            &mut self.stage,
-            &mut self.cursor,
-            request,
-            fails,
-        )
+        self.progress.settle(alloc, request, fails)
     }
 
     /// How many faults there are.
@@ -312,22 +302,22 @@ impl Core {
     pub(crate) fn out_len(&self) -> usize
         ensures { result ≡ length self.now.out }
     {
-        self.out.len()
+        self.progress.out.len()
     }
 
     /// Whether a set is out.
     pub(crate) fn has_out(&self, set: &FaultSet) -> bool
         ensures { result ≡ is_out self.now set.now }
     {
-        place_of(set, self.out.as_slice()).is_some()
+        place_of(set, self.progress.out.as_slice()).is_some()
     }
 
     /// Gives back all sets that are out. What is known stays. It takes no memory.
     pub fn recall(&mut self)
         ensures { self.new ≡ apply self.old Recall }
     {
-        self.out.clear();
-        self.cursor = Cursor::at(self.cursor.place);
+        self.progress.out.clear();
+        self.progress.cursor = Cursor::at(self.progress.cursor.place);
     }
 
     /// Gives a request's set back, unanswered; it will be handed out again. If the set isn't out, that changes nothing. It takes no memory.
@@ -342,8 +332,8 @@ impl Core {
         ensures was { result ≡ is_out self.old set.now }
         ensures event { self.new ≡ apply self.old (GiveBack set.now) }
     {
-        let was_out = take_from(set, &mut self.out);
-        self.cursor = Cursor::at(self.cursor.place);
+        let was_out = take_from(set, &mut self.progress.out);
+        self.progress.cursor = Cursor::at(self.progress.cursor.place);
         was_out
     }
 
@@ -351,9 +341,9 @@ impl Core {
     pub fn finished(&self) -> Option<&Reduction>
         ensures { IsFinished (position self.now) (option_copied result) }
     {
-        match &self.stage {
+        match &self.progress.stage {
             Stage::End(reduction) => Some(reduction),
-            Stage::Empty(_) | Stage::Round(_, _, _) => None,
+            Stage::Empty(_) | Stage::Round(_) => None,
         }
     }
 }

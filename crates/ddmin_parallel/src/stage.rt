@@ -3,9 +3,9 @@ ghost use Rattle.std.specs.Prelude.{◌≡◌, ℕ, ◌+◌, ◌*◌, ◌^◌, �
 ghost use Rattle.std.specs.FinMap as known_map;
 ghost use Rattle.ddmin_parallel.specs.Rounds.{Candidate};
 ghost use Rattle.ddmin_parallel.specs.inside.Candidates.{found as decision_of, CanBeCut};
-ghost use Rattle.ddmin_parallel.specs.CoreEvents.{Position, Round, after_decision, after_empty, at_round};
+ghost use Rattle.ddmin_parallel.specs.CoreEvents.{Position, after_decision, after_empty, at_round};
 ghost use Rattle.ddmin_parallel.specs.inside.CoreStates.{IsLawful, IsSmall};
-ghost use Rattle.ddmin_parallel.specs.inside.Stages.{position_of};
+ghost use Rattle.ddmin_parallel.specs.inside.Stages.{position_of, position_in};
 ghost use Rattle.ddmin_parallel.specs.inside.Cursors.{IsCounted, IsLook, IsStep, IsAdvanced, follow};
 
 use crate::attempts::{Attempt, all_faults, attempt_at, candidate_count};
@@ -19,9 +19,17 @@ use std::alloc::{AllocError, Global};
 pub(crate) enum Stage {
     /// At the empty set. The reduction has this many faults.
     Empty(u32),
-    /// At the round of a set, with its number of parts, and how many tests were counted before.
-    Round(Vec<u32>, usize, u64),
+    Round(Round),
     End(Reduction),
+}
+
+/// The round of a set.
+#[derive(Drop)]
+pub(crate) struct Round {
+    pub(crate) kept: Vec<u32>,
+    pub(crate) parts: usize,
+    /// How many tests were counted before.
+    pub(crate) tests: u64,
 }
 
 /// How far a stage's round has come, so that no search has to begin at its first candidate again.
@@ -66,21 +74,14 @@ enum Step {
 }
 
 /// What the known answers say of a round that has come to a place.
-fn looked_at(
-    alloc: Global,
-    heard: &Heard,
-    kept: &[u32],
-    parts: usize,
-    tests: u64,
-    place: usize,
-) -> Result<Look, AllocError>
-    requires cut { CanBeCut kept.now parts }
-    requires counted { IsCounted (known_map.get heard.now) (Round kept.now parts tests) place }
-    ensures { IfOk result (IsLook (known_map.get heard.now) kept.now parts tests) }
+fn looked_at(alloc: Global, heard: &Heard, round: &Round, place: usize) -> Result<Look, AllocError>
+    requires cut { CanBeCut round.now.kept.items round.now.parts }
+    requires counted { IsCounted (known_map.get heard.now) (position_in round.now) place }
+    ensures { IfOk result (IsLook (known_map.get heard.now) round.now.kept.items round.now.parts round.now.tests) }
 {
-    let mut looked = tests.saturating_add(place as u64);
-    for place in place..candidate_count(parts) {
-        let attempt = attempt_at(alloc, kept, parts, place)?;
+    let mut looked = round.tests.saturating_add(place as u64);
+    for place in place..candidate_count(round.parts) {
+        let attempt = attempt_at(alloc, round.kept.as_slice(), round.parts, place)?;
         let asked = attempt.packed(alloc)?;
         let Some(bad) = heard.get(&asked) else {
             return Ok(Look::Stuck(place));
@@ -100,7 +101,7 @@ pub(crate) fn round_or_end(kept: Vec<u32>, parts: usize, tests: u64) -> Stage
     if kept.len() <= 1 {
         Stage::End(Reduction { kept, tests })
     } else {
-        Stage::Round(kept, parts, tests)
+        Stage::Round(Round { kept, parts, tests })
     }
 }
 
@@ -116,15 +117,12 @@ fn stepped(alloc: Global, heard: &Heard, stage: &Stage, place: usize) -> Result<
             None => Ok(Step::Stays(0)),
             Some(bad) => Ok(Step::Moves(after_empty_set(alloc, *faults, bad)?)),
         },
-        Stage::Round(kept, parts, tests) => {
-            let kept = kept.as_slice();
-            match looked_at(alloc, heard, kept, *parts, *tests, place)? {
-                Look::Stuck(place) => Ok(Step::Stays(place)),
-                Look::Decided(found, looked) => {
-                    Ok(Step::Moves(after_round(alloc, kept, *parts, found, looked)?))
-                }
+        Stage::Round(round) => match looked_at(alloc, heard, round, place)? {
+            Look::Stuck(place) => Ok(Step::Stays(place)),
+            Look::Decided(found, looked) => {
+                Ok(Step::Moves(after_round(alloc, round, found, looked)?))
             }
-        }
+        },
         Stage::End(_) => Ok(Step::Stays(0)),
     }
 }
@@ -145,26 +143,23 @@ fn after_empty_set(alloc: Global, faults: u32, bad: bool) -> Result<Stage, Alloc
 /// The stage after a round that was decided.
 fn after_round(
     alloc: Global,
-    kept: &[u32],
-    parts: usize,
+    round: &Round,
     found: Option<Attempt>,
     looked: u64,
 ) -> Result<Stage, AllocError>
-    requires { length kept.now < 2 ^ 31 }
-    ensures { IfOk result (λ s. position_of s ≡ after_decision kept.now parts (decision_of found looked)) }
+    requires { length round.now.kept.items < 2 ^ 31 }
+    ensures { IfOk result (λ s. position_of s ≡ after_decision round.now.kept.items round.now.parts (decision_of found looked)) }
 {
     match found {
         Some(attempt) => Ok(round_or_end(attempt.set, attempt.parts, looked)),
         None => {
-            let kept = Vec::from_slice(alloc, kept)?;
-            if parts < kept.len() {
-                let finer = (2 * parts).min(kept.len());
-                Ok(Stage::Round(kept, finer, looked))
+            let kept = Vec::from_slice(alloc, round.kept.as_slice())?;
+            let tests = looked;
+            if round.parts < kept.len() {
+                let parts = (2 * round.parts).min(kept.len());
+                Ok(Stage::Round(Round { kept, parts, tests }))
             } else {
-                Ok(Stage::End(Reduction {
-                    kept,
-                    tests: looked,
-                }))
+                Ok(Stage::End(Reduction { kept, tests }))
             }
         }
     }
@@ -205,7 +200,7 @@ pub(crate) fn following(
 {
     match stage {
         Stage::Empty(faults) => after_empty_set(alloc, *faults, false),
-        Stage::Round(kept, parts, _) => after_round(alloc, kept.as_slice(), *parts, failing, 0),
+        Stage::Round(round) => after_round(alloc, round, failing, 0),
         Stage::End(reduction) => {
             let kept = Vec::from_slice(alloc, reduction.kept.as_slice())?;
             let tests = reduction.tests;

@@ -1,19 +1,28 @@
--- The predicates of `Cursors` for the core's own fields: what is known, the sets that are out, the stage and its cursor.
+-- The predicates of `Cursors` for a core's progress.
 use Rattle.std.specs.Prelude.{◌≡◌, ℕ, Bool, List, Option, None}
 use Rattle.std.specs.FinMap.{get}
-use Rattle.ddmin_parallel.specs.CoreEvents.{Known, step}
-use Rattle.ddmin_parallel.specs.inside.Cursors.{is_among, IsOpened, IsReached}
+use Rattle.ddmin_parallel.specs.CoreEvents.{Position, step}
+use Rattle.ddmin_parallel.specs.inside.Cursors.{is_among, IsOpened, IsReached, IsScan, IsShutBelow}
 use Rattle.ddmin_parallel.specs.inside.Stages.{position_of}
+use Rattle.ddmin_parallel.specs.declared.open.Scan.{Scan}
+use Rattle.ddmin_parallel.specs.declared.reducer_core.Progress.{Progress}
 use Rattle.ddmin_parallel.specs.declared.stage.Cursor.{Cursor}
-use Rattle.ddmin_parallel.specs.declared.stage.Stage.{Stage}
 
 -- The known answers lead no further than the stage.
-abbrev pub IsStuck : Known → Stage → Type 0
-IsStuck known stage = step (get known) (position_of stage) ≡ None
+abbrev pub IsStuck : Progress → Type 0
+IsStuck p = step (get p.known) (position_of p.stage) ≡ None
 
-abbrev pub HasReached : Known → List (List ℕ) → Stage → Cursor → Type 0
-HasReached known out stage cursor = IsReached (get known) (is_among out) (position_of stage) cursor
+-- No candidate of the position's round before this place is open.
+abbrev pub HasShut : Progress → Position → ℕ → Type 0
+HasShut p position place = IsShutBelow (get p.known) (is_among p.out.items) position place
+
+-- What a search for an open candidate of the position's round found.
+abbrev pub Finds : Progress → Position → Scan → Type 0
+Finds p position scan = IsScan (get p.known) (is_among p.out.items) position scan
+
+abbrev pub HasReached : Progress → Cursor → Type 0
+HasReached p cursor = IsReached (get p.known) (is_among p.out.items) (position_of p.stage) cursor
 
 -- The request that comes next, if there is one, and the cursor for the one after it.
-abbrev pub Opens : Known → List (List ℕ) → Stage → Bool → Option (List ℕ) × Cursor → Type 0
-Opens known out stage ahead r = IsOpened (get known) out (position_of stage) ahead r.0 r.1
+abbrev pub Opens : Progress → Bool → Option (List ℕ) × Cursor → Type 0
+Opens p ahead r = IsOpened (get p.known) p.out.items (position_of p.stage) ahead r.0 r.1

@@ -14,10 +14,10 @@ on known out p q o lawful small stuck leads is = subst (IsFollowed known out p) 
 
 pub scanned-requires-clause-lawful : goal.scanned-requires-clause-lawful
 scanned-requires-clause-lawful c =
-    (on (get c.args.known.now) (is_among c.args.out.now) (position_of c.args.stage.now)
+    (on (get c.args.progress.now.known) (is_among c.args.progress.now.out.items) (position_of c.args.progress.now.stage)
     (position_of c.in_ok-next.next) c.args.failing c.requires.lawful c.requires.small c.requires.stuck c.requires.leads c.in_ok-next.ensures).lawful
 
 pub scanned-requires-clause-small : goal.scanned-requires-clause-small
 scanned-requires-clause-small c =
-    (on (get c.args.known.now) (is_among c.args.out.now) (position_of c.args.stage.now)
+    (on (get c.args.progress.now.known) (is_among c.args.progress.now.out.items) (position_of c.args.progress.now.stage)
     (position_of c.in_ok-next.next) c.args.failing c.requires.lawful c.requires.small c.requires.stuck c.requires.leads c.in_ok-next.ensures).small

@@ -15,10 +15,10 @@ invariant_of-self c =
     record {
       few = i.few;
       stands = i.stands;
-      open_sets = subst (AreOpen c.self.inside.known) (sym c.take_from-was_out.ensures.rest)
-          (open_without c.self.inside.known c.args.set.now c.self.inside.out.items i.open_sets);
-      reached = subst (IsReached (get c.self.inside.known) (is_among c.take_from-was_out.new.out.items) (position_of c.self.inside.stage))
+      open_sets = subst (AreOpen c.self.inside.progress.known) (sym c.take_from-was_out.ensures.rest)
+          (open_without c.self.inside.progress.known c.args.set.now c.self.inside.progress.out.items i.open_sets);
+      reached = subst (IsReached (get c.self.inside.progress.known) (is_among c.take_from-was_out.new.out.items) (position_of c.self.inside.progress.stage))
           (sym c.at-self-inside.ensures)
-          (reset (get c.self.inside.known) (is_among c.take_from-was_out.new.out.items)
-          (position_of c.self.inside.stage) c.self.inside.cursor.place i.reached.counted);
+          (reset (get c.self.inside.progress.known) (is_among c.take_from-was_out.new.out.items)
+          (position_of c.self.inside.progress.stage) c.self.inside.progress.cursor.place i.reached.counted);
     }

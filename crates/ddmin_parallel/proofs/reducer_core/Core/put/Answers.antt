@@ -9,14 +9,14 @@ pub settle-requires-clause-lawful : goal.settle-requires-clause-lawful
 unfolding position
 settle-requires-clause-lawful c =
     let i = c.self.invariant in
-    good_lawful c.self.inside.faults c.self.inside.known c.self.inside.out.items (position_of c.self.inside.stage)
+    good_lawful c.self.inside.faults c.self.inside.progress.known c.self.inside.progress.out.items (position_of c.self.inside.progress.stage)
     (record { few = i.few; stands = i.stands; open_sets = i.open_sets })
 
 pub settle-requires-clause-small : goal.settle-requires-clause-small
 unfolding position
 settle-requires-clause-small c =
     let i = c.self.invariant in
-    good_small c.self.inside.faults c.self.inside.known c.self.inside.out.items (position_of c.self.inside.stage)
+    good_small c.self.inside.faults c.self.inside.progress.known c.self.inside.progress.out.items (position_of c.self.inside.progress.stage)
     (record { few = i.few; stands = i.stands; open_sets = i.open_sets })
 
 -- whether it was put or not
@@ -32,8 +32,8 @@ pub invariant_of-self : goal.invariant_of-self
 unfolding position
 invariant_of-self c =
     let i = c.self.invariant in
-    let good = after c.settle.result c.self.inside.faults c.self.inside.known c.self.inside.out.items
-    (position_of c.self.inside.stage) c.args.request c.args.fails
-    c.settle.new.known c.settle.new.out.items (position_of c.settle.new.stage)
+    let good = after c.settle.result c.self.inside.faults c.self.inside.progress.known c.self.inside.progress.out.items
+    (position_of c.self.inside.progress.stage) c.args.request c.args.fails
+    c.settle.new.self.known c.settle.new.self.out.items (position_of c.settle.new.self.stage)
     (record { few = i.few; stands = i.stands; open_sets = i.open_sets }) c.settle.ensures.ok c.settle.ensures.err in
     record { few = good.few; stands = good.stands; open_sets = good.open_sets; reached = c.settle.ensures.reached }

@@ -14,9 +14,9 @@ invariant_of-self c =
     record {
       few = i.few;
       stands = i.stands;
-      open_sets = subst (λ out. AreOpen c.self.inside.known out) (sym c.clear.ensures.items) tt;
-      reached = subst (IsReached (get c.self.inside.known) (is_among c.clear.new.self.items) (position_of c.self.inside.stage))
+      open_sets = subst (λ out. AreOpen c.self.inside.progress.known out) (sym c.clear.ensures.items) tt;
+      reached = subst (IsReached (get c.self.inside.progress.known) (is_among c.clear.new.self.items) (position_of c.self.inside.progress.stage))
           (sym c.at-self-inside.ensures)
-          (reset (get c.self.inside.known) (is_among c.clear.new.self.items)
-          (position_of c.self.inside.stage) c.self.inside.cursor.place i.reached.counted);
+          (reset (get c.self.inside.progress.known) (is_among c.clear.new.self.items)
+          (position_of c.self.inside.progress.stage) c.self.inside.progress.cursor.place i.reached.counted);
     }

@@ -10,16 +10,16 @@ use Rattle.ddmin_parallel.specs.declared.stage.Cursor.{Cursor}
 use Rattle.ddmin_parallel.specs.declared.stage.Stage.{Stage}
 use Rattle.ddmin_parallel.proofs.Places.{placed}
 use Rattle.ddmin_parallel.proofs.CoreLemmas.{counted_put, settled_reached}
-use Rattle.ddmin_parallel.proofs.reducer_core.settle.Goals as goal
+use Rattle.ddmin_parallel.proofs.reducer_core.Progress.settle.Goals as goal
 
 was_out : (s : List ℕ) (xs ys : List (List ℕ)) (o : Option ℕ) → IsPlaceOf s xs o → is_some o ≡ true → xs ≡ ys → list_any (same_set s) ys ≡ true
 was_out s xs ys o h is list = ap (list_any (same_set s)) (sym list) ∙ placed s xs o h is
 
 pub advanced-requires-clause-counted : goal.advanced-requires-clause-counted
 advanced-requires-clause-counted c =
-    rw c.of-heard.ensures (counted_put c.args.known.now c.args.out.now.items (position_of c.args.stage.now) c.request.inside.packed c.args.fails c.args.cursor.now
+    rw c.of-heard.ensures (counted_put c.args.self.now.known c.args.self.now.out.items (position_of c.args.self.now.stage) c.request.inside.packed c.args.fails c.args.self.now.cursor
     c.requires.open_sets
-    (was_out c.request.inside.packed c.as_slice.result.now c.args.out.now.items c.place_of.result c.place_of.ensures c.if-is_none.ensures c.as_slice.ensures.value)
+    (was_out c.request.inside.packed c.as_slice.result.now c.args.self.now.out.items c.place_of.result c.place_of.ensures c.if-is_none.ensures c.as_slice.ensures.value)
     c.requires.reached)
 
 -- the cursor after the answer, if each value is known by an equation
@@ -41,9 +41,9 @@ reached_then known known' out out' stage stage' s b anew cursor cursor' o place 
 pub returns-clause-reached : goal.returns-clause-reached
 returns-clause-reached c =
     let s = c.request.inside.packed in
-    reached_then c.args.known.now c.learn.new.known c.args.out.now.items
-    c.take_from.new.out.items c.args.stage.now c.go_on.new.stage s c.args.fails (c.args.fails || c.is_some.result)
-    c.args.cursor.now c.moved_cursor.result c.in-Ok.advance.0 c.in-Ok.advance.1 c.requires.open_sets
-    (was_out s c.as_slice.result.now c.args.out.now.items c.place_of.result c.place_of.ensures c.if-is_none.ensures c.as_slice.ensures.value)
-    c.requires.reached (subst (λ k. IsAdvanced (get k) (position_of c.args.stage.now) c.in-Ok.advance.0 c.in-Ok.advance.1) c.of-heard.ensures c.in-Ok.ensures)
-    c.in-Ok-learn.ensures.ok c.take_from.ensures.rest c.go_on.ensures (ap (λ b. c.args.fails || b) c.is_some.ensures) c.moved_cursor.ensures
+    reached_then c.args.self.now.known c.learn.new.known c.args.self.now.out.items
+    c.take_from.new.out.items c.args.self.now.stage c.go_on.new.stage s c.args.fails (c.args.fails || c.is_some.result)
+    c.args.self.now.cursor c.moved_cursor-self.result c.in-Ok.advance.0 c.in-Ok.advance.1 c.requires.open_sets
+    (was_out s c.as_slice.result.now c.args.self.now.out.items c.place_of.result c.place_of.ensures c.if-is_none.ensures c.as_slice.ensures.value)
+    c.requires.reached (subst (λ k. IsAdvanced (get k) (position_of c.args.self.now.stage) c.in-Ok.advance.0 c.in-Ok.advance.1) c.of-heard.ensures c.in-Ok.ensures)
+    c.in-Ok-learn.ensures.ok c.take_from.ensures.rest c.go_on.ensures (ap (λ b. c.args.fails || b) c.is_some.ensures) c.moved_cursor-self.ensures
