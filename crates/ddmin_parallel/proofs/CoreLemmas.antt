@@ -10,7 +10,7 @@ use Rattle.ddmin_parallel.specs.Rounds.{Candidate, round}
 use Rattle.ddmin_parallel.specs.Ddmin.{Decision, Fails, NoneFails, counted, Reduced}
 use Rattle.ddmin_parallel.specs.CoreEvents.{Known, Answers, State, same_set, without, Position, Empty, Round, End, furthest, step, decided, after_decision}
 use Rattle.ddmin_parallel.specs.CoreEvents.{start, option_then, after_empty, position, next, or_else, first_open, is_out, round_at, hoping, next_round}
-use Rattle.ddmin_parallel.specs.inside.CoreStates.{AreOpen, IsSettled, IsLawful, IsSmall}
+use Rattle.ddmin_parallel.specs.inside.CoreStates.{AreOpen, IsLawful, IsSmall}
 use Rattle.ddmin_parallel.proofs.SetLemmas.{exact_sets, is_equal}
 use Rattle.ddmin_parallel.proofs.Walk.{furthest_more, furthest_lawful, furthest_small, furthest_stop, furthest_stuck, start_lawful, start_small}
 use Rattle.std.specs.Prelude.{is_some, Result, Ok, Err, IfOk, OnErr}
@@ -18,6 +18,8 @@ use Rattle.ddmin_parallel.specs.inside.Candidates.{candidate}
 use Rattle.ddmin_parallel.specs.inside.Stages.{position_of}
 use Rattle.ddmin_parallel.specs.inside.Cursors.{is_shut, is_among, IsShutBelow, IsCounted, IsReached, IsAdvanced, onward, moved, stage_after, next_at}
 use Rattle.ddmin_parallel.specs.inside.Cursors.{out_after}
+use Rattle.ddmin_parallel.specs.inside.Searches.{IsSettled}
+use Rattle.ddmin_parallel.specs.declared.reducer_core.Progress.{Progress}
 use Rattle.ddmin_parallel.specs.declared.stage.Cursor.{Cursor}
 use Rattle.ddmin_parallel.specs.declared.stage.Stage.{Stage}
 use Rattle.ddmin_parallel.proofs.Counted.{counted_more}
@@ -108,18 +110,20 @@ good_small faults known out p good =
 pub good_stuck : (faults : ℕ) (known : Known) (out : List (List ℕ)) (p : Position) → IsGood faults known out p → step (get known) p ≡ None
 good_stuck faults known out p good = ap (step (get known)) good.stands ∙ furthest_stuck (get known) (start faults) (start_lawful faults)
 
-pub good_settled : (faults : ℕ) (known : Known) (out : List (List ℕ)) (p : Position) (s : List ℕ) (b : Bool) (known' : Known) (out' : List (List ℕ))
-    (p' : Position)
-    → IsGood faults known out p → IsSettled known out p s b known' out' p' → IsGood faults known' out' p'
-good_settled faults known out p s b known' out' p' good is =
+pub good_settled : (faults : ℕ) (p : Progress) (s : List ℕ) (b : Bool) (p' : Progress) → IsGood faults p.known p.out.items (position_of p.stage)
+    → IsSettled p s b p' → IsGood faults p'.known p'.out.items (position_of p'.stage)
+good_settled faults p s b p' good is =
+    let known = p.known in
+    let out = p.out.items in
     let more = get (insert known s b) in
-    let stands : p' ≡ furthest more (start faults) =
+    let stands : position_of p'.stage ≡ furthest more (start faults) =
     is.position_is ∙ ap (furthest more) good.stands
     ∙ furthest_more (get known) more (grows known s b (out_unknown known s out good.open_sets is.was_out)) (start faults) (start_lawful faults) in
     record {
       few = good.few;
       stands = stands ∙ ap (λ k. furthest (get k) (start faults)) (sym is.known_is);
-      open_sets = subst (λ k. AreOpen k out') (sym is.known_is) (subst (AreOpen (insert known s b)) (sym is.out_is) (open_put known s b out good.open_sets));
+      open_sets = subst (λ k. AreOpen k p'.out.items) (sym is.known_is)
+          (subst (AreOpen (insert known s b)) (sym is.out_is) (open_put known s b out good.open_sets));
     }
 
 abbrev nothing : Known

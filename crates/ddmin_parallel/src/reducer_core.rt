@@ -2,11 +2,11 @@
 ghost use Rattle.std.specs.Prelude.{◌≡◌, ◌≤◌, [], ◌∷◌, ◌++◌, length, IsTrue, IfOk, OnOk, OnErr, IfErr, IfSome, option_copied};
 ghost use Rattle.std.specs.FinMap as known_map;
 ghost use Rattle.ddmin_parallel.specs.CoreEvents.{begin, apply, position, next, after_take, option_then, is_out, Put, GiveBack, Recall};
-ghost use Rattle.ddmin_parallel.specs.inside.CoreStates.{IsLawful, IsSmall, IsSettled, AreOpen};
+ghost use Rattle.ddmin_parallel.specs.inside.CoreStates.{IsLawful, IsSmall, AreOpen};
 ghost use Rattle.ddmin_parallel.specs.Requests.{IsPutFault, IsFault, IsFinished};
 ghost use Rattle.ddmin_parallel.specs.inside.Stages.{position_of};
 ghost use Rattle.ddmin_parallel.specs.inside.Cursors.{is_among, next_at, out_after, moved, stage_after};
-ghost use Rattle.ddmin_parallel.specs.inside.Searches.{HasReached, IsStuck};
+ghost use Rattle.ddmin_parallel.specs.inside.Searches.{HasReached, IsSettled, IsStuck};
 
 use crate::fault_set::FaultSet;
 use crate::heard::Heard;
@@ -164,10 +164,8 @@ impl Progress {
         requires small { IsSmall (position_of self.old.stage) }
         requires open_sets { AreOpen self.old.known self.old.out.items }
         requires reached { HasReached self.old self.old.cursor }
-        ensures ok { OnOk result (IsSettled self.old.known self.old.out.items (position_of self.old.stage) request fails
-            self.new.known self.new.out.items (position_of self.new.stage)) }
-        ensures err { OnErr result ((self.new.known ≡ self.old.known) × (self.new.out.items ≡ self.old.out.items)
-            × (position_of self.new.stage ≡ position_of self.old.stage)) }
+        ensures ok { OnOk result (IsSettled self.old request fails self.new) }
+        ensures err { OnErr result (self.new ≡ self.old) }
         ensures fault { IfErr result (IsFault self.old.out.items request) }
         ensures reached { HasReached self.new self.new.cursor }
     {

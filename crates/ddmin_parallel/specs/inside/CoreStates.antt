@@ -1,11 +1,11 @@
 -- What the code of the core keeps and its callers need not know.
 
-use Rattle.std.specs.Prelude.{◌≡◌, ℕ, ◌≤◌, ◌<◌, Bool, true, false, List, [], ◌∷◌, length, Option, None, Some, remove, refl}
+use Rattle.std.specs.Prelude.{◌≡◌, ℕ, ◌≤◌, ◌<◌, true, false, List, [], ◌∷◌, length, Option, None, Some, remove, refl}
 use Rattle.std.specs.List.{list_any}
-use Rattle.std.specs.FinMap.{get, insert, code}
+use Rattle.std.specs.FinMap.{get, code}
 use Rattle.std.specs.Coded.{Coded, code_by, coded×, coded_ℕ, coded_bool, coded_list}
 use Rattle.ddmin_parallel.specs.Ddmin.{Fits}
-use Rattle.ddmin_parallel.specs.CoreEvents.{Position, Empty, Round, End, Known, State, same_set, without, furthest}
+use Rattle.ddmin_parallel.specs.CoreEvents.{Position, Empty, Round, End, Known, State, same_set, without}
 
 -- A position that a reduction can be at.
 abbrev pub IsLawful : Position → Type 0
@@ -33,11 +33,3 @@ IsPlaceOf s out (Some k) = (k < length out) × (list_any (same_set s) out ≡ tr
 abbrev pub AreOpen : Known → List (List ℕ) → Type 0
 AreOpen known [] = Unit {0}
 AreOpen known (s ∷ out) = (get known s ≡ None) × (list_any (same_set s) out ≡ false) × AreOpen known out
-
--- What putting an answer changes: what is known, which sets are out, and the position.
-pub record IsSettled (known : Known) (out : List (List ℕ)) (p : Position) (s : List ℕ) (fails : Bool)
-    (known' : Known) (out' : List (List ℕ)) (p' : Position) : Type 0 where
-  pub was_out : list_any (same_set s) out ≡ true
-  pub known_is : known' ≡ insert known s fails
-  pub out_is : out' ≡ without s out
-  pub position_is : p' ≡ furthest (get (insert known s fails)) p

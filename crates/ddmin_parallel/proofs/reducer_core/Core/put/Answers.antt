@@ -1,6 +1,7 @@
 use Rattle.std.proofs.Common.{sym, subst, ◌≡◌, ℕ, Bool, List, Result, Ok, Err, OnOk, OnErr}
-use Rattle.ddmin_parallel.specs.CoreEvents.{position, Known, Position}
-use Rattle.ddmin_parallel.specs.inside.CoreStates.{IsSettled}
+use Rattle.ddmin_parallel.specs.CoreEvents.{position}
+use Rattle.ddmin_parallel.specs.declared.reducer_core.Progress.{Progress}
+use Rattle.ddmin_parallel.specs.inside.Searches.{IsSettled}
 use Rattle.ddmin_parallel.specs.inside.Stages.{position_of}
 use Rattle.ddmin_parallel.proofs.CoreLemmas.{IsGood, good_lawful, good_small, good_settled}
 use Rattle.ddmin_parallel.proofs.reducer_core.Core.put.Goals as goal
@@ -20,20 +21,16 @@ settle-requires-clause-small c =
     (record { few = i.few; stands = i.stands; open_sets = i.open_sets })
 
 -- whether it was put or not
-after : {E : Type 0} (r : Result (Unit {0}) E) (faults : ℕ) (known : Known) (out : List (List ℕ)) (p : Position) (s : List ℕ) (b : Bool) (known' : Known)
-    (out' : List (List ℕ)) (p' : Position)
-    → IsGood faults known out p → OnOk r (IsSettled known out p s b known' out' p') → OnErr r ((known' ≡ known) × (out' ≡ out) × (p' ≡ p))
-    → IsGood faults known' out' p'
-after (Ok u) faults known out p s b known' out' p' good ok err = good_settled faults known out p s b known' out' p' good ok
-after (Err e) faults known out p s b known' out' p' good ok err =
-    subst (λ k. IsGood faults k out' p') (sym err.0) (subst (λ o. IsGood faults known o p') (sym err.1) (subst (IsGood faults known out) (sym err.2) good))
+after : {E : Type 0} (r : Result (Unit {0}) E) (faults : ℕ) (p p' : Progress) (s : List ℕ) (b : Bool)
+    → IsGood faults p.known p.out.items (position_of p.stage) → OnOk r (IsSettled p s b p') → OnErr r (p' ≡ p)
+    → IsGood faults p'.known p'.out.items (position_of p'.stage)
+after (Ok u) faults p p' s b good ok err = good_settled faults p s b p' good ok
+after (Err e) faults p p' s b good ok err = subst (λ q. IsGood faults q.known q.out.items (position_of q.stage)) (sym err) good
 
 pub invariant_of-self : goal.invariant_of-self
 unfolding position
 invariant_of-self c =
     let i = c.self.invariant in
-    let good = after c.settle.result c.self.inside.faults c.self.inside.progress.known c.self.inside.progress.out.items
-    (position_of c.self.inside.progress.stage) c.args.request c.args.fails
-    c.settle.new.self.known c.settle.new.self.out.items (position_of c.settle.new.self.stage)
+    let good = after c.settle.result c.self.inside.faults c.self.inside.progress c.settle.new.self c.args.request c.args.fails
     (record { few = i.few; stands = i.stands; open_sets = i.open_sets }) c.settle.ensures.ok c.settle.ensures.err in
     record { few = good.few; stands = good.stands; open_sets = good.open_sets; reached = c.settle.ensures.reached }
