@@ -1,5 +1,5 @@
 //! The search for the next request.
-ghost use Rattle.std.specs.Prelude.{◌≡◌, ℕ, IfOk, None};
+ghost use Rattle.std.specs.Prelude.{◌≡◌, IfOk, None};
 ghost use Rattle.std.specs.FinMap as known_map;
 ghost use Rattle.ddmin_parallel.specs.CoreEvents.{option_then, first_open, round_at};
 ghost use Rattle.ddmin_parallel.specs.inside.Candidates.{CanBeCut};
