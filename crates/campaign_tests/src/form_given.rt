@@ -6,7 +6,7 @@ use file_replace::Replace;
 use grown_plans::CampaignPlans;
 use plan_gen::{Census, PlanList, PlanSettings, further_plans};
 use report::{
-    Cause, Finding, Names, Notes, Report, Runs, Shown, brief_text, json_text, junit_text,
+    Appendix, Cause, Finding, Names, Notes, Report, Runs, Shown, brief_text, json_text, junit_text,
 };
 use scenario_grammar::parse;
 use scenario_values::Scenario;
@@ -138,7 +138,12 @@ pub fn json_of<N: Names>(
         findings: Vec::new(alloc),
         causes: Vec::new(alloc),
     };
-    Ok(json_text(alloc, names, report, &notes, &shown, &runs)?)
+    let appendix = Appendix {
+        notes: &notes,
+        shown: &shown,
+        runs: &runs,
+    };
+    Ok(json_text(alloc, names, report, &appendix)?)
 }
 
 /// The brief text of a report that has a verdict for each plan.

@@ -11,6 +11,6 @@ mod members;
 mod plans;
 mod runs;
 
-pub use about::{Notes, Shown};
+pub use about::{Appendix, Notes, Shown};
 pub use document::json_text;
 pub use runs::{Runs, ShownRun};

@@ -23,7 +23,7 @@ pub use explained::{
 };
 pub use facts::{Cause, Finding, Growth, JudgedPlan, Report};
 pub use forms::{Form, MOST_HITS_SHOWN, Teller, text_in};
-pub use json_form::{Notes, Runs, Shown, ShownRun, json_text};
+pub use json_form::{Appendix, Notes, Runs, Shown, ShownRun, json_text};
 pub use junit_form::junit_text;
 pub use lines::{text, write_scenario};
 pub use names::Names;

@@ -1,11 +1,12 @@
 //! The forms of a report.
 ghost use Rattle.std.specs.Prelude.{◌≡◌, length, IfOk, IfSome};
 ghost use Rattle.report_page.specs.Page.{page_text};
-ghost use Rattle.report.specs.forms.Forms.{brief_of, document_in, text_in};
+ghost use Rattle.report.specs.forms.Forms.{brief_of, text_in};
 ghost use Rattle.report.specs.forms.Runs.{GrownAreFirst};
+ghost use Rattle.report.specs.json_form.Document.{document_of, text_of};
 
 use crate::forms::runs::{Teller, runs_shown};
-use crate::json_form::{Notes, Shown, json_text};
+use crate::json_form::{Appendix, Notes, Shown, json_text};
 use crate::junit_form::junit_text;
 use crate::{Names, Report, brief_text, text};
 use report_page::page_text;
@@ -26,44 +27,22 @@ pub enum Form<'a> {
     Page(Notes<'a>),
 }
 
-/// The document, with the runs that are shown.
-fn document_of<N: Names, T: Teller>(
-    alloc: Global,
-    names: &N,
-    teller: &T,
-    report: &Report<'_>,
-    notes: &Notes<'_>,
-    shown: &Shown<'_>,
-) -> Result<Vec<u8>, AllocError>
-    requires counts { length report.now.census ≡ length (N.points names.now) }
-    requires reached { IfSome report.now.growth (λ growth. length growth.reached ≡ length (N.points names.now)) }
-    requires verdicts { length report.now.verdicts ≡ length shown.now.plans }
-    requires first { GrownAreFirst (N.points names.now) shown.now }
-    ensures { IfOk result (λ text. text.items
-        ≡ document_in (N.points names.now) (N.code_text names.now) (T.told_runs teller.now) report.now notes.now shown.now) }
-{
-    let runs = runs_shown(alloc, names, teller, report, shown)?;
-    json_text(alloc, names, report, notes, shown, &runs)
-}
-
 /// The page: the brief report and the document, in the frame.
-fn page_of<N: Names, T: Teller>(
+fn page_of<N: Names>(
     alloc: Global,
     names: &N,
-    teller: &T,
     report: &Report<'_>,
-    notes: &Notes<'_>,
-    shown: &Shown<'_>,
+    appendix: &Appendix<'_>,
 ) -> Result<Vec<u8>, AllocError>
     requires counts { length report.now.census ≡ length (N.points names.now) }
     requires reached { IfSome report.now.growth (λ growth. length growth.reached ≡ length (N.points names.now)) }
-    requires verdicts { length report.now.verdicts ≡ length shown.now.plans }
-    requires first { GrownAreFirst (N.points names.now) shown.now }
-    ensures { IfOk result (λ text. text.items ≡ page_text (brief_of (N.points names.now) (N.code_text names.now) report.now shown.now)
-        (document_in (N.points names.now) (N.code_text names.now) (T.told_runs teller.now) report.now notes.now shown.now)) }
+    requires verdicts { length report.now.verdicts ≡ length appendix.now.shown.now.plans }
+    ensures { IfOk result (λ text. text.items ≡ page_text (brief_of (N.points names.now) (N.code_text names.now) report.now appendix.now.shown.now)
+        (text_of (document_of (N.points names.now) (N.code_text names.now) report.now appendix.now.notes.now appendix.now.shown.now appendix.now.runs.now))) }
 {
+    let shown = appendix.shown;
     let brief = brief_text(alloc, names, report, shown.plans)?;
-    let document = document_of(alloc, names, teller, report, notes, shown)?;
+    let document = json_text(alloc, names, report, appendix)?;
     page_text(alloc, brief.as_slice(), document.as_slice())
 }
 
@@ -90,8 +69,16 @@ pub fn text_in<N: Names, T: Teller>(
     match form {
         Form::Whole => text(alloc, names, report),
         Form::Brief => brief_text(alloc, names, report, shown.plans),
-        Form::Json(notes) => document_of(alloc, names, teller, report, notes, shown),
+        Form::Json(notes) => {
+            let runs = &runs_shown(alloc, names, teller, report, shown)?;
+            let appendix = Appendix { notes, shown, runs };
+            json_text(alloc, names, report, &appendix)
+        }
         Form::Junit => junit_text(alloc, names, report, shown.plans),
-        Form::Page(notes) => page_of(alloc, names, teller, report, notes, shown),
+        Form::Page(notes) => {
+            let runs = &runs_shown(alloc, names, teller, report, shown)?;
+            let appendix = Appendix { notes, shown, runs };
+            page_of(alloc, names, report, &appendix)
+        }
     }
 }

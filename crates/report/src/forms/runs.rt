@@ -57,87 +57,6 @@ fn parent_scenario<N: Names>(
     Ok(Some(plan.scenario(alloc)?))
 }
 
-/// The run of the plan from which the plan with this number grew, if it has two faults or more.
-fn parent_run<N: Names, T: Teller>(
-    alloc: Global,
-    names: &N,
-    teller: &T,
-    shown: &Shown<'_>,
-    number: u32,
-) -> Result<Option<ToldRun>, AllocError>
-    requires { GrownAreFirst (N.points names.now) shown.now }
-    ensures { IfOk result (λ run. run ≡ told_of (T.told_runs teller.now number) (parent_at (N.points names.now) shown.now.grown number)) }
-{
-    match parent_scenario(alloc, names, shown, number as usize)? {
-        None => Ok(None),
-        Some(parent) => teller.tell(alloc, number, &parent),
-    }
-}
-
-/// The run of a scenario, beside that of the plan from which the plan with this number grew.
-fn run_shown<N: Names, T: Teller>(
-    alloc: Global,
-    names: &N,
-    teller: &T,
-    shown: &Shown<'_>,
-    number: u32,
-    scenario: &Scenario,
-) -> Result<Option<ShownRun>, AllocError>
-    requires { GrownAreFirst (N.points names.now) shown.now }
-    ensures { IfOk result (λ run. run ≡ run_shown (N.points names.now) (T.told_runs teller.now) shown.now.grown number scenario.now) }
-{
-    let Some(run) = teller.tell(alloc, number, scenario)? else {
-        return Ok(None);
-    };
-    let parent = parent_run(alloc, names, teller, shown, number)?;
-    Ok(Some(ShownRun { run, parent }))
-}
-
-/// The run of each first failure, as reduced.
-fn findings_shown<N: Names, T: Teller>(
-    alloc: Global,
-    names: &N,
-    teller: &T,
-    shown: &Shown<'_>,
-    findings: &[Finding],
-) -> Result<Vec<Option<ShownRun>>, AllocError>
-    requires { GrownAreFirst (N.points names.now) shown.now }
-    ensures { IfOk result (λ runs. runs.items ≡ map (finding_shown (N.points names.now) (T.told_runs teller.now) shown.now.grown) findings.now) }
-{
-    let mut runs = Vec::with_capacity(alloc, findings.len())?;
-    for finding in findings {
-        let run = run_shown(
-            alloc,
-            names,
-            teller,
-            shown,
-            finding.number,
-            &finding.reduced,
-        )?;
-        runs.push(run)?;
-    }
-    Ok(runs)
-}
-
-/// The run of each cause.
-fn each_shown<N: Names, T: Teller>(
-    alloc: Global,
-    names: &N,
-    teller: &T,
-    shown: &Shown<'_>,
-    causes: &[Cause],
-) -> Result<Vec<Option<ShownRun>>, AllocError>
-    requires { GrownAreFirst (N.points names.now) shown.now }
-    ensures { IfOk result (λ runs. runs.items ≡ map (cause_shown (N.points names.now) (T.told_runs teller.now) shown.now.grown) causes.now) }
-{
-    let mut runs = Vec::with_capacity(alloc, causes.len())?;
-    for cause in causes {
-        let run = run_shown(alloc, names, teller, shown, cause.number, &cause.scenario)?;
-        runs.push(run)?;
-    }
-    Ok(runs)
-}
-
 /// The causes that are shown with their runs.
 fn first_causes(causes: &[Cause]) -> &[Cause]
     ensures { result.now ≡ take most_causes_shown causes.now }
@@ -148,20 +67,95 @@ fn first_causes(causes: &[Cause]) -> &[Cause]
     &causes[..MOST_CAUSES_SHOWN]
 }
 
-/// The runs of the causes of a campaign that grew, as many as are shown.
-fn causes_shown<N: Names, T: Teller>(
-    alloc: Global,
-    names: &N,
-    teller: &T,
-    shown: &Shown<'_>,
-    growth: &Option<Growth<'_>>,
-) -> Result<Vec<Option<ShownRun>>, AllocError>
-    requires { GrownAreFirst (N.points names.now) shown.now }
-    ensures { IfOk result (λ runs. runs.items ≡ causes_shown (N.points names.now) (T.told_runs teller.now) shown.now.grown growth.now) }
-{
-    match growth {
-        None => Ok(Vec::new(alloc)),
-        Some(growth) => each_shown(alloc, names, teller, shown, first_causes(&growth.causes)),
+/// What the shown runs are made of: the names of the points, the teller, and the plans that are shown.
+#[derive(Drop)]
+struct RunSource<'a, N, T> {
+    names: &'a N,
+    teller: &'a T,
+    shown: &'a Shown<'a>,
+}
+
+impl<'a, N: Names, T: Teller> RunSource<'a, N, T> {
+    /// The run of the plan from which the plan with this number grew, if it has two faults or more.
+    fn parent_run(&self, alloc: Global, number: u32) -> Result<Option<ToldRun>, AllocError>
+        requires { GrownAreFirst (N.points self.now.names.now) self.now.shown.now }
+        ensures { IfOk result (λ run.
+            run ≡ told_of (T.told_runs self.now.teller.now number) (parent_at (N.points self.now.names.now) self.now.shown.now.grown number)) }
+    {
+        match parent_scenario(alloc, self.names, self.shown, number as usize)? {
+            None => Ok(None),
+            Some(parent) => self.teller.tell(alloc, number, &parent),
+        }
+    }
+
+    /// The run of a scenario, beside that of the plan from which the plan with this number grew.
+    fn run_shown(
+        &self,
+        alloc: Global,
+        number: u32,
+        scenario: &Scenario,
+    ) -> Result<Option<ShownRun>, AllocError>
+        requires { GrownAreFirst (N.points self.now.names.now) self.now.shown.now }
+        ensures { IfOk result (λ run.
+            run ≡ run_shown (N.points self.now.names.now) (T.told_runs self.now.teller.now) self.now.shown.now.grown number scenario.now) }
+    {
+        let Some(run) = self.teller.tell(alloc, number, scenario)? else {
+            return Ok(None);
+        };
+        let parent = self.parent_run(alloc, number)?;
+        Ok(Some(ShownRun { run, parent }))
+    }
+
+    /// The run of each first failure, as reduced.
+    fn findings_shown(
+        &self,
+        alloc: Global,
+        findings: &[Finding],
+    ) -> Result<Vec<Option<ShownRun>>, AllocError>
+        requires { GrownAreFirst (N.points self.now.names.now) self.now.shown.now }
+        ensures { IfOk result (λ runs.
+            runs.items ≡ map (finding_shown (N.points self.now.names.now) (T.told_runs self.now.teller.now) self.now.shown.now.grown) findings.now) }
+    {
+        let mut runs = Vec::with_capacity(alloc, findings.len())?;
+        for finding in findings {
+            let run = self.run_shown(alloc, finding.number, &finding.reduced)?;
+            runs.push(run)?;
+        }
+        Ok(runs)
+    }
+
+    /// The run of each cause.
+    fn each_shown(
+        &self,
+        alloc: Global,
+        causes: &[Cause],
+    ) -> Result<Vec<Option<ShownRun>>, AllocError>
+        requires { GrownAreFirst (N.points self.now.names.now) self.now.shown.now }
+        ensures { IfOk result (λ runs.
+            runs.items ≡ map (cause_shown (N.points self.now.names.now) (T.told_runs self.now.teller.now) self.now.shown.now.grown) causes.now) }
+    {
+        let mut runs = Vec::with_capacity(alloc, causes.len())?;
+        for cause in causes {
+            let run = self.run_shown(alloc, cause.number, &cause.scenario)?;
+            runs.push(run)?;
+        }
+        Ok(runs)
+    }
+
+    /// The runs of the causes of a campaign that grew, as many as are shown.
+    fn causes_shown(
+        &self,
+        alloc: Global,
+        growth: &Option<Growth<'_>>,
+    ) -> Result<Vec<Option<ShownRun>>, AllocError>
+        requires { GrownAreFirst (N.points self.now.names.now) self.now.shown.now }
+        ensures { IfOk result (λ runs.
+            runs.items ≡ causes_shown (N.points self.now.names.now) (T.told_runs self.now.teller.now) self.now.shown.now.grown growth.now) }
+    {
+        match growth {
+            None => Ok(Vec::new(alloc)),
+            Some(growth) => self.each_shown(alloc, first_causes(&growth.causes)),
+        }
     }
 }
 
@@ -186,8 +180,13 @@ pub fn runs_shown<N: Names, T: Teller>(
     ensures { IfOk result (λ runs. runs ≡ runs_shown (N.points names.now) (T.told_runs teller.now) report.now shown.now.grown) }
 {
     let clean = clean_run(alloc, teller)?;
-    let findings = findings_shown(alloc, names, teller, shown, &report.findings)?;
-    let causes = causes_shown(alloc, names, teller, shown, &report.growth)?;
+    let source = RunSource {
+        names,
+        teller,
+        shown,
+    };
+    let findings = source.findings_shown(alloc, &report.findings)?;
+    let causes = source.causes_shown(alloc, &report.growth)?;
     Ok(Runs {
         clean,
         findings,

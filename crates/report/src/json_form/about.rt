@@ -80,6 +80,14 @@ impl<'a> Shown<'a> {
     }
 }
 
+/// What a document has beside its report: who made it, what is shown of the campaign, and the runs that are shown.
+#[derive(Drop)]
+pub struct Appendix<'a> {
+    pub notes: &'a Notes<'a>,
+    pub shown: &'a Shown<'a>,
+    pub runs: &'a Runs,
+}
+
 /// An item for the scenario of each plan from one number up to another.
 fn write_each_scenario(
     alloc: Global,
@@ -186,20 +194,20 @@ fn write_plans(alloc: Global, out: &mut Pretty, shown: &Shown<'_>) -> Result<(),
     write_grown(alloc, out, shown.grown)
 }
 
-/// What a document has beside its report.
+/// The member with what a document has beside its report.
 pub fn write_about(
     alloc: Global,
     out: &mut Pretty,
-    notes: &Notes<'_>,
-    shown: &Shown<'_>,
-    runs: &Runs,
+    appendix: &Appendix<'_>,
 ) -> Result<(), AllocError>
-    ensures { OnOk result (out.new ≡ out.old ++ member_tokens (codes "about") (about_value notes.now shown.now runs.now)) }
+    ensures { OnOk result (out.new ≡ out.old
+        ++ member_tokens (codes "about") (about_value appendix.now.notes.now appendix.now.shown.now appendix.now.runs.now)) }
 {
+    let shown = appendix.shown;
     out.token(Token::Key("about"))?;
     out.token(Token::BeginObject)?;
-    write_made(out, notes, shown.settings)?;
+    write_made(out, appendix.notes, shown.settings)?;
     write_plans(alloc, out, shown)?;
-    write_runs(out, runs)?;
+    write_runs(out, appendix.runs)?;
     out.token(Token::EndObject)
 }

@@ -8,11 +8,10 @@ ghost use Rattle.report.specs.json_form.Values.{whole, list_of};
 ghost use Rattle.report.specs.json_form.Document.{document_of, text_of, IsReadAs};
 ghost use Rattle.report.specs.json_form.inside.Tokens.{member_tokens, nonzero_tokens};
 
-use crate::json_form::about::{Notes, Shown, write_about};
+use crate::json_form::about::{Appendix, write_about};
 use crate::json_form::growth::{write_growth, write_points};
 use crate::json_form::members::{write_nonzero, write_number, write_text};
 use crate::json_form::plans::{write_clean, write_counts, write_findings, write_not_passed};
-use crate::json_form::runs::Runs;
 use crate::{Names, Report};
 use grown_plans::CampaignPlans;
 use itoa::Buffer;
@@ -68,21 +67,21 @@ fn written<N: Names>(
     alloc: Global,
     names: &N,
     report: &Report<'_>,
-    notes: &Notes<'_>,
-    shown: &Shown<'_>,
-    runs: &Runs,
+    appendix: &Appendix<'_>,
 ) -> Result<Pretty, AllocError>
     requires counts { length report.now.census ≡ length (N.points names.now) }
     requires reached { IfSome report.now.growth (λ growth. length growth.reached ≡ length (N.points names.now)) }
-    requires verdicts { length report.now.verdicts ≡ length shown.now.plans }
+    requires verdicts { length report.now.verdicts ≡ length appendix.now.shown.now.plans }
     ensures { IfOk result (λ out. out
-        ≡ json_tokens (document_of (N.points names.now) (N.code_text names.now) report.now notes.now shown.now runs.now)) }
+        ≡ json_tokens (document_of (N.points names.now) (N.code_text names.now) report.now
+        appendix.now.notes.now appendix.now.shown.now appendix.now.runs.now)) }
 {
+    let shown = appendix.shown;
     let mut out = Pretty::new(alloc);
     out.token(Token::BeginObject)?;
     write_head(&mut out, names, report)?;
     write_results(alloc, &mut out, names, report, shown.plans)?;
-    write_about(alloc, &mut out, notes, shown, runs)?;
+    write_about(alloc, &mut out, appendix)?;
     out.token(Token::EndObject)?;
     Ok(out)
 }
@@ -97,18 +96,17 @@ pub fn json_text<N: Names>(
     alloc: Global,
     names: &N,
     report: &Report<'_>,
-    notes: &Notes<'_>,
-    shown: &Shown<'_>,
-    runs: &Runs,
+    appendix: &Appendix<'_>,
 ) -> Result<Vec<u8>, AllocError>
     requires counts { length report.now.census ≡ length (N.points names.now) }
     requires reached { IfSome report.now.growth (λ growth. length growth.reached ≡ length (N.points names.now)) }
-    requires verdicts { length report.now.verdicts ≡ length shown.now.plans }
+    requires verdicts { length report.now.verdicts ≡ length appendix.now.shown.now.plans }
     ensures text { IfOk result (λ text. text.items
-        ≡ text_of (document_of (N.points names.now) (N.code_text names.now) report.now notes.now shown.now runs.now)) }
-    ensures reads { OnOk result (IsReadAs (document_of (N.points names.now) (N.code_text names.now) report.now notes.now shown.now runs.now)) }
+        ≡ text_of (document_of (N.points names.now) (N.code_text names.now) report.now appendix.now.notes.now appendix.now.shown.now appendix.now.runs.now)) }
+    ensures reads { OnOk result (IsReadAs (document_of (N.points names.now) (N.code_text names.now) report.now
+        appendix.now.notes.now appendix.now.shown.now appendix.now.runs.now)) }
 {
-    let out = written(alloc, names, report, notes, shown, runs)?;
+    let out = written(alloc, names, report, appendix)?;
     let mut text = out.into_inner();
     text.push(b'\n')?;
     Ok(text)

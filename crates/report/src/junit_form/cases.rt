@@ -1,12 +1,10 @@
 //! Cases.
-ghost use Rattle.std.specs.Prelude.{◌≡◌, ◌++◌, ◌<◌, length, string_bytes, codes, slice_index_or, option_map, IfOk, OnOk};
-ghost use Rattle.target_trait.specs.declared.judgement.Verdict.TheVariants as verdict;
+ghost use Rattle.std.specs.Prelude.{◌≡◌, ◌++◌, string_bytes, codes, option_map, IfOk, OnOk};
 ghost use Rattle.xml_text.specs.Xml.{escaped};
 ghost use Rattle.report.specs.ReportText.{scenario_text};
 ghost use Rattle.report.specs.junit_form.Junit.{case_head, reduced_text, failure_head, failure_text, result_text, found_at, case_text};
 
-use crate::{Finding, Names, Report, write_scenario};
-use grown_plans::CampaignPlan;
+use crate::{Finding, JudgedPlan, Names, Report, write_scenario};
 use scenario_values::Scenario;
 use std::alloc::{AllocError, Global};
 use std::fmt::Write;
@@ -62,20 +60,28 @@ fn write_failure_head(out: &mut String, code: &str) -> Result<(), AllocError>
     out.push_str("\">")
 }
 
+/// What a failing case tells: its scenario, escaped, and its finding, if it is the first with its code.
+#[derive(Drop)]
+struct Failure<'a> {
+    scenario: &'a str,
+    found: Option<&'a Finding>,
+}
+
 /// Appends the element of a failing case.
 #[tactic(auto, unfolding(crate::specs::junit_form::Junit::failure_text))]
 fn write_failure(
     alloc: Global,
     out: &mut String,
     code: &str,
-    scenario: &str,
-    found: Option<&Finding>,
+    failure: &Failure<'_>,
 ) -> Result<(), AllocError>
-    ensures { OnOk result (string_bytes out.new ≡ string_bytes out.old ++ failure_text code.now scenario.now (option_map (λ f. f.now) found.entry)) }
+    ensures { OnOk result (string_bytes out.new
+        ≡ string_bytes out.old ++ failure_text code.now failure.now.scenario.now (option_map (λ f. f.now) failure.now.found)) }
 {
+    let scenario = failure.scenario;
     write_failure_head(out, code)?;
     write!(out, "scenario {scenario}\n")?;
-    write_reduced(alloc, out, found)?;
+    write_reduced(alloc, out, failure.found)?;
     out.push_str("</failure>")
 }
 
@@ -94,45 +100,38 @@ fn write_result<N: Names>(
     out: &mut String,
     names: &N,
     verdict: Verdict,
-    scenario: &str,
-    found: Option<&Finding>,
+    failure: &Failure<'_>,
 ) -> Result<(), AllocError>
     ensures { OnOk result (string_bytes out.new ≡ string_bytes out.old
-        ++ result_text (N.code_text names.now) verdict scenario.now (option_map (λ f. f.now) found.entry)) }
+        ++ result_text (N.code_text names.now) verdict failure.now.scenario.now (option_map (λ f. f.now) failure.now.found)) }
 {
     match verdict {
         Verdict::Pass => out.push_str("/>\n"),
         Verdict::Unresolved => out.push_str("><skipped message=\"unresolved\"/></testcase>\n"),
         Verdict::Fail(code) => {
             out.push_str(">")?;
-            write_failure(alloc, out, names.code(code), scenario, found)?;
+            write_failure(alloc, out, names.code(code), failure)?;
             out.push_str("</testcase>\n")
         }
     }
 }
 
-/// The case of the plan with this number.
+/// The case of a plan.
 pub fn write_case<N: Names>(
     alloc: Global,
     out: &mut String,
     names: &N,
     report: &Report<'_>,
-    number: usize,
-    plan: &CampaignPlan<'_>,
+    judged: &JudgedPlan<'_>,
 ) -> Result<(), AllocError>
-    requires { number < length report.now.verdicts }
-    ensures { OnOk result (string_bytes out.new ≡ string_bytes out.old ++ case_text (N.code_text names.now) report.now number
-        (slice_index_or report.now.verdicts number verdict.Pass) plan.now) }
+    ensures { OnOk result (string_bytes out.new ≡ string_bytes out.old
+        ++ case_text (N.code_text names.now) report.now judged.now.number judged.now.verdict judged.now.plan) }
 {
-    let scenario = escaped_scenario(alloc, &plan.scenario(alloc)?)?;
-    write_head(out, report.label, number, scenario.as_str())?;
-    let found = found_at(&report.findings, number);
-    write_result(
-        alloc,
-        out,
-        names,
-        report.verdicts[number],
-        scenario.as_str(),
-        found,
-    )
+    let scenario = escaped_scenario(alloc, &judged.plan.scenario(alloc)?)?;
+    write_head(out, report.label, judged.number, scenario.as_str())?;
+    let failure = Failure {
+        scenario: scenario.as_str(),
+        found: found_at(&report.findings, judged.number),
+    };
+    write_result(alloc, out, names, judged.verdict, &failure)
 }

@@ -4,7 +4,7 @@ ghost use Rattle.target_trait.specs.Verdicts.{is_fail, is_unresolved};
 ghost use Rattle.report.specs.junit_form.Junit.{cases_text, suite_head, suite_counts, suite_end, document_text};
 
 use crate::junit_form::cases::write_case;
-use crate::{Names, Report, failures, unresolved};
+use crate::{JudgedPlan, Names, Report, failures, unresolved};
 use grown_plans::CampaignPlans;
 use std::alloc::{AllocError, Global};
 use std::fmt::Write;
@@ -59,7 +59,12 @@ fn write_cases<N: Names>(
         ++ cases_text (N.code_text names.now) report.now 0 report.now.verdicts plans.now) }
 {
     for number in 0..plans.len() {
-        write_case(alloc, out, names, report, number, &plans.plan(number))?;
+        let judged = JudgedPlan {
+            number,
+            verdict: report.verdicts[number],
+            plan: plans.plan(number),
+        };
+        write_case(alloc, out, names, report, &judged)?;
     }
     Ok(())
 }

@@ -10,9 +10,9 @@ use Rattle.report.proofs.json_form.about.write_about.Goals as goal
 
 pub returns : goal.returns
 returns c =
-    let notes : NotesFacts = c.args.notes.now in
-    let shown : ShownFacts = c.args.shown.now in
-    let runs : RunsFacts = c.args.runs.now in
+    let notes : NotesFacts = c.args.appendix.now.notes.now in
+    let shown : ShownFacts = c.args.appendix.now.shown.now in
+    let runs : RunsFacts = c.args.appendix.now.runs.now in
     on_ok_weaker c.token-3.result
     (λ ends. key_first c.args.out.now (codes "about") _ c.in_ok-token.ensures.ok
     (ten_members c.token.new.self (member_tokens (codes "program_version") (string notes.version)) (member_tokens (codes "told_by") (string notes.told_by))

@@ -20,13 +20,13 @@ returns g c =
     (member_tokens (codes "seed") (string (decimal report.seed))) (member_tokens (codes "clean") (clean_value name report.clean))
     (member_tokens (codes "census") (list_of (point_values points report.census)))
     (member_tokens (codes "counts") (counts_value report.verdicts))
-    (member_tokens (codes "not_passed") (list_of (reported_values name 0 report.verdicts c.args.shown.now.plans)))
+    (member_tokens (codes "not_passed") (list_of (reported_values name 0 report.verdicts c.args.appendix.now.shown.now.plans)))
     (member_tokens (codes "findings") (list_of (map (finding_value name) report.findings)))
     (member_tokens (codes "growth") (growth_value points name report.growth))
-    (member_tokens (codes "about") (about_value c.args.notes.now c.args.shown.now c.args.runs.now))
+    (member_tokens (codes "about") (about_value c.args.appendix.now.notes.now c.args.appendix.now.shown.now c.args.appendix.now.runs.now))
     (codes "unmet") report.unmet
     (member (codes "findings") (list_of (map (finding_value name) report.findings))
-    (member (codes "growth") (growth_value points name report.growth) (member (codes "about") (about_value c.args.notes.now c.args.shown.now c.args.runs.now) no_members)))
+    (member (codes "growth") (growth_value points name report.growth) (member (codes "about") (about_value c.args.appendix.now.notes.now c.args.appendix.now.shown.now c.args.appendix.now.runs.now) no_members)))
     (c.in_ok-token.ensures.ok ∙ ap (λ (ts : List Token). ts ++ begin_object ∷ []) c.new-out.ensures) c.in_ok-write_head.ensures
     (c.in_ok-write_results.ensures
     ∙ ap (λ (plans : List Entries). c.write_head.new.out ++ member_tokens (codes "census") (list_of (point_values points report.census))
