@@ -86,12 +86,13 @@ where
     };
     let alloc = on.alloc;
     let jobs = growers(alloc, on.gate, on.target, &input)?;
+    let count = (end - first) as u32;
     let gate = RangeGate {
         gate: on.gate,
         first: first as u32,
-        plans: (end - first) as u32,
+        plans: count,
     };
-    gate.expect(stage, gate.plans);
+    on.gate.expect(stage, count);
     let ranges = ranges_in_order(on.rt, alloc, &gate, jobs)?;
     let mut whole = Growth::none(alloc, T::catalogue().len())?;
     for growth in ranges {

@@ -9,5 +9,5 @@ invariant-loop-growth g l = record {
   parts : l.yielded ++ l.growth-iterator.rest.items ≡ l.initial.growth-iterator.rest.items;
   grown :
       IsGrowth (subject_in g.T.Target l.on) l.on.limits.seed l.fn.part l.plans l.first
-      (range_start l.gate.plans (length l.yielded)) l.whole;
+      (range_start l.count (length l.yielded)) l.whole;
 }
