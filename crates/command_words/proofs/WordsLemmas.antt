@@ -136,6 +136,7 @@ values-rows f =
       first_value-rows f (codes "explain"),
       first_value-rows f (codes "left"),
       first_value-rows f (codes "shard"),
+      first_value-rows f (codes "follow"),
       first_value-rows f (codes "strict"),
       first_value-rows f (codes "recheck"),
       first_value-rows f (codes "progress"),

@@ -19,7 +19,7 @@ use Rattle.command_words.specs.declared.words.AskedPart.TheVariants as part
 use Rattle.command_words.specs.declared.words.Form.{Form}
 use Rattle.command_words.specs.declared.words.Form.TheVariants.{Whole, Brief, Json, Junit, Page}
 use Rattle.command_words.specs.declared.words.Line.{Line}
-use Rattle.command_words.specs.declared.words.Line.TheVariants.{Own, Outside}
+use Rattle.command_words.specs.declared.words.Line.TheVariants.{Own, Outside, Follow}
 use Rattle.command_words.specs.declared.words.Order.{Order}
 use Rattle.command_words.specs.declared.words.Order.TheVariants as order
 use Rattle.command_words.specs.declared.words.ProgressForm.{ProgressForm}
@@ -83,6 +83,10 @@ partial_rule = flag_rule (codes "partial")
 abbrev pub explain_rule : Rule
 explain_rule = value_rule (codes "explain")
 
+-- The flag --follow.
+abbrev pub follow_rule : Rule
+follow_rule = flag_rule (codes "follow")
+
 -- The flag --left.
 abbrev pub left_rule : Rule
 left_rule = flag_rule (codes "left")
@@ -133,10 +137,10 @@ shown_app app = with_rule (with_rule app progress_rule) progress_plain_rule
 abbrev pub rechecked_app : App → App
 rechecked_app app = with_rule app recheck_rule
 
--- A command that prints which scenarios are still to be tried: all, a part of them, or how many. FILE is required, since standard input has the
--- answers.
+-- A command that prints which scenarios are still to be tried: all, a part of them, how many, or all as soon as each is known. FILE is required, since
+-- standard input has the answers.
 abbrev pub asks_app : Text → App
-asks_app name = with_rule (with_rule (with_rule (new_app name) left_rule) shard_rule) needed_file_rule
+asks_app name = with_rule (with_rule (with_rule (with_rule (new_app name) left_rule) shard_rule) follow_rule) needed_file_rule
 
 -- A command that prints a report by answers: in one of the forms, as a page, or what is known of it until now.
 abbrev pub told_app : App → App
@@ -197,6 +201,7 @@ pub record Values : Type 0 where
   pub explain : Option Text
   pub left : Option Text
   pub shard : Option Text
+  pub follow : Option Text
   pub strict : Option Text
   pub recheck : Option Text
   pub progress : Option Text
@@ -215,6 +220,7 @@ values_in rows = record {
   explain = first_of (codes "explain") rows;
   left = first_of (codes "left") rows;
   shard = first_of (codes "shard") rows;
+  follow = first_of (codes "follow") rows;
   strict = first_of (codes "strict") rows;
   recheck = first_of (codes "recheck") rows;
   progress = first_of (codes "progress") rows;
@@ -235,6 +241,7 @@ values_of f = record {
   explain = first_value f (codes "explain");
   left = first_value f (codes "left");
   shard = first_value f (codes "shard");
+  follow = first_value f (codes "follow");
   strict = first_value f (codes "strict");
   recheck = first_value f (codes "recheck");
   progress = first_value f (codes "progress");
@@ -323,6 +330,15 @@ abbrev pub IsQuestion : Text → Values → Question → Type 0
 IsQuestion name v (Asks part) = (name ≡ codes "asks") × IsPart v part
 IsQuestion name v question = (name ≡ codes "report") × IsReportQuestion v question
 
+-- Whether the command is `asks --follow`.
+abbrev pub is_followed : Text → Values → Bool
+is_followed name v = bytes_eq name (codes "asks") && is_set v.follow
+
+-- `asks --follow` follows the answers, and takes neither --left nor K/N.
+abbrev pub IsFollowLine : Values → Line → Type 0
+IsFollowLine v (Follow own) = (is_set v.left ≡ false) × (v.shard ≡ None) × (v.file ≡ Some (string_bytes own))
+IsFollowLine v _ = ⊥
+
 -- Without a command the program runs a campaign: with the whole report, neither strict nor rechecked, with settings from standard input, and without
 -- progress.
 abbrev pub IsRun : Line → Type 0
@@ -332,7 +348,8 @@ IsRun _ = ⊥
 -- A command's name and its values give this line.
 abbrev pub IsLineOf : Text → Values → Line → Type 0
 IsLineOf name v (Own order progress own) = IsOrder name v order × (progress ≡ progress_form_of v) × (option_map string_bytes own ≡ v.file)
-IsLineOf name v (Outside question own) = IsQuestion name v question × (v.file ≡ Some (string_bytes own))
+IsLineOf name v (Outside question own) = IsQuestion name v question × (is_followed name v ≡ false) × (v.file ≡ Some (string_bytes own))
+IsLineOf name v (Follow own) = (is_followed name v ≡ true) × IsFollowLine v (Follow own)
 
 -- The matches give this line.
 abbrev pub IsLine : Option (Text × List Row) → Line → Type 0
@@ -412,12 +429,22 @@ part_kinds left None = []
 part_kinds true (Some text) = ArgumentConflict ∷ []
 part_kinds false (Some text) = shard_kinds text
 
+-- The kinds of error of --left and K/N beside --follow: neither may be given.
+abbrev pub follow_kinds : Bool → Option Text → Kinds
+follow_kinds false None = []
+follow_kinds true shard = ArgumentConflict ∷ []
+follow_kinds false (Some text) = ArgumentConflict ∷ []
+
+-- The kinds of error of the values of `asks`.
+abbrev pub asks_kinds : Values → Kinds
+asks_kinds v = if is_set v.follow then follow_kinds (is_set v.left) v.shard else part_kinds (is_set v.left) v.shard
+
 -- The kinds of error of a command's name and its values.
 abbrev pub choice_kinds : Text → Values → Kinds
 choice_kinds name v =
     if takes_scenario name then which_kinds v.scenario v.plan
     else if bytes_eq name (codes "run") then only_kinds (form_of v)
-    else if bytes_eq name (codes "asks") then part_kinds (is_set v.left) v.shard
+    else if bytes_eq name (codes "asks") then asks_kinds v
     else if bytes_eq name (codes "report") then report_kinds v
     else []
 

@@ -74,6 +74,8 @@ pub const LEFT: &str = "Write only how many scenarios are left to be tried, as `
 pub const SHARD: &str =
     "Write each N-th line, from line K on: 1/3, 2/3 and 3/3 are all lines, each once";
 
+pub const FOLLOW: &str = "Go on while answers come, and write each scenario as soon as it is known";
+
 pub const STRICT: &str = "Warn on standard error about gaps in the report, and then end with 5";
 
 pub const RECHECK: &str =
@@ -124,8 +126,10 @@ that nobody knows. If the settings have no depth, the tab and the hits may be le
 Answers may come in any order, and more than once. Two that contradict each other are refused.
 
 `asks` writes the scenarios that have no answer yet, each on a line of its own, and nothing if all
-is known. `report` writes the report. If a scenario has no answer, it says which one is
-`not answered`, and ends with 2.
+is known. With --follow it goes on while answers come: each scenario is written once, as soon as it
+is known, beginning with those that are asked if nothing is answered. It ends when nothing is left
+to be tried, or when the answers end. `report` writes the report. If a scenario has no answer, it
+says which one is `not answered`, and ends with 2.
 
 Example:
   paklour asks my.toml < answers | xargs -r -d '\\n' -n 1 ./try.sh >> answers
@@ -135,6 +139,8 @@ Example:
   paklour report --partial my.toml < answers      what is known so far
   paklour report --explain 'sys::fsync=1*return' my.toml < answers      one run, hit by hit
   paklour asks --shard 1/3 my.toml < answers      what the first of three machines tries
+  mkfifo new && paklour asks --follow my.toml < new | while read -r scenario; do
+      ./try.sh \"$scenario\"; done > new            no scenario waits for the others of its level
 with settings as
   target = \"outside\"
   seed = 7

@@ -2,7 +2,7 @@
 ghost use Rattle.std.specs.Prelude.{◌≡◌, ◌↔◌, ◌∷◌, [], IsTrue, Some, None, not, option_map, is_some, true, false, ◌++◌, IfOk, IfErr, IfSome, OnOk, map, codes, string_bytes};
 ghost use Rattle.clap.specs.Words.{app_of, fault_of, first_value, found_of, new_app, rule_of, subcommand_of, takes};
 ghost use Rattle.clap.specs.declared.builder.command.Command.TheViews.{out-Command as fields_of};
-ghost use Rattle.command_words.specs.Words.{AsksToSee, HasAlso, HasNeeded, IsFaultOf, IsLine, IsLineOf, IsName, IsOrder, IsOrderName, IsPart, IsQuestion, IsQuestionName, IsRefusedFor, IsScenarioName, IsWhich, bare_app, campaign_commands, choice_fault, choice_kinds, file_app, file_rule, flag_rule, form_of, formed_app, told_app, named_if, needed_file_rule, paklour, is_set, part_kinds, progress_form_of, spelled, spelled_word, asks_app, question_commands, question_report_app, rechecked_app, report_app, scenario_app, scenario_commands, shown_app, value_rule, values_of, which_kinds, with_commands, words_fault, IsReportQuestion, is_alone, named_shown, only, only_kinds, report_kinds};
+ghost use Rattle.command_words.specs.Words.{AsksToSee, HasAlso, HasNeeded, IsFaultOf, IsFollowLine, IsLine, IsLineOf, IsName, IsOrder, IsOrderName, IsPart, IsQuestion, IsQuestionName, IsRefusedFor, IsScenarioName, IsWhich, bare_app, campaign_commands, choice_fault, choice_kinds, file_app, file_rule, flag_rule, follow_kinds, form_of, formed_app, told_app, named_if, needed_file_rule, paklour, is_followed, is_set, part_kinds, progress_form_of, spelled, spelled_word, asks_app, question_commands, question_report_app, rechecked_app, report_app, scenario_app, scenario_commands, shown_app, value_rule, values_of, which_kinds, with_commands, words_fault, IsReportQuestion, is_alone, named_shown, only, only_kinds, report_kinds};
 ghost use Rattle.command_words.specs.declared.words.WordsFault.TheVariants.{Memory};
 
 use crate::help;
@@ -130,6 +130,10 @@ pub enum Line {
     /// A question, with the settings in the file and the answers on standard input.
     Outside {
         question: Question,
+        file: String,
+    },
+    /// Which scenarios are still to be tried, each as soon as it is known, with the settings in the file, while answers come on standard input.
+    Follow {
         file: String,
     },
 }
@@ -336,6 +340,7 @@ fn asks_command<'a>(alloc: Global, name: &'a str, about: &'a str) -> Result<Comm
     named(alloc, name, about, help::ANSWERS)
         .arg(flag_arg(alloc, "left", help::LEFT))?
         .arg(value_arg(alloc, "shard", "K/N", help::SHARD))?
+        .arg(flag_arg(alloc, "follow", help::FOLLOW))?
         .arg(needed_file_arg(alloc))
 }
 
@@ -511,6 +516,9 @@ fn line_of<'a>(alloc: Global, name: &str, own: &ArgMatches<'a>) -> Result<Line, 
     ensures taken { IfOk result (λ _. choice_kinds name.now (values_of (found_of own.now)) ≡ []) }
     ensures refused { IfErr result (IsRefusedFor (choice_kinds name.now (values_of (found_of own.now)))) }
 {
+    if is_followed(name, own) {
+        return following(alloc, own);
+    }
     match question_of(alloc, name, own)? {
         Some(question) => Ok(Line::Outside {
             question,
@@ -522,6 +530,31 @@ fn line_of<'a>(alloc: Global, name: &str, own: &ArgMatches<'a>) -> Result<Line, 
             file: file_of(alloc, own)?,
         }),
     }
+}
+
+// Whether the command of this name follows the answers.
+fn is_followed<'a>(name: &str, own: &ArgMatches<'a>) -> bool
+    ensures { result ≡ is_followed name.now (values_of (found_of own.now)) }
+{
+    name == "asks" && is_set(own, "follow")
+}
+
+// The line of the command that follows the answers. It writes all that is asked, so it takes no part of that.
+fn following<'a>(alloc: Global, own: &ArgMatches<'a>) -> Result<Line, WordsFault>
+    requires { is_some (first_value (found_of own.now) (codes "file")) ≡ true }
+    ensures ok { IfOk result (IsFollowLine (values_of (found_of own.now))) }
+    ensures taken { IfOk result (λ _. (let v = values_of (found_of own.now) in follow_kinds (is_set v.left) v.shard) ≡ []) }
+    ensures refused { IfErr result (IsRefusedFor (let v = values_of (found_of own.now) in follow_kinds (is_set v.left) v.shard)) }
+{
+    if is_set(own, "left") {
+        return Err(two_forms(alloc, "asks", "follow", "left"));
+    }
+    if own.get_str("shard").is_some() {
+        return Err(two_forms(alloc, "asks", "follow", "shard <K/N>"));
+    }
+    Ok(Line::Follow {
+        file: given(alloc, own, "file")?,
+    })
 }
 
 // The form in which progress is shown. If both are asked for, it is plain lines.
@@ -543,6 +576,7 @@ fn question_of<'a>(
     name: &str,
     own: &ArgMatches<'a>,
 ) -> Result<Option<Question>, WordsFault>
+    requires { is_followed name.now (values_of (found_of own.now)) ≡ false }
     ensures some { IfOk result (λ question. IfSome question (IsQuestion name.now (values_of (found_of own.now)))) }
     ensures none { IfOk result (λ question. question ≡ None → ¬ IsQuestionName name.now) }
     ensures taken { IfOk result (λ question. is_some question ≡ true → choice_kinds name.now (values_of (found_of own.now)) ≡ []) }
