@@ -1,5 +1,6 @@
 """Calls the program `paklour`, which lists the scenarios to try and writes the reports. It runs nothing itself: it only reads settings and answers."""
 
+import functools
 import re
 import subprocess
 import time
@@ -33,6 +34,11 @@ class Paklour:
     def tell_notes(self, done: subprocess.CompletedProcess) -> None:
         """Shows each line of its standard error once, though each call prints it again."""
         show_once(done.stderr.decode("utf-8", "surrogateescape"))
+
+    @functools.cached_property
+    def can_follow(self) -> bool:
+        """Whether this program follows answers, which an older one doesn't."""
+        return b"--follow" in subprocess.run(["paklour", "help", "asks"], stdin=subprocess.DEVNULL, capture_output=True, check=False).stdout
 
     def asks(self) -> list[str]:
         """The scenarios that are still to be tried. If settings or answers can't be read, the campaign ends."""

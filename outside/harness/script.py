@@ -1,5 +1,6 @@
 """Makes runs by a script of the user, TRY, which gets a scenario and prints the answer's line."""
 
+import itertools
 import os
 import queue
 import shutil
@@ -7,7 +8,7 @@ import signal
 import subprocess
 import threading
 import time
-from collections.abc import Iterator
+from collections.abc import Iterable, Iterator
 
 from .answers import MOST, Stopped, changed
 from .paklour import Paklour, failing_plans
@@ -50,6 +51,8 @@ class Tries:
 class Here(Tries):
     """Runs TRY on this machine, several at once."""
 
+    takes_more = True
+
     def __init__(self, *words, processes: Processes):
         super().__init__(*words)
         self.processes = processes
@@ -76,16 +79,24 @@ class Here(Tries):
                 done.put((scenario, *self.run(scenario)))
             except Ended:
                 return
+        done.put(None)
 
-    def try_all(self, asked: list[str]) -> Iterator[str]:
+    def hand_out(self, batches: Iterable[list[str]], scenarios: queue.SimpleQueue) -> None:
+        for batch in batches:
+            for scenario in batch:
+                scenarios.put(scenario)
+        for _ in range(self.jobs):
+            scenarios.put(None)
+
+    def try_all(self, asked: list[str], more: Iterable[list[str]] = ()) -> Iterator[list[str]]:
         scenarios: queue.SimpleQueue = queue.SimpleQueue()
         done: queue.SimpleQueue = queue.SimpleQueue()
-        for scenario in [*asked, *[None] * self.jobs]:
-            scenarios.put(scenario)
+        threading.Thread(target=self.hand_out, args=(itertools.chain([asked], more), scenarios), daemon=True).start()
         for _ in range(self.jobs):
             threading.Thread(target=self.work, args=(scenarios, done), daemon=True).start()
-        for _ in asked:
-            yield from self.answers_of(*done.get())
+        for _ in range(self.jobs):
+            while (tried := done.get()) is not None:
+                yield self.answers_of(*tried)
 
     def end(self) -> None:
         self.processes.end()
@@ -94,6 +105,8 @@ class Here(Tries):
 class Parallel(Tries):
     """Lets GNU parallel run TRY, also on other machines."""
 
+    takes_more = False  # GNU parallel begins nothing before it has read as many scenarios as it runs at once
+
     def __init__(self, *words, options: list[str]):
         super().__init__(*words)
         if not shutil.which("parallel"):
@@ -101,14 +114,14 @@ class Parallel(Tries):
         self.options = options
         self.process: subprocess.Popen | None = None
 
-    def try_all(self, asked: list[str]) -> Iterator[str]:
+    def try_all(self, asked: list[str], more: Iterable[list[str]] = ()) -> Iterator[list[str]]:
         words = ["sh", "-c", REMOTE.replace("\n", " "), "one", str(self.seconds), self.name, self.hits, str(WITHIN), str(MOST + 1), "{}"]
         self.process = subprocess.Popen(["parallel", "--will-cite", "-q", "-j", str(self.jobs), *self.options, *words],
             stdin=subprocess.PIPE, stdout=subprocess.PIPE, start_new_session=True)
         threading.Thread(target=self.feed, args=(asked,), daemon=True).start()
         for head in self.process.stdout:
             took, size, scenario = head.decode("utf-8", "surrogateescape").rstrip("\n").split(" ", 2)
-            yield from self.answers_of(scenario, float(took), self.process.stdout.read(int(size)))
+            yield self.answers_of(scenario, float(took), self.process.stdout.read(int(size)))
         self.process.wait()
 
     def feed(self, asked: list[str]) -> None:
@@ -128,14 +141,15 @@ def recheck(paklour: Paklour, tries: Tries, report: bytes, shows_progress: bool)
     if shows_progress:
         show(f"loop: {len(failing)} failing plans are run once more")
     first = {fields[1]: fields[2:3] for fields in (line.split("\t") for line in paklour.answers.lines()) if len(fields) > 1}
-    again = {fields[1]: fields for fields in (line.split("\t") for line in tries.try_all([scenario for _, scenario in failing])) if len(fields) > 1}
+    told = itertools.chain.from_iterable(tries.try_all([scenario for _, scenario in failing]))
+    again = {fields[1]: fields for fields in (line.split("\t") for line in told) if len(fields) > 1}
     is_same = True
     for verdict, scenario in failing:
-        told = again.get(scenario, ["no answer"])
-        if told[0] != verdict:
-            show(f"loop: {changed('verdict', verdict, told[0], scenario)}")
-        elif scenario in first and first[scenario] != told[2:3]:
-            show(f"loop: {changed('hits', ''.join(first[scenario]), ''.join(told[2:3]), scenario)}")
+        then = again.get(scenario, ["no answer"])
+        if then[0] != verdict:
+            show(f"loop: {changed('verdict', verdict, then[0], scenario)}")
+        elif scenario in first and first[scenario] != then[2:3]:
+            show(f"loop: {changed('hits', ''.join(first[scenario]), ''.join(then[2:3]), scenario)}")
         else:
             continue
         is_same = False

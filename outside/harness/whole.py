@@ -4,7 +4,7 @@ import math
 import os
 import shlex
 from collections import Counter
-from collections.abc import Iterator
+from collections.abc import Iterable, Iterator
 from dataclasses import dataclass
 from pathlib import Path
 
@@ -53,6 +53,7 @@ class Whole:
     """A campaign of a harness, and its engine: it passes on what the workers decide, and prints lines about it."""
 
     name = "the harness"
+    takes_more = True
 
     def __init__(self, harness: Harness, settings: Settings, decider: Decider, answers: Answers, asked: Asked):
         self.harness = harness
@@ -60,6 +61,7 @@ class Whole:
         self.decider = decider
         self.answers = answers
         self.asked = asked
+        self.jobs = asked.jobs
         self.folder = Path(answers.path).parent
         self.paklour = Paklour(str(settings.path), answers, LOOK_SHARE)
         self.workers = Workers(decider, asked.jobs)
@@ -69,14 +71,14 @@ class Whole:
 
     # ---- as an engine
 
-    def try_all(self, asked: list[str]) -> Iterator[str]:
+    def try_all(self, asked: list[str], more: Iterable[list[str]] = ()) -> Iterator[list[str]]:
         self.tell_size(asked)
-        for outcome in self.workers.decided(asked):
+        for outcome in self.workers.decided(asked, more):
             answer = outcome.answer(self.settings.depth > 0)
             self.settings.take_code(answer)
             if outcome.scenario == "none":
                 self.require_pass(outcome)
-            yield answer
+            yield [answer]
             self.tell(outcome)
 
     # ---- lines for a person
@@ -144,7 +146,7 @@ class Whole:
         for point, why in self.settings.refused_points():
             raise Stopped(f"{self.settings.path}: {point}: {why}")
         try:
-            campaign.grow(mine=self.mine)
+            campaign.grow(mine=self.mine if self.asked.shard else None)
             return self.report() if not self.asked.shard else self.end_of_shard()
         except Enough:
             return self.end_early()
@@ -153,8 +155,6 @@ class Whole:
             return DIFFERS
 
     def mine(self, asked: list[str]) -> list[str]:
-        if not self.asked.shard:
-            return asked
         places = places_in(self.answers)
         return [text for text in asked if self.asked.shard.has(text, places)]
 

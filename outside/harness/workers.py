@@ -1,8 +1,9 @@
 """Threads that decide scenarios side by side. Scenarios that can be derived from one run go to one thread."""
 
+import itertools
 import queue
 import threading
-from collections.abc import Callable, Iterator
+from collections.abc import Callable, Iterable, Iterator
 
 from .deciding import Decider
 from .judging import LooksUp
@@ -52,24 +53,37 @@ class Workers:
                     done.put(error)
                     return
 
-    def side_by_side(self, units: list[Unit], decide: Callable[[str], Outcome]) -> Iterator[Outcome]:
+    def hand_out(self, batches: Iterable[list[Unit]], decide: Callable[[str], Outcome], done: queue.SimpleQueue) -> None:
+        """Hands out units as they come, and says at last how many scenarios there were."""
+        count = 0
+        for units in batches:
+            for unit in units:
+                count += len(unit)
+                self.todo.put((unit, decide, done))
+        done.put(count)
+
+    def side_by_side(self, batches: Iterable[list[Unit]], decide: Callable[[str], Outcome]) -> Iterator[Outcome]:
         """The outcomes, in the order in which they come. Earlier units that nobody waits for any more are dropped."""
         done: queue.SimpleQueue = queue.SimpleQueue()
         self.awaited = done
-        for unit in units:
-            self.todo.put((unit, decide, done))
-        for _ in range(sum(map(len, units))):
-            outcome = done.get()
-            if isinstance(outcome, Exception):
-                raise outcome
-            yield outcome
+        threading.Thread(target=self.hand_out, args=(batches, decide, done), daemon=True).start()
+        count, wanted = 0, None
+        while count != wanted:
+            came = done.get()
+            if isinstance(came, Exception):
+                raise came
+            if isinstance(came, Outcome):
+                count += 1
+                yield came
+            else:
+                wanted = came
 
-    def decided(self, asked: list[str]) -> Iterator[Outcome]:
-        return self.side_by_side(self.units(asked), self.decider.decide)
+    def decided(self, asked: list[str], more: Iterable[list[str]] = ()) -> Iterator[Outcome]:
+        return self.side_by_side(map(self.units, itertools.chain([asked], more)), self.decider.decide)
 
     def run_again(self, scenarios: list[str]) -> Iterator[Outcome]:
         """Makes a run for each scenario. Failures, and the run without faults, are judged again."""
         def run(text: str) -> Outcome:
             return self.decider.run_again(text, LooksUp.NONE if text == "none" else LooksUp.PASSES)
 
-        return self.side_by_side([[text] for text in scenarios], run)
+        return self.side_by_side([[[text] for text in scenarios]], run)
