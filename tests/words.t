@@ -248,6 +248,12 @@ A plan has one of 65536 numbers, and a scenario is given in one way.
   error: invalid value '' for '--shard <K/N>': not K/N with K from 1 to N, and N up to 65535
   $ refused asks --left --shard 1/2 f
   error: the argument '--left' cannot be used with '--shard <K/N>'
+  $ refused asks --follow --left f
+  error: the argument '--follow' cannot be used with '--left'
+  $ refused asks --shard 1/2 --follow f
+  error: the argument '--follow' cannot be used with '--shard <K/N>'
+  $ refused report --follow f
+  error: unexpected argument '--follow' found
   $ refused asks --brief f
   error: unexpected argument '--brief' found
   $ refused report --partial --brief f

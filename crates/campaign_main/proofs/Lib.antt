@@ -12,3 +12,4 @@ mod ShownLemmas
 pub mod KeepLemmas
 mod SteadyLemmas
 mod PlanQuestions
+mod LineLemmas

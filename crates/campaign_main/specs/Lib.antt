@@ -7,4 +7,5 @@ pub mod Promises
 pub mod OwnTarget
 pub mod QuestionNotes
 pub mod Questions
+pub mod Following
 pub mod inside

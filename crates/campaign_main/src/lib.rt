@@ -9,6 +9,7 @@ mod command;
 mod cut_end;
 mod exit;
 mod fault;
+mod following;
 mod input;
 mod lines;
 mod notes;
@@ -20,7 +21,10 @@ mod questions;
 mod refusals;
 mod run_notes;
 mod steady;
+mod subject;
 mod telling;
+mod told;
+mod told_line;
 
 pub use answering::{Answer, answer_question};
 pub use campaign_core::{
@@ -38,6 +42,7 @@ pub use command_words::{
 pub use commit_target::{Transactions, Variant as CommitVariant, Vote, Votes};
 pub use exit::{Exit, status};
 pub use file_replace::{Chunks, Replacements, Variant as ReplaceVariant};
+pub use following::perform_follow;
 pub use input::{ReadFault, read_all};
 pub use maildir_target::{Messages, Variant as MaildirVariant};
 pub use outside_campaign::{OutsideCampaign, OutsideFault, QuestionFault};

@@ -3,18 +3,15 @@ ghost use Rattle.std.specs.Prelude.{◌≡◌, false, string_bytes, IfSome, Ok};
 ghost use Rattle.campaign_core.specs.Writes.{change};
 ghost use Rattle.campaign_main.specs.Ends.{EndsAs, IsNoted, Leaves, OnWhole, TellsAs, TellsOf};
 ghost use Rattle.campaign_main.specs.QuestionNotes.{question_notes};
-ghost use Rattle.campaign_main.specs.Questions.{EndsAnswered, EndsQuestion, IsNotAnswered, NotesQuestion, TellsOfQuestion, TellsWhy, chosen_subject, subject_in, subject_of, text_subject, written_for};
+ghost use Rattle.campaign_main.specs.Questions.{EndsAnswered, EndsQuestion, IsNotAnswered, NotesQuestion, TellsOfQuestion, TellsWhy, subject_in, subject_of, written_for};
 
 use crate::answer_notes::is_question_doubted;
 use crate::answering::{Answer, answer_question};
 use crate::exit::{Exit, concluded, exit_of};
-use crate::input::{read_all, read_bytes};
-use crate::lines::{
-    cut_off, end_bad_settings, end_question, end_unreadable_answers, end_unreadable_settings, note,
-    refuse_bundled,
-};
+use crate::input::read_bytes;
+use crate::lines::{cut_off, end_question, end_unreadable_answers, note};
+use crate::subject::read_outside;
 use answer_text::LIMIT;
-use campaign_settings::{Choice, Settings};
 use command_words::Question;
 use outside_campaign::OutsideCampaign;
 use report::write_report;
@@ -98,64 +95,6 @@ fn answer_on<A: Read, W: Sink, E: Sink>(
     }
 }
 
-/// Answers a question on what the settings choose.
-fn answer_choice<A: Read, W: Sink, E: Sink>(
-    alloc: Global,
-    question: &Question,
-    settings: &Settings,
-    answers: &mut A,
-    output: &mut W,
-    faults: &mut E,
-) -> Exit
-    requires output { W.has_failed output.old ≡ false }
-    requires faults { E.has_failed faults.old ≡ false }
-    ensures end { IfSome (A.remaining answers.old) (λ bytes. EndsQuestion question.now
-        (chosen_subject settings.now.campaign settings.now.choice) bytes result (change W.Sink output.old output.new)) }
-    ensures noted { OnWhole result (IfSome (A.remaining answers.old) (λ bytes. NotesQuestion question.now
-        (chosen_subject settings.now.campaign settings.now.choice) bytes (change E.Sink faults.old faults.new))) }
-    ensures cause { result ≡ Exit.Refused → IfSome (A.remaining answers.old)
-        (λ bytes. IsNotAnswered question.now (chosen_subject settings.now.campaign settings.now.choice) bytes (change E.Sink faults.old faults.new)) }
-    ensures output { Leaves result (change W.Sink output.old output.new) }
-    ensures told { TellsOfQuestion result (change E.Sink faults.old faults.new) }
-{
-    match &settings.choice {
-        Choice::Outside(outside) => {
-            let campaign = OutsideCampaign {
-                outside,
-                settings: &settings.campaign,
-            };
-            answer_on(alloc, question, &campaign, answers, output, faults)
-        }
-        Choice::Replace(..) | Choice::Maildir(..) | Choice::Commit(..) => refuse_bundled(faults),
-    }
-}
-
-/// Answers a question, by the settings that a text gives.
-fn answer_text<A: Read, W: Sink, E: Sink>(
-    alloc: Global,
-    question: &Question,
-    text: &str,
-    answers: &mut A,
-    output: &mut W,
-    faults: &mut E,
-) -> Exit
-    requires output { W.has_failed output.old ≡ false }
-    requires faults { E.has_failed faults.old ≡ false }
-    ensures end { IfSome (A.remaining answers.old) (λ bytes. EndsQuestion question.now (text_subject text.now) bytes result
-        (change W.Sink output.old output.new)) }
-    ensures noted { OnWhole result (IfSome (A.remaining answers.old) (λ bytes. NotesQuestion question.now (text_subject text.now) bytes
-        (change E.Sink faults.old faults.new))) }
-    ensures cause { result ≡ Exit.Refused → IfSome (A.remaining answers.old)
-        (λ bytes. IsNotAnswered question.now (text_subject text.now) bytes (change E.Sink faults.old faults.new)) }
-    ensures output { Leaves result (change W.Sink output.old output.new) }
-    ensures told { TellsOfQuestion result (change E.Sink faults.old faults.new) }
-{
-    match Settings::read(alloc, text) {
-        Ok(settings) => answer_choice(alloc, question, &settings, answers, output, faults),
-        Err(fault) => end_bad_settings(alloc, &fault, faults),
-    }
-}
-
 /// Reads settings, and answers a question on the component that they describe, which somebody else runs: which scenarios are still to be tried, how
 /// many, the report, the interim report, or the recorded run of a scenario. What is known of the component comes from a second reader: a text of
 /// answers, of which up to 268435456 bytes are read. If the settings are refused, no answers are read. This is how it ends:
@@ -203,8 +142,14 @@ pub fn perform_outside<R: Read, A: Read, W: Sink, E: Sink>(
     ensures output { Leaves result (change W.Sink output.old output.new) }
     ensures told { TellsOfQuestion result (change E.Sink faults.old faults.new) }
 {
-    match read_all(alloc, settings) {
-        Ok(text) => answer_text(alloc, question, text.as_str(), answers, output, faults),
-        Err(fault) => end_unreadable_settings(fault, faults),
+    match read_outside(alloc, settings, faults) {
+        Ok(given) => {
+            let campaign = OutsideCampaign {
+                outside: &given.outside,
+                settings: &given.campaign,
+            };
+            answer_on(alloc, question, &campaign, answers, output, faults)
+        }
+        Err(end) => end,
     }
 }

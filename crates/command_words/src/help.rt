@@ -139,8 +139,8 @@ Example:
   paklour report --partial my.toml < answers      what is known so far
   paklour report --explain 'sys::fsync=1*return' my.toml < answers      one run, hit by hit
   paklour asks --shard 1/3 my.toml < answers      what the first of three machines tries
-  mkfifo new && paklour asks --follow my.toml < new | while read -r scenario; do
-      ./try.sh \"$scenario\"; done > new            no scenario waits for the others of its level
+  mkfifo new && paklour asks --follow my.toml < new | xargs -d '\\n' -n 1 ./try.sh |
+      tee answers > new      each scenario as soon as it is known, with -P 4 four at a time
 with settings as
   target = \"outside\"
   seed = 7

@@ -5,8 +5,8 @@
 ghost use Rattle.std.specs.Prelude.{◌≡◌, false};
 
 use campaign_main::{
-    Exit, Host, Line, Order, Question, perform, perform_outside, read_words, refuse_words, status,
-    unreadable_settings, unreadable_words,
+    Exit, Host, Line, Order, Question, perform, perform_follow, perform_outside, read_words,
+    refuse_words, status, unreadable_settings, unreadable_words,
 };
 use campaign_progress::{Cleared, Progress};
 use std::process::ExitCode;
@@ -57,6 +57,7 @@ fn run<H: Threads + Wait + Sync>(rt: &HostRuntime, threads: &H) -> Exit {
         Ok(Line::Outside { question, file }) => {
             run_question(rt, &question, file, &mut output, &mut faults)
         }
+        Ok(Line::Follow { file }) => run_follow(rt, file, &mut output, &mut faults),
         Err(fault) => refuse_words(alloc, &fault, &mut output, &mut faults),
     }
 }
@@ -99,6 +100,26 @@ fn run_question<W: Sink, E: Sink>(
         Ok(mut settings) => {
             let alloc = rt.alloc();
             perform_outside(alloc, question, &mut settings, &mut answers, output, faults)
+        }
+        Err(error) => unreadable_settings(&error, faults),
+    }
+}
+
+/// Writes which scenarios are still to be tried while answers come on standard input, with settings from a file. Standard output keeps nothing back, so
+/// what was written can be read at once.
+fn run_follow<W: Sink, E: Sink>(
+    rt: &HostRuntime,
+    path: String,
+    output: &mut W,
+    faults: &mut E,
+) -> Exit
+    requires output { W.has_failed output.old ≡ false }
+    requires faults { E.has_failed faults.old ≡ false }
+{
+    let mut answers = rt.stdin();
+    match fs::open(rt, path) {
+        Ok(mut settings) => {
+            perform_follow(rt.alloc(), &mut settings, &mut answers, output, faults)
         }
         Err(error) => unreadable_settings(&error, faults),
     }

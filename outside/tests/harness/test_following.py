@@ -148,6 +148,7 @@ class PassedOn(Scripts):
         path, os.environ["PATH"] = os.environ["PATH"], self.environment["PATH"]
         self.addCleanup(os.environ.__setitem__, "PATH", path)
         following = Following(str(self.here / "settings.toml"), Answers(str(self.here / "answers")), [])
+        self.addCleanup(following.process.stdout.close)
         self.addCleanup(following.end)
         following.tell("x" * 98, at_once=False)
         following.tell("y" * 9, at_once=False)

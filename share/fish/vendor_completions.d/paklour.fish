@@ -39,6 +39,7 @@ complete -c paklour -n '__fish_seen_subcommand_from explain' -s h -l help -d 'Pr
 complete -c paklour -n '__fish_seen_subcommand_from explain' -k -a '(__fish_complete_suffix .toml)'
 complete -c paklour -n '__fish_seen_subcommand_from asks' -l left -d 'Write only how many scenarios are left to be tried, as `left 12`'
 complete -c paklour -n '__fish_seen_subcommand_from asks' -l shard -x -d 'Write each N-th line, from line K on: 1/3, 2/3 and 3/3 are all lines, each once'
+complete -c paklour -n '__fish_seen_subcommand_from asks' -l follow -d 'Go on while answers come, and write each scenario as soon as it is known'
 complete -c paklour -n '__fish_seen_subcommand_from asks' -s h -l help -d 'Print help'
 complete -c paklour -n '__fish_seen_subcommand_from asks' -k -a '(__fish_complete_suffix .toml)'
 complete -c paklour -n '__fish_seen_subcommand_from report' -l brief -d 'Count verdicts that pass, and write the scenario beside each other verdict'
