@@ -1,5 +1,5 @@
 -- Looks at answers that grow, what they write, and how following them ends.
-use Rattle.std.proofs.Common.{◌≡◌, ◌≤◌, ◌<◌, ◌+◌, ◌∙◌, ℕ, Bool, true, false, List, [], ◌∷◌, ◌++◌, Option, Some, None, IfSome, IsErrAnd, OnOk, Result, Ok, Err, length, take, drop, fold, cond, refl, ap, sym, subst, inl, inr, ◌⊎◌, arith, append_assoc, length-append, string_bytes}
+use Rattle.std.proofs.Common.{◌≡◌, ◌≤◌, ◌<◌, ◌+◌, ◌∙◌, ℕ, Bool, true, false, List, [], ◌∷◌, ◌++◌, Option, Some, None, IfErr, IfSome, IsErrAnd, OnOk, Result, Ok, Err, length, take, drop, fold, cond, refl, ap, sym, subst, inl, inr, ◌⊎◌, arith, append_assoc, length-append, string_bytes}
 use Rattle.std.specs.Prelude.{String}
 use Rattle.std.specs.List.{concat, list_any}
 use Rattle.std.specs.Str.{bytes_eq}
@@ -121,6 +121,11 @@ module _ (s : Subject) (answers : List ℕ) (lines : List (List ℕ)) (w : Chang
   tell-fails text answer memory (fault.Broken b) h = let e = h.1 in absurd cc
   tell-fails text answer memory (fault.Scenario f) h = let e = h.1 in absurd cc
   tell-fails text answer memory (fault.Unseen line) h = let e = h.1 in absurd cc
+
+-- a fault that is passed up as it is
+pub passed-up : {T : Type 0} (result : Result T QuestionFault) (f : QuestionFault) → IsErrAnd result (λ x. x ≡ f) → (P : QuestionFault → Type 0) → P f → IfErr result P
+passed-up (Ok x) f is P h = absurd is
+passed-up (Err x) f is P h = subst P (sym is) h
 
 -- ---- looks
 
@@ -290,7 +295,3 @@ pub none-followed : (given known : Option (List ℕ)) (v : Change) → IfSome gi
     → IfSome given (λ g. IfSome known (λ bytes. IsNotFollowed (subject_of g) bytes v))
 none-followed None known v h = tt
 none-followed (Some g) known v h = not-followed known (subject_of g) v h
-
-pub for-subject : (given : Option (List ℕ)) (s : Subject) (P : Result Subject Refusal → Type 0) → IfSome given (λ g. subject_of g ≡ Ok s) → P (Ok s) → IfSome given (λ g. P (subject_of g))
-for-subject None s P is h = tt
-for-subject (Some g) s P is h = subst P (sym is) h

@@ -9,12 +9,16 @@ use Rattle.answer_text.specs.declared.fault.AnswersFault.TheVariants as answers
 use Rattle.std.specs.List.{slice_split}
 use Rattle.std.proofs.lemmas.Bool.{lt-ltb}
 use Rattle.campaign_given.specs.Description.{Description}
+use Rattle.campaign_given.specs.Given.{Given}
 use Rattle.campaign_settings.specs.Settings.{Cause, Read, RefusedBy, settings_of, too_long}
 use Rattle.campaign_settings.specs.declared.fault.SettingsFault.{SettingsFault}
 use Rattle.campaign_settings.specs.declared.fault.SettingsFault.TheVariants as settings
+use Rattle.campaign_settings.specs.declared.choice.Choice.{Choice}
+use Rattle.campaign_settings.specs.declared.choice.Choice.TheVariants as choice
 use Rattle.campaign_settings.specs.declared.settings.Settings.{Settings}
 use Rattle.campaign_core.specs.Writes.{Change, IsUntouched, WritesWhole}
 use Rattle.campaign_core.specs.declared.ending.CampaignFault.TheVariants as campaign
+use Rattle.command_words.specs.declared.words.AskedPart.{AskedPart}
 use Rattle.command_words.specs.declared.words.Question.{Question}
 use Rattle.command_words.specs.declared.words.Question.TheVariants.{Asks, Report, Explain}
 use Rattle.answer_text.specs.Runs.{pieces_from, reading_of}
@@ -30,7 +34,7 @@ use Rattle.campaign_main.specs.declared.exit.Exit.{Exit}
 use Rattle.campaign_main.specs.declared.exit.Exit.TheVariants as exit
 use Rattle.campaign_main.specs.declared.input.ReadFault.{ReadFault}
 use Rattle.campaign_main.specs.declared.input.ReadFault.TheVariants as read
-use Rattle.campaign_main.specs.Commands.{Refusal, bad_answers, bad_scenario, bad_settings, broken_run, not_answered, not_text, other_census, too_many_plans, unseen_hits}
+use Rattle.campaign_main.specs.Commands.{Refusal, bad_answers, bad_scenario, bad_settings, broken_run, bundled_target, not_answered, not_text, other_census, too_many_plans, unseen_hits}
 use Rattle.campaign_main.specs.Ends.{EndsAs, IsNoted, Leaves, OnWhole, RefusesWith, TellsAs, TellsOf}
 use Rattle.campaign_main.specs.Exit.{exit_of}
 use Rattle.campaign_main.specs.FaultLines.{answers_read_line, read_fault_line, refusal_line, settings_line, unreadable_answers_line, unreadable_line}
@@ -93,10 +97,18 @@ module _ (s : Subject) (answers : List ℕ) where
   never-shown None n h = never-yet s.0.depth n h
   never-shown (Some form) n h = never-at-all s.0.depth n h
 
-  never-cut : {A : Type 0} (question : Question) (n : ℕ) → IsUnanswered question s answers (fault.Outside (outside.Campaign (campaign.Write n))) → A
+  pub never-cut : {A : Type 0} (question : Question) (n : ℕ) → IsUnanswered question s answers (fault.Outside (outside.Campaign (campaign.Write n))) → A
   never-cut (Asks part) n h = never-yet s.0.depth n h
   never-cut (Report what strict) n h = never-shown (report_form what) n h
   never-cut (Explain text) n h = absurd h
+
+-- memory may be refused whatever is asked for
+asks-memory : (depth : Option ℕ) (s : Subject) (answers : List ℕ) → RefusesYet depth s.1 s.0 answers (fault.Outside (outside.Campaign campaign.Memory))
+asks-memory None s answers = tt
+asks-memory (Some depth) s answers = tt
+
+pub may-lack-memory : (part : AskedPart) (s : Subject) (answers : List ℕ) → IsUnanswered (Asks part) s answers (fault.Outside (outside.Campaign campaign.Memory))
+may-lack-memory part s answers = asks-memory s.0.depth s answers
 
 module _ (question : Question) (s : Subject) (answers : List ℕ) (v : Change) where
   module _ (w : Change) (untouched : IsUntouched w) where
@@ -253,6 +265,13 @@ module _ (question : Question) (read : Result Subject Refusal) (refusal : Refusa
       let Q : Result Subject Refusal → Type 0 = λ r. IfSome known (λ bytes. IsNotAnswered question r bytes w) in
       subst Q (sym is) (for-any known (λ bytes. IsNotAnswered question (Err refusal) bytes w) (λ bytes. inl (refusal, refl, subst P refused told)))
 
+-- settings that choose no component that somebody else runs
+pub chosen-bundled : (given : Given) (c : Choice) → ((d : Description) → c ≡ choice.Outside d → ⊥) → chosen_subject given c ≡ Err bundled_target
+chosen-bundled given (choice.Replace variant work) apart = refl
+chosen-bundled given (choice.Maildir variant messages) apart = refl
+chosen-bundled given (choice.Commit variant work) apart = refl
+chosen-bundled given (choice.Outside d) apart = absurd (apart d refl)
+
 -- the line of a refusal, where an end refuses with it
 pub tells-question : (refusal : Refusal) (end : Exit) (w : Change) → RefusesWith (refusal_line refusal) end w → TellsOfQuestion end w
 tells-question refusal end w told =
@@ -301,6 +320,11 @@ subject-broken bytes few broken = broken-meaning text_subject bytes few broken
 pub read-subject : (known : Option (List ℕ)) (text shown : List ℕ) (P : Result Subject Refusal → Type 0) → shown ≡ text → IfSome known (λ bytes. text ≡ bytes)
     → length text ≤ 1048576 → IsUtf8 shown → P (text_subject shown) → IfSome known (λ bytes. P (subject_of bytes))
 read-subject known text shown P same is few utf8 h = read-meaning subject_of text_subject subject-text known text shown P same is few utf8 h
+
+-- what holds of the component that the settings describe
+pub for-subject : (given : Option (List ℕ)) (s : Subject) (P : Result Subject Refusal → Type 0) → IfSome given (λ g. subject_of g ≡ Ok s) → P (Ok s) → IfSome given (λ g. P (subject_of g))
+for-subject None s P is h = tt
+for-subject (Some g) s P is h = subst P (sym is) h
 
 -- a reader that gave no settings
 module _ (question : Question) (given known : Option (List ℕ)) (end : Exit) (w : Change) (refused : end ≡ exit.Refused) where

@@ -32,12 +32,10 @@ fn chosen_outside<E: Sink>(settings: Settings, faults: &mut E) -> Result<Outside
     ensures told { IfErr result (λ end. TellsOfQuestion end (change E.Sink faults.old faults.new)) }
 {
     let Settings { choice, campaign } = settings;
-    match choice {
-        Choice::Outside(outside) => Ok(OutsideSettings { outside, campaign }),
-        Choice::Replace(..) | Choice::Maildir(..) | Choice::Commit(..) => {
-            Err(refuse_bundled(faults))
-        }
-    }
+    let Choice::Outside(outside) = choice else {
+        return Err(refuse_bundled(faults));
+    };
+    Ok(OutsideSettings { outside, campaign })
 }
 
 /// The same for a text of settings.

@@ -3,7 +3,8 @@ use Rattle.campaign_core.specs.Writes.{change}
 use Rattle.campaign_main.specs.Commands.{Refusal}
 use Rattle.campaign_main.specs.Following.{IsNotFollowed, asks_all}
 use Rattle.campaign_main.specs.Questions.{Subject}
-use Rattle.campaign_main.proofs.FollowLemmas.{for-subject, none-followed}
+use Rattle.campaign_main.proofs.FollowLemmas.{none-followed}
+use Rattle.campaign_main.proofs.QuestionLemmas.{for-subject}
 use Rattle.campaign_main.proofs.following.perform_follow.Goals as goal
 
 pub returns-in-Ok-clause-cause : goal.returns-in-Ok-clause-cause
