@@ -65,7 +65,8 @@ ComesToFollow s read rest w (Err why) = FailsFollow s read rest w why
 
 -- What settings came to is refused, and this end says why, whatever was to be asked.
 abbrev pub IsRefusedSubject : Result Subject Refusal → Exit → Change → Type 0
-IsRefusedSubject read end w = (question : Question) → (known : Option (List ℕ)) → end ≡ Refused → IfSome known (λ answers. IsNotAnswered question read answers w)
+IsRefusedSubject read end w = (question : Question) → (known : Option (List ℕ)) → end ≡ Refused
+    → IfSome known (λ answers. IsNotAnswered question read answers w)
 
 -- The same for settings of which these bytes are known.
 abbrev pub IsNoSubject : Option (List ℕ) → Exit → Change → Type 0
