@@ -10,7 +10,7 @@ from harness.following import Following
 from harness.outcome import Outcome
 from harness.workers import Workers
 
-from .base import PROGRAM, Campaigns
+from .base import NOTE, PROGRAM, Campaigns
 
 FOLLOWS = b"--follow" in subprocess.run([PROGRAM, "help", "asks"], stdin=subprocess.DEVNULL, stdout=subprocess.PIPE, check=True).stdout
 
@@ -109,6 +109,18 @@ class Follows(Scripts):
         self.follow()
         followed = self.script(jobs=3)
         self.assertEqual((followed.status, followed.out, self.scenarios()), (rounds.status, rounds.out, scenarios))
+
+    def test_a_harness_comes_to_the_same_both_ways(self):
+        flaws = {"sound": 0, "rename_first": 1}
+        reports = {}
+        for jobs in (1, 3):
+            for flaw in flaws:
+                done = self.loop("-j", jobs, "--depth", 2, "--into", self.here / f"{flaw}{jobs}", NOTE, FLAW=flaw)
+                reports[flaw, jobs] = done.status, done.out
+            self.follow()
+        for flaw, status in flaws.items():
+            self.assertEqual(reports[flaw, 1][0], status)
+            self.assertEqual(reports[flaw, 3], reports[flaw, 1])
 
     def test_a_loop_that_was_stopped_goes_on(self):
         whole = self.script(jobs=1, WAITS="0").out
