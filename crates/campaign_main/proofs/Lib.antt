@@ -13,3 +13,4 @@ pub mod KeepLemmas
 mod SteadyLemmas
 mod PlanQuestions
 mod LineLemmas
+mod FollowLemmas
