@@ -20,6 +20,8 @@ mod contents;
 #[cfg(test)]
 mod escaped;
 #[cfg(test)]
+mod followed;
+#[cfg(test)]
 mod form_given;
 #[cfg(test)]
 mod gates;
