@@ -86,13 +86,20 @@ def answers_along(scenario, hits):
 
 
 @lru_cache(maxsize=None)
-def said(line):
-    """What a line with hits says of a component: what it does after which answers. None if no component has such a run."""
+def moves_of(line):
+    """What a line with hits says that a component does after which answers. After a pause nothing can be said."""
     answers = answers_along(line.scenario, line.hits)
-    moves = {answers[:at]: point for at, point in enumerate(line.hits)}
-    if PAUSE not in answers:
-        return {**moves, answers: line.verdict}
-    return moves if answers.index(PAUSE) == len(answers) - 1 and line.verdict == UNRESOLVED else None
+    end = answers.index(PAUSE) + 1 if PAUSE in answers else None
+    moves = {answers[:at]: point for at, point in enumerate(line.hits[:end])}
+    return moves if end else {**moves, answers: line.verdict}
+
+
+@lru_cache(maxsize=None)
+def said(line):
+    """The same, or None if no component has such a run: it goes on after a pause, or passes or fails with it."""
+    answers = answers_along(line.scenario, line.hits)
+    goes_on = PAUSE in answers and (answers.index(PAUSE) < len(answers) - 1 or line.verdict != UNRESOLVED)
+    return None if goes_on else moves_of(line)
 
 
 def play(component, scenario):
@@ -128,9 +135,9 @@ def clash(line, other):
 
 def clash_at(line, other):
     """The first move, from 1, of which two lines say different things, if both have hits."""
-    if None in (line.hits, other.hits) or None in (said(line), said(other)):
+    if None in (line.hits, other.hits):
         return None
-    places = [len(answers) + 1 for answers, move in said(line).items() if said(other).get(answers, move) != move]
+    places = [len(answers) + 1 for answers, move in moves_of(line).items() if moves_of(other).get(answers, move) != move]
     return min(places, default=None)
 
 

@@ -326,8 +326,16 @@ class Campaign:
         for command in ("asks", "report"):
             self.expect(f"{command}: {text} is broken", wanted, paklour([command, self.settings], given))
 
+    def first_told(self, expected, known, hits, answers):
+        """The line of the first plan that has these hits with these answers, and so tells first what comes after them."""
+        for plan in expected.plans:
+            run = expected.run(plan)
+            if not expected.is_hidden(plan) and (run[0][:len(hits)], run[1][:len(hits)]) == (hits, answers):
+                return list(known).index(text_of(self.component.points, plan)) + 1
+        raise AssertionError("no plan has this run")
+
     def contradict_one(self, expected, known):
-        """With one more fault, which never acts, a scenario has a plan's run: another verdict or other hits contradict the plan's line."""
+        """With one more fault, which never acts, a scenario has a plan's run: another verdict or other hits contradict it."""
         points = self.component.points
         plan = self.draw.choice([plan for plan in expected.plans if not expected.is_hidden(plan)] or [()])
         hits, answers = expected.run(plan)
@@ -338,9 +346,11 @@ class Campaign:
         text = text_of(points, plan + ((point, hits.count(point) + self.draw.randint(1, 3), self.draw.choice([RETURN, PANIC])),))
         if text in known:
             return
-        line, at = list(known).index(text_of(points, plan)) + 1, self.draw.randint(0, len(hits))
-        told = {"verdict differs from line {line}": hits, "hits differ from line {line} at hit {hit}": hits[:at] + [self.draw.choice(points)] * (at == len(hits))}
-        why, other = self.draw.choice(list(told.items()))
+        at = self.draw.randint(0, len(hits))
+        told = {"verdict differs from line {line}": (len(hits), hits),
+                "hits differ from line {line} at hit {hit}": (at, hits[:at] + [self.draw.choice(points)] * (at == len(hits)))}
+        why, (shared, other) = self.draw.choice(list(told.items()))
+        line = self.first_told(expected, known, hits[:shared], answers[:shared])
         verdict = next(verdict for verdict in ("pass", "fail lost") if verdict != self.component.verdict(answers))
         given = "".join("\t".join(answer) + "\n" for answer in {**known, text: (verdict, text, hits_text(other))}.values())
         wanted = (2, "", f"answers: line {len(known) + 1}: {why.format(line=line, hit=at + 1)}\n")
