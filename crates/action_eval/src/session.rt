@@ -76,9 +76,9 @@ struct Records {
     notes: Vec<Note>,
 }
 
-/// The buffers that a session leaves for another one: memory, and nothing of its run.
+/// The buffers that a session leaves for another one: memory, in which the points still stand that its run asked.
 ///
-/// Contracts see the number of hits for which there is room.
+/// Contracts see these points.
 #[derive(Drop)]
 pub struct SessionBuffers {
     records: Records,
@@ -86,17 +86,17 @@ pub struct SessionBuffers {
 }
 
 impl Model for SessionBuffers {
-    ghost use Rattle.std.specs.Prelude.{ℕ, vec_capacity};
+    ghost use Rattle.std.specs.Prelude.{ℕ, List};
 
-    ghost Value = { ℕ };
+    ghost Value = { List ℕ };
 
-    ghost view = { λ r. vec_capacity r.records.hits };
+    ghost view = { λ b. b.records.hits.items };
 }
 
 impl SessionBuffers {
     /// Buffers for nothing yet.
     pub fn new(alloc: Global) -> Self
-        ensures { result ≡ 0 }
+        ensures { result ≡ [] }
     {
         SessionBuffers {
             records: Records {
@@ -109,6 +109,13 @@ impl SessionBuffers {
                 left: Vec::new(alloc),
             },
         }
+    }
+
+    /// The points that the session's run asked, in order. A hit past the limit doesn't count as asked.
+    pub fn trace(&self) -> &[u32]
+        ensures { result.now ≡ self.now }
+    {
+        self.records.hits.as_slice()
     }
 }
 
@@ -487,13 +494,15 @@ impl<'a> Session<'a> {
         self.notes
     }
 
-    /// The session's buffers, for another session. They have room for at least as many hits as this one had.
+    /// The session's buffers, for another session, with the points that this one's run asked.
     pub fn into_buffers(self) -> SessionBuffers
-        ensures { length self.entry.hits ≤ result }
+        ensures { result ≡ asked self.entry }
     {
+        let mut hits = self.hits;
+        hits.truncate(self.max_hits as usize);
         SessionBuffers {
             records: Records {
-                hits: self.hits,
+                hits,
                 notes: self.notes,
             },
             layout: Layout {

@@ -4,11 +4,11 @@ ghost use Rattle.action_eval.specs.RiggedScenario.{CanBeRigged};
 ghost use Rattle.grown_runs.specs.GrownRuns.{fails_with, is_least, cause_by, causes_by};
 ghost use Rattle.grown_runs.specs.inside.Growths.{if_report, subject_on};
 
-use crate::buffers::RunBuffers;
 use crate::input::{GrownRunInput, Purpose};
+use crate::rigged::run_rigs;
 use action_eval::Rig;
 use std::alloc::AllocError;
-use target_trait::{Target, Verdict};
+use target_trait::{RiggedRuns, Target, Verdict};
 
 /// Whether a verdict is a failure with this code.
 pub fn fails_with(code: u32, verdict: Verdict) -> bool
@@ -48,7 +48,7 @@ struct Failed<'a> {
 
 /// Whether the rigged hits of a run that has failed don't fail with its code if any one of them is left out.
 fn is_cause<T: Target>(
-    buffers: &mut RunBuffers,
+    runs: &mut RiggedRuns,
     less: &mut Vec<Rig>,
     target: &mut T,
     input: &GrownRunInput<'_, T>,
@@ -61,7 +61,8 @@ fn is_cause<T: Target>(
 {
     for left_out in 0..failed.rigs.len() {
         leave_out(less, failed.rigs, left_out)?;
-        let verdict = buffers.run(target, input, less.as_slice(), u64::from(failed.number))?;
+        let stream = u64::from(failed.number);
+        let verdict = run_rigs(runs, target, input, less.as_slice(), stream)?;
         if fails_with(failed.code, verdict) {
             return Ok(false);
         }
@@ -73,7 +74,7 @@ fn is_cause<T: Target>(
 /// the list of plans alone, nothing is tested, and no run has one. `less` is a list to work in. An error means that memory was refused. The target
 /// keeps its setup, even after an error.
 pub fn cause_of<T: Target>(
-    buffers: &mut RunBuffers,
+    runs: &mut RiggedRuns,
     less: &mut Vec<Rig>,
     target: &mut T,
     input: &GrownRunInput<'_, T>,
@@ -92,7 +93,7 @@ pub fn cause_of<T: Target>(
         number: ran.number,
         code,
     };
-    if is_cause(buffers, less, target, input, &failed)? {
+    if is_cause(runs, less, target, input, &failed)? {
         Ok(Some(code))
     } else {
         Ok(None)

@@ -11,27 +11,25 @@ ghost use Rattle.grown_runs.specs.GrownRuns.{causes_by};
 ghost use Rattle.grown_runs.specs.inside.Growths.{if_inner, if_last, subject_on, IsGrowth, IsGrowthOn};
 ghost use Rattle.grown_runs.specs.inside.Beginnings.{AskLikeParents, MovesOn, TellsParent};
 
-use crate::buffers::RunBuffers;
 use crate::causes::{Ran, cause_of};
 use crate::input::{GrownRunInput, Place};
 use crate::kept::Growth;
 use crate::outcomes::{Outcomes, raise};
+use crate::rigged::run_rigs;
 use action_eval::Rig;
 use grown_plans::{
-    Begun, Child, Growing, GrownPlans, Kinds, add_children, count_children, rigs_of,
+    Begun, Child, Growing, GrownPlans, Kinds, RigLists, add_children, count_children,
 };
 use std::alloc::{AllocError, Global};
 use std::ops::Range;
-use target_trait::Target;
+use target_trait::{RiggedRuns, Target};
 
 /// What a worker's plans are run in, one after another, so that they needn't take memory of their own. What it holds before a plan makes no
 /// difference to the plan.
 #[derive(Drop)]
 pub struct Workspace {
-    buffers: RunBuffers,
-    faults: Vec<Rig>,
-    ordered: Vec<Rig>,
-    rigs: Vec<Rig>,
+    runs: RiggedRuns,
+    lists: RigLists,
     less: Vec<Rig>,
     begun: Begun,
 }
@@ -40,10 +38,8 @@ impl Workspace {
     /// A workspace that has taken no memory yet.
     pub fn new(alloc: Global) -> Self {
         Workspace {
-            buffers: RunBuffers::new(alloc),
-            faults: Vec::new(alloc),
-            ordered: Vec::new(alloc),
-            rigs: Vec::new(alloc),
+            runs: RiggedRuns::new(alloc),
+            lists: RigLists::new(alloc),
             less: Vec::new(alloc),
             begun: Begun::nothing(alloc),
         }
@@ -148,17 +144,14 @@ fn run_one<T: Target>(
     ensures setup { target.new ≡ target.old }
 {
     let Workspace {
-        buffers,
-        faults,
-        ordered,
-        rigs,
+        runs,
+        lists,
         less,
         begun,
     } = workspace;
-    input.plans.faults_of(number, faults)?;
-    rigs_of(rigs, ordered, faults.as_slice())?;
-    let rigs = rigs.as_slice();
-    let verdict = buffers.run(target, input, rigs, number as u64)?;
+    lists.put(input.plans, number)?;
+    let rigs = lists.rigs.as_slice();
+    let verdict = run_rigs(runs, target, input, rigs, number as u64)?;
     let place = input.part.place;
     let parent = input.plans.parent_of(number);
     let descent = Descent {
@@ -166,10 +159,10 @@ fn run_one<T: Target>(
         parent,
         place,
     };
-    let asked = buffers.asked.as_slice();
+    let faults = lists.faults.as_slice();
+    let asked = runs.buffers.trace();
     let children = &mut growth.children;
-    let kinds = &input.kinds;
-    let growing = grow_one(kinds, children, begun, descent, faults.as_slice(), asked)?;
+    let growing = grow_one(&input.kinds, children, begun, descent, faults, asked)?;
     growth.outcomes.verdicts.push(verdict)?;
     growth.child_count += growing.children as u64;
     raise(&mut growth.outcomes.hits, begun.whole.as_slice());
@@ -181,7 +174,7 @@ fn run_one<T: Target>(
         number,
         verdict,
     };
-    let cause = cause_of(buffers, less, target, input, &ran)?;
+    let cause = cause_of(runs, less, target, input, &ran)?;
     keep_cause(&mut growth.outcomes.causes, number, cause)?;
     Ok(())
 }

@@ -1,7 +1,6 @@
 //! Runs of plans that grow: those that workers make, in ranges, and those that a table has recorded, with what grows from them.
 #![tactic(auto)]
 
-mod buffers;
 mod causes;
 mod grower;
 mod growth;
@@ -12,6 +11,7 @@ mod levels;
 mod outcomes;
 mod parts;
 mod ranges;
+mod rigged;
 
 pub use causes::{fails_with, leave_out};
 pub use input::Limits;

@@ -6,47 +6,35 @@ ghost use Rattle.result_book.specs.Runs.{input_runs, is_asked};
 use crate::input::RunInput;
 use crate::watched::leave_unasked;
 use crate::workspace::Workspace;
-use action_eval::{Session, SessionBuffers};
 use grown_plans::CampaignRigger;
 use scenario_values::Scenario;
 use std::alloc::{AllocError, Global};
 use std::marker::Model;
-use std::mem;
-use target_trait::{Target, Verdict, run_session, session_of};
+use target_trait::{RiggedRuns, RunSettings, Target, Verdict, run_session, session_of};
 
-/// The verdict of the run of this number under what is rigged in a workspace, whose buffers then serve the next run. The points in `unreached` that
-/// this run asks are removed. If memory is refused, the buffers may be given back to the system.
+/// The verdict of the run of this number under what is rigged. The points in `unreached` that this run asks are removed. If memory is refused, the
+/// buffers may be given back to the system.
 fn rigged_verdict<T: Target>(
     target: &mut T,
     input: &RunInput<'_, T>,
-    workspace: &mut Workspace,
+    runs: &mut RiggedRuns,
     number: u32,
     unreached: &mut Vec<u32>,
 ) -> Result<Verdict, AllocError>
-    requires { workspace.old.table.names ≡ T.names }
-    ensures ok { IfOk result (λ verdict. verdict ≡ input_says T.Target target.old input.now number workspace.old.table.scenario) }
+    requires { runs.old.table.names ≡ T.names }
+    ensures ok { IfOk result (λ verdict. verdict ≡ input_says T.Target target.old input.now number runs.old.table.scenario) }
     ensures unreached { OnOk result (unreached.new.items
-        ≡ filter (λ p. not (is_asked p (input_runs T.Target target.old input.now number workspace.old.table.scenario).asked)) unreached.old.items) }
+        ≡ filter (λ p. not (is_asked p (input_runs T.Target target.old input.now number runs.old.table.scenario).asked)) unreached.old.items) }
     ensures setup { target.new ≡ target.old }
 {
-    let Workspace {
-        table,
-        buffers,
-        alloc,
-        ..
-    } = workspace;
-    let settings = input.settings;
-    let left = mem::replace(buffers, SessionBuffers::new(*alloc));
-    let mut session = Session::over_in(
-        left,
-        table,
-        settings.seed,
-        u64::from(number),
-        settings.max_hits,
-    )?;
-    let verdict = run_session(target, input.workload, &mut session)?;
-    leave_unasked(unreached, session.trace());
-    *buffers = session.into_buffers();
+    let given = input.settings;
+    let settings = RunSettings {
+        seed: given.seed,
+        stream: u64::from(number),
+        max_hits: given.max_hits,
+    };
+    let verdict = runs.run(target, input.workload, settings)?;
+    leave_unasked(unreached, runs.buffers.trace());
     Ok(verdict)
 }
 
@@ -92,11 +80,11 @@ pub(crate) fn verdict_of<T: Target>(
         unreached.old.items) }
     ensures setup { target.new ≡ target.old }
 {
-    let is_loaded = rigger.load(number as usize, &mut workspace.table, &mut workspace.lists)?;
-    if is_loaded {
-        rigged_verdict(target, input, workspace, number, unreached)
+    let Workspace { runs, lists } = workspace;
+    if rigger.load(number as usize, &mut runs.table, lists)? {
+        rigged_verdict(target, input, runs, number, unreached)
     } else {
-        written_verdict(workspace.alloc, target, input, number, unreached)
+        written_verdict(runs.alloc, target, input, number, unreached)
     }
 }
 

@@ -9,6 +9,7 @@ mod judgement;
 mod laws;
 mod output;
 mod protocol;
+mod rigged;
 mod target;
 mod telling;
 
@@ -25,5 +26,6 @@ pub use laws::{
 };
 pub use output::{Out, Sink};
 pub use protocol::{ByTable, Protocol};
+pub use rigged::{RiggedRuns, RunSettings};
 pub use target::Target;
 pub use telling::{Tale, TellingProtocol, TellingTarget};

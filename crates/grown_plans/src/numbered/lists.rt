@@ -31,10 +31,11 @@ impl RigLists {
         }
     }
 
-    /// Puts the rigged hits of the plan of this number into their list. An error means that memory was refused.
-    pub(crate) fn put(&mut self, plans: &GrownPlans, number: usize) -> Result<(), AllocError>
+    /// Puts the faults of the plan of this number and its rigged hits into their lists. An error means that memory was refused.
+    pub fn put(&mut self, plans: &GrownPlans, number: usize) -> Result<(), AllocError>
         requires { number < length plans.now }
-        ensures { OnOk result (self.new.rigs.items ≡ rigs_of (slice_index_or plans.now number [])) }
+        ensures rigs { OnOk result (self.new.rigs.items ≡ rigs_of (slice_index_or plans.now number [])) }
+        ensures faults { OnOk result (self.new.faults.items ≡ slice_index_or plans.now number []) }
     {
         plans.faults_of(number, &mut self.faults)?;
         rigs_of(&mut self.rigs, &mut self.ordered, self.faults.as_slice())
