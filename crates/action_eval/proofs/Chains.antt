@@ -117,9 +117,6 @@ idle word t o f = record { at = λ ns. idle_at word ns t o f }
 abbrev pub off : ℕ → Term
 off m = record { share = 1000000; count = Some m; task = task.Off }
 
-off_used : (word : ℕ → ℕ) (c : List Term) (n m : ℕ) → m ≡ 0 → step word (off m ∷ c) n ≡ passed (off m) (step word c n)
-off_used word c n m z = when_true (eqb m 0) _ _ (ap (λ x. eqb x 0) z)
-
 off_acts : (word : ℕ → ℕ) (c : List Term) (n m : ℕ) → eqb m 0 ≡ false → step word (off m ∷ c) n ≡ acts (off m) c n
 off_acts word c n m z = ap (λ b. cond b (passed (off m) (step word c n)) (acts (off m) c n)) z
 

@@ -156,9 +156,6 @@ kept_same word set n c =
     same_then word _ (shut fs (clipped c)) _ (clipped_same word set n c)
     (same_back word (tidied_chain_with set n c) (shut fs (clipped c)) (same_then word _ (shut fs (joined (clipped c))) _ (ends_shut word (joined (clipped c)) fs) (joined_shut word (clipped c) fs)))
 
-nothing_with : (set : List ℕ) (n : ℕ) → tidied_chain_with set n [] ≡ []
-nothing_with set n = ap (shut []) tidied_nothing
-
 new_from : (set : List ℕ) (n : ℕ) (es : Entries) (name : List ℕ) → New name es → chain_of (tidied_from set n es) name ≡ []
 new_from set n [] name h = refl
 new_from set n (e ∷ es) name h = put_other name e.0 (tidied_chain_with set n e.1) (tidied_from set (after_chain n e.1) es) (nat_lt 0 (length (tidied_chain_with set n e.1))) (flipped e.0 name h.0) ∙ new_from set (after_chain n e.1) es name h.1

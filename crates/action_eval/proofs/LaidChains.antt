@@ -203,12 +203,6 @@ found_next names rest n sizes more size terms k j old new whole e f d h g same =
     ∙ ap (λ (l : List (List ℕ)). old ++ all_found k l (laid l sizes terms)) (sym e) ∙ h
     ) g
 
-pub left_done : (names : List (List ℕ)) (sizes : List ℕ) (terms : List Term) (left whole : List ℕ) → names ≡ [] → left ++ left_counts [] (laid names sizes terms) ≡ whole → left ≡ whole
-left_done names sizes terms left whole none h = sym (append-nil left) ∙ ap (λ (l : List (List ℕ)). left ++ left_counts [] (laid l sizes terms)) (sym none) ∙ h
-
-pub found_done : (names : List (List ℕ)) (sizes : List ℕ) (terms : List Term) (k : ℕ) (found whole : List (Option (List Term × ℕ))) → names ≡ [] → found ++ all_found k names (laid names sizes terms) ≡ whole → found ≡ whole
-found_done names sizes terms k found whole none h = sym (append-nil found) ∙ ap (λ (l : List (List ℕ)). found ++ all_found k l (laid l sizes terms)) (sym none) ∙ h
-
 -- what the next hit of each point meets
 pub heads_push : {A : Type 0} (f : A → Option (List Term × ℕ)) (found new : List A) (heads heads' : List Head) (here : A) (head : Head) → heads ≡ map head_of (map f found) → heads' ≡ heads ++ head ∷ [] → head ≡ head_of (f here) → new ≡ found ++ here ∷ []
     → heads' ≡ map head_of (map f new)

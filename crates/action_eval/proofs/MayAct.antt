@@ -63,10 +63,6 @@ spent_in spent k (t ∷ ts) rest (suc i) d all less =
 
 -- ---- terms of which something may come
 
-quiet_nowhere : (b u : Bool) → b ≡ false → (b && u) ≡ false
-quiet_nowhere true u e = absurd (cc)
-quiet_nowhere false u e = refl
-
 used_is_loud : (b u : Bool) → u ≡ true → (b && not u) ≡ false
 used_is_loud true true e = refl
 used_is_loud false true e = refl

@@ -175,9 +175,6 @@ take_more i [] x h e = absurd (omega arith)
 take_more zero (y ∷ ys) x h e = ap (λ (z : ℕ). z ∷ []) (sym e)
 take_more (suc i) (y ∷ ys) x h e = let one : suc i + 1 ≡ suc (i + 1) = omega arith in ap (λ (n : ℕ). take n (y ∷ ys)) one ∙ ap (λ (l : List ℕ). y ∷ l) (take_more i ys x (omega arith) e)
 
-pub none_spent : (heads : List Head) (n : ℕ) (left : List ℕ) → Spent heads [] n left left
-none_spent heads n left = record { size = refl; counted = λ _. tt; each = λ j. omega arith }
-
 pub spent_more : (heads : List Head) (points : List ℕ) (n i x : ℕ) (before mid after : List ℕ) → i < length points → x ≡ get_or points i x → Spent heads (take i points) n before mid
     → IsCounted (head_at heads x) × SpentBy (head_at heads x) n mid after → Spent heads (take (i + 1) points) n before after
 spent_more heads points n i x before mid after less is s b =

@@ -212,15 +212,6 @@ known_found r now found left taken notes millis halt k same p h =
     let all = rests_length left (map (found_of s) names) found k.found_is in
     omega (arith, all, many s names p (known_by r now p same h))
 
--- there are as many as there are points
-points_length : (s : Entries) (names : List (List ℕ)) → length (map (found_of s) names) ≡ length names
-points_length s [] = refl
-points_length s (n ∷ ns) = ap suc (points_length s ns)
-
-pub found_length : (r : Run) (found : List (Option (List Term × ℕ))) (left : List ℕ) (taken : ℕ) (notes : List Note) (millis : ℕ) (halt : Option Stop) → Keeps r found left taken notes millis halt → length found ≡ length r.given.catalogue
-found_length r found left taken notes millis halt k =
-    rests_length left (map (found_of r.given.scenario) r.given.catalogue) found k.found_is ∙ points_length r.given.scenario r.given.catalogue
-
 -- the same of what a look-up gave
 pub point_none : (r now : Run) (found : List (Option (List Term × ℕ))) (left : List ℕ) (taken : ℕ) (notes : List Note) (millis : ℕ) (halt : Option Stop) → Keeps r found left taken notes millis halt
     → r ≡ now → (p : ℕ) → p < length now.given.catalogue → (d o : Option (List Term × ℕ)) → o ≡ get_or found p d → o ≡ None → IsRest left (found_of r.given.scenario (name_of r.given p)) None

@@ -29,33 +29,6 @@ if_ok_both (Err e) P Q p q = tt
 
 -- ---- all plans that grew
 
--- the plans in their places
-pub grown_are : (k : Campaign) (depth : Option ℕ) (g : Option (List (List Rig))) (listed : List Entries) → AreGrown k depth g → listed ≡ listed_to k depth
-    → grown_scenarios k.points (grown_among g) ++ listed ≡ plans_to k depth
-grown_are k None None listed are e = e
-grown_are k None (Some g) listed are e = absurd are
-grown_are k (Some d) None listed are e = absurd are
-grown_are k (Some d) (Some g) listed are e =
-    ap (λ ps. grown_scenarios k.points ps ++ listed) are.same ∙ ap (λ l. grown_scenarios k.points (grown (grower k) d) ++ l) e
-    ∙ list_is (grower k) d k.given.plans (census k)
-
--- each of them can be rigged
-pub grown_rigged : (k : Campaign) (depth : Option ℕ) (g : Option (List (List Rig))) → AreGrown k depth g
-    → AllByRecursion (λ plan. CanBeRigged (rigs_of plan)) (grown_among g)
-grown_rigged k None None are = tt
-grown_rigged k None (Some g) are = absurd are
-grown_rigged k (Some d) None are = absurd are
-grown_rigged k (Some d) (Some g) are = are.rigs
-
--- as many as stand in the list
-pub grown_few : (k : Campaign) (depth : Option ℕ) (g : Option (List (List Rig))) (listed : List Entries) (m : ℕ) → AreGrown k depth g → listed ≡ listed_to k depth
-    → length (plans_to k depth) ≤ m → length (grown_among g) + length listed ≤ m
-grown_few k depth g listed m are e few =
-    let all = ap length (grown_are k depth g listed are e) in
-    let parts = length-append (grown_scenarios k.points (grown_among g)) listed in
-    let made = length-map (grown_among g) (grown_scenario k.points) in
-    omega (arith, all, parts, made, few)
-
 -- ---- those with which a list begins
 
 pub begun_rigged : (k : Campaign) (depth : Option ℕ) (count : ℕ) (g : Option (List (List Rig))) → AreBegun k depth count g
@@ -141,9 +114,6 @@ begun_full k (Some d) count (Some g) are lt =
 
 -- ---- how many are counted
 
-pub counted_some : (k : Campaign) (count : ℕ) (depth : Option ℕ) (d : ℕ) → depth ≡ Some d → counted_to k count depth ≡ with_rest k (length (begun (grower k) d count))
-counted_some k count depth d is = ap (counted_to k count) is
-
 -- at most as many as the list has
 pub counted_least : (k : Campaign) (count : ℕ) (depth : Option ℕ) → depth ≡ k.given.depth → counted_to k count depth ≤ length (plans_to k k.given.depth)
 counted_least k count None is = let same = ap (λ o. length (plans_to k o)) is in omega arith
@@ -164,32 +134,9 @@ sites_few k (Some d) g are usual lawful counts is =
     subst (λ (cs : List ℕ). length (sites_of cs) < 65536) (sym is)
     (few_sites_of (grower k) k.given.plans.seed d usual lawful are.deep (omega (arith, few, many)))
 
-pub listed_grown : (k : Campaign) (depth : Option ℕ) (g : List (List Rig)) (names : List (List ℕ)) (counts : List ℕ) (asked : Asked)
-    → AreGrown k depth (Some g) → k.points ≡ names → counts ≡ census k → asked ≡ k.given.plans → further_list names counts asked ≡ listed_to k depth
-listed_grown k None g names counts asked are of counted wanted = absurd are
-listed_grown k (Some d) g names counts asked are of counted wanted = listed_is k (Some d) d names counts asked refl of counted wanted
-
-pub listed_census : (k : Campaign) (depth : Option ℕ) (names : List (List ℕ)) (counts : List ℕ) (asked : Asked)
-    → AreGrown k depth None → k.points ≡ names → counts ≡ census k → asked ≡ k.given.plans → plan_list names counts asked ≡ listed_to k depth
-listed_census k None names counts asked are of counted wanted =
-    ap (λ ns. plan_list ns counts asked) (sym of) ∙ ap (λ cs. plan_list k.points cs asked) counted ∙ ap (plan_list k.points (census k)) wanted
-listed_census k (Some d) names counts asked are of counted wanted = absurd are
-
--- how many there are
-pub behind_counted : (k : Campaign) (depth : Option ℕ) (g : List (List Rig)) → AreGrown k depth (Some g) → length (plans_to k depth) ≡ with_rest k (length g)
-behind_counted k None g are = absurd are
-behind_counted k (Some d) g are =
-    let many = ap length are.same in
-    let all = plans_counted k (Some d) d refl in
-    omega (arith, many, all)
-
 pub behind_some : (k : Campaign) (depth : Option ℕ) (g : List (List Rig)) → AreGrown k depth (Some g) → 0 < length (plans_to k depth)
 behind_some k None g are = absurd are
 behind_some k (Some d) g are = plans_some k (Some d) d refl
-
-pub no_depth : (k : Campaign) (depth : Option ℕ) → AreGrown k depth None → plans_to k depth ≡ listed_to k depth
-no_depth k None are = refl
-no_depth k (Some d) are = absurd are
 
 -- ---- a plan that is looked up
 

@@ -32,10 +32,6 @@ own_code code (verdict.Fail other) e = ap (λ (c : ℕ). verdict.Fail c) (let go
 not_own : (code : ℕ) (v : Verdict) → fails_with code v ≡ false → v ≢ verdict.Fail code
 not_own code v fine is = let own : fails_with code (verdict.Fail code) ≡ true = eq-eqb code code refl in let e : true ≡ false = sym own ∙ ap (fails_with code) (sym is) ∙ fine in absurd cc
 
-right_of : (a b : Bool) → (a && b) ≡ true → b ≡ true
-right_of true b e = e
-right_of false b e = absurd cc
-
 right_fails : (a b : Bool) → a ≡ true → (a && b) ≡ false → b ≡ false
 right_fails a b left e = ap (λ c. c && b) (sym left) ∙ e
 

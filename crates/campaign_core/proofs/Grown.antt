@@ -122,25 +122,6 @@ plans_are k (Some d) (Some g) listed is e =
     ap (λ ps. grown_scenarios k.points ps ++ listed) is.has_grown.plans ∙ ap (λ l. grown_scenarios k.points (grown (grower k) d) ++ l) e
     ∙ list_is (grower k) d k.given.plans (census k)
 
--- each of those that grew can be rigged
-pub plans_rigged : (k : Campaign) (depth : Option ℕ) (g : Option Grown) → IsGrownTo k depth g
-    → AllByRecursion (λ plan. CanBeRigged (rigs_of plan)) (grown_among (option_map (λ (r : Grown). r.list.plans) g))
-plans_rigged k None None is = tt
-plans_rigged k None (Some g) is = absurd is
-plans_rigged k (Some d) None is = absurd is
-plans_rigged k (Some d) (Some g) is =
-    subst (λ (ps : List (List Rig)). AllByRecursion (λ plan. CanBeRigged (rigs_of plan)) ps) (sym is.has_grown.plans) is.rigs
-
--- as many as stand in the list
-pub plans_few : (k : Campaign) (depth : Option ℕ) (g : Option Grown) (listed : List Entries) (m : ℕ) → IsGrownTo k depth g → listed ≡ listed_to k depth
-    → length (plans_to k depth) ≤ m → length (grown_among (option_map (λ (r : Grown). r.list.plans) g)) + length listed ≤ m
-plans_few k depth g listed m is e few =
-    let grew = grown_among (option_map (λ (r : Grown). r.list.plans) g) in
-    let all = ap length (plans_are k depth g listed is e) in
-    let parts = length-append (grown_scenarios k.points grew) listed in
-    let made = length-map grew (grown_scenario k.points) in
-    omega (arith, all, parts, made, few)
-
 -- what is known of those that grew
 pub plans_known : (k : Campaign) (depth : Option ℕ) (g : Grown) (verdicts : List Verdict) → IsGrownTo k depth (Some g) → verdicts ≡ g.outcomes.verdicts.items
     → AreKnown (say k) (plans_to k depth) verdicts
@@ -161,14 +142,6 @@ plans_counted k depth d is =
     let parts = list_length (grower k) d k.given.plans (census k) in
     let further = further_judged k.points (census k) k.given.plans 0 k.given.plans.storms (length k.given.plans.listed) refl refl in
     omega (arith, all, parts, further)
-
--- the plans that don't grow, by what they were made of
-pub listed_is : (k : Campaign) (depth : Option ℕ) (d : ℕ) (names : List (List ℕ)) (counts : List ℕ) (asked : Asked)
-    → depth ≡ Some d → k.points ≡ names → counts ≡ census k → asked ≡ k.given.plans
-    → further_list names counts asked ≡ listed_to k depth
-listed_is k depth d names counts asked is of counted wanted =
-    ap (λ ns. further_list ns counts asked) (sym of) ∙ ap (λ cs. further_list k.points cs asked) counted
-    ∙ ap (λ a. further_list k.points (census k) a) wanted ∙ sym (ap (listed_to k) is)
 
 -- there is one plan at least
 levels_some : (t : Subject) (d : ℕ) → 0 < length (levels t d)

@@ -136,7 +136,3 @@ module _ (points : List Text) (ms : Members) where
 
   pub kinds-read : is_some (each (texts_for ms) points) ≡ true → kinds_in points ms ≡ option_map_or (λ kinds. Ok kinds) faults_at_points (Err OutOfRange)
   kinds-read h = each-typed faults_where (texts_for ms) (λ kinds. Ok kinds) points h
-
--- the usual faults at each point
-pub usual-each : (n : ℕ) → AllByRecursion AreTried (replicate n [])
-usual-each n = recursion_from_All AreTried (replicate n []) (All-replicate AreTried n [] usual-tried)

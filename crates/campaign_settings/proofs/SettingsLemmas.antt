@@ -87,35 +87,3 @@ module _ {X Y : Type 0} where
 abbrev pub glued : List Entries → Read (List Entries) → Read (List Entries)
 glued ss (Ok rest) = Ok (ss ++ rest)
 glued ss (Err cause) = Err cause
-
-glued-and : (ss : List Entries) (s : Entries) (r : Read (List Entries)) → glued ss (after r (λ rest. Ok (s ∷ rest))) ≡ glued (ss ++ s ∷ []) r
-glued-and ss s (Ok rest) = rw (append_assoc ss (s ∷ []) rest)
-glued-and ss s (Err cause) = refl
-
--- one more text that spells a scenario
-pub spelled-more : (ss : List Entries) (n : ℕ) (ts : List Text) (i : ℕ) (d : Text) (s : Entries) → i < length ts → listed_as n (reading (get_or ts i d)) ≡ Ok s
-    → glued ss (spelled_from n (drop i ts)) ≡ glued (ss ++ s ∷ []) (spelled_from (n + 1) (drop (i + 1) ts))
-spelled-more ss n ts i d s h e = rw (drop_more ts i d h, e) (glued-and ss s _)
-
-refused-glued : (ss : List Entries) (r : Read (List Entries)) (fault : SettingsFault) → RefusedBy r fault → RefusedBy (glued ss r) fault
-refused-glued ss r TooLong h = ap (glued ss) h
-refused-glued ss r NotToml h = ap (glued ss) h
-refused-glued ss r (UnknownKey place name) h = ap (glued ss) h
-refused-glued ss r (Missing k) h = ap (glued ss) h
-refused-glued ss r (WrongType k) h = ap (glued ss) h
-refused-glued ss r (OutOfRange k) h = ap (glued ss) h
-refused-glued ss r (Scenario number kind entry term) h = ap (glued ss) h
-refused-glued ss r Memory h = tt
-
--- a text that spells nothing
-pub spelled-bad : (ss : List Entries) (n : ℕ) (ts : List Text) (i : ℕ) (d : Text) (all : Read (List Entries)) (fault : SettingsFault) → i < length ts
-    → RefusedBy (listed_as n (reading (get_or ts i d))) fault → glued ss (spelled_from n (drop i ts)) ≡ all → RefusedBy all fault
-spelled-bad ss n ts i d all fault h bad e =
-    let Refuses : Read (List Entries) → Type 0 = λ r. RefusedBy r fault in
-    let here : RefusedBy (glued ss (spelled_from n (get_or ts i d ∷ drop (i + 1) ts))) fault = refused-glued ss _ fault (refused-after _ _ fault bad) in
-    subst Refuses (ap (λ rest. glued ss (spelled_from n rest)) (sym (drop_more ts i d h)) ∙ e) here
-
--- a refusal that is passed up
-pub refused-up : {X : Type 0} (read : Read X) {Y : Type 0} (result : Result Y SettingsFault) (fault : SettingsFault) → IsErrAnd result (λ f. f ≡ fault) → RefusedBy read fault → IfErr result (RefusedBy read)
-refused-up read (Ok y) fault is by = tt
-refused-up read (Err f) fault is by = subst (RefusedBy read) (sym is) by

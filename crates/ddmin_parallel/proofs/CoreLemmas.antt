@@ -351,11 +351,6 @@ settled_reached known out stage s true cursor (Some next) place open_sets was_ou
 settled_reached known out stage s false cursor (Some next) place open_sets was_out reached advance =
     reset (get (insert known s false)) (is_among (without s out)) (position_of next) place advance.1
 
-pub settled_position : (known : Answers) (stage : Stage) (o : Option Stage) (place : ℕ) → IsAdvanced known (position_of stage) o place
-    → position_of (stage_after stage o) ≡ furthest known (position_of stage)
-settled_position known stage None place h = sym h.0
-settled_position known stage (Some next) place h = h.0
-
 -- ---- what is out after a take
 
 pub handed_open : {X E : Type 0} (f : X → Option (List ℕ)) (r : Result X E) (known : Known) (out out' : List (List ℕ)) (p : Position) (ahead : Bool)

@@ -7,10 +7,6 @@ use Rattle.ddmin_parallel.proofs.Steps.{from, from_step}
 
 -- the same of what is known
 
-pub decided_open : (known : Answers) (c : List ℕ) (n k tests : ℕ) → k < candidates n → known (candidate c n k).set ≡ None
-    → decided known (from c n k) tests ≡ None
-decided_open known c n k tests lt is = ap (λ ss. decided known ss tests) (from_step c n k lt) ∙ rw (is, decided) refl
-
 pub decided_pass : (known : Answers) (c : List ℕ) (n k tests : ℕ) → k < candidates n → known (candidate c n k).set ≡ Some false
     → decided known (from c n k) tests ≡ decided known (from c n (k + 1)) (counted tests)
 decided_pass known c n k tests lt is = ap (λ ss. decided known ss tests) (from_step c n k lt) ∙ rw (is, decided) refl

@@ -58,10 +58,6 @@ back_of : {X : Type 0} (P : X → Type 0) (xs ys : List X) → AllByRecursion P 
 back_of P [] ys h = h
 back_of P (x ∷ xs) ys h = back_of P xs ys h.1
 
-front_of : {X : Type 0} (P : X → Type 0) (xs ys : List X) → AllByRecursion P (xs ++ ys) → AllByRecursion P xs
-front_of P [] ys h = tt
-front_of P (x ∷ xs) ys h = (h.0, front_of P xs ys h.1)
-
 -- If no candidate of the finest round fails, no member can be left out.
 finest_complements : (test : List ℕ → Bool) (c : List ℕ) → 2 < length c → AllByRecursion (λ s. test s.set ≡ false) (round c (length c))
     → (i : ℕ) → i < length c → test (remove c i) ≡ false

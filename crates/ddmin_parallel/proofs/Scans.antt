@@ -40,12 +40,6 @@ shut_wider : (known : Answers) (out out' : List ℕ → Bool) → ((s : List ℕ
     → is_shut known out' s ≡ true
 shut_wider known out out' wider s is = elim (shut_cases known out s is) [ inl e ↦ shut_pass known out' s e | inr e ↦ shut_out known out' s e.0 (wider s e.1) ]
 
-pub below_wider : (known : Answers) (out out' : List ℕ → Bool) → ((s : List ℕ) → out s ≡ true → out' s ≡ true) → (p : Position) (k : ℕ)
-    → IsShutBelow known out p k → IsShutBelow known out' p k
-below_wider known out out' wider (Empty faults) k h = tt
-below_wider known out out' wider (Round c n tests) k h = (h.0, λ j lt. shut_wider known out out' wider (candidate c n j).set (h.1 j lt))
-below_wider known out out' wider (End r) k h = tt
-
 pub below_none : (known : Answers) (out : List ℕ → Bool) (p : Position) → IsShutBelow known out p 0
 below_none known out (Empty faults) = tt
 below_none known out (Round c n tests) = (omega arith, λ j lt. absurd (omega arith))
@@ -61,19 +55,6 @@ or_left false b is = absurd (let never : false ≡ true = is in cc)
 or_right : (a b : Bool) → b ≡ true → (a || b) ≡ true
 or_right true b is = refl
 or_right false b is = is
-
-among_push : (out : List (List ℕ)) (s t : List ℕ) → is_among (out ++ s ∷ []) t ≡ with_set (is_among out) s t
-among_push [] s t = at (same_set t s)
-  where
-    at : (b : Bool) → (b || false) ≡ (false || b)
-    at true = refl
-    at false = refl
-among_push (u ∷ out) s t = at (same_set t u) (among_push out s t)
-  where
-    at : (b : Bool) → is_among (out ++ s ∷ []) t ≡ (is_among out t || same_set t s)
-        → (b || is_among (out ++ s ∷ []) t) ≡ ((b || is_among out t) || same_set t s)
-    at true rest = refl
-    at false rest = rest
 
 -- ---- a round
 
@@ -215,67 +196,6 @@ followed known out (Round c n tests) o lawful small stuck leads =
 followed known out (End r) o lawful small stuck leads = record { lawful = tt; small = tt; same_round = refl; there = λ k h. tt; back = λ out' k h. tt }
 
 -- ---- requests
-
-push_keeps : (out : List (List ℕ)) (s : List ℕ) (t : List ℕ) → is_among out t ≡ true → is_among (out ++ s ∷ []) t ≡ true
-push_keeps out s t is = among_push out s t ∙ or_left (is_among out t) (same_set t s) is
-
-after_keeps : (out : List (List ℕ)) (o : Option (List ℕ)) (t : List ℕ) → is_among out t ≡ true → is_among (out_after out o) t ≡ true
-after_keeps out None t is = is
-after_keeps out (Some s) t is = push_keeps out s t is
-
-pushed_below : (known : Answers) (out : List (List ℕ)) (s : List ℕ) (p : Position) (k : ℕ) → IsShutBelow known (with_set (is_among out) s) p k
-    → IsShutBelow known (is_among (out ++ s ∷ [])) p k
-pushed_below known out s p k h = below_wider known (with_set (is_among out) s) (is_among (out ++ s ∷ [])) (λ t is. among_push out s t ∙ is) p k h
-
-pub further_open : (known : Answers) (out : List (List ℕ)) (p q : Position) (s : List ℕ) (k : ℕ) → IsFollowed known (is_among out) p q
-    → first_open known (is_among out) (round_at q) ≡ Some s → IsShutBelow known (with_set (is_among out) s) q k → IsFurther known out p (Some s) k
-further_open known out p q s k on is below = record {
-  request = sym is ∙ ap (first_open known (is_among out)) (sym on.same_round);
-  shut = on.back (is_among (out ++ s ∷ [])) k (pushed_below known out s q k below);
-}
-
-pub further_none : (known : Answers) (out : List (List ℕ)) (p q : Position) (k : ℕ) → IsFollowed known (is_among out) p q
-    → first_open known (is_among out) (round_at q) ≡ None → IsShutBelow known (is_among out) q k → IsFurther known out p None k
-further_none known out p q k on is below = record {
-  request = sym is ∙ ap (first_open known (is_among out)) (sym on.same_round);
-  shut = on.back (is_among out) k below;
-}
-
-pub opened_here : (known : Answers) (out : List (List ℕ)) (p : Position) (ahead : Bool) (s : List ℕ) (cursor cursor' : Cursor) (k : ℕ)
-    → IsReached known (is_among out) p cursor
-    → first_open known (is_among out) (round_at p) ≡ Some s → IsShutBelow known (with_set (is_among out) s) p k
-    → cursor' ≡ record { place = cursor.place; closed = k; ahead = cursor.ahead } → IsOpened known out p ahead (Some s) cursor'
-opened_here known out p ahead s cursor cursor' k reached is below same =
-    subst (IsOpened known out p ahead (Some s)) (sym same) (record {
-      request = sym (ap (λ o. or_else o (elim ahead [ true ↦ first_open known (is_among out) (next_round known p) | false ↦ None ])) is);
-      reached = record {
-        counted = reached.counted;
-        shut = pushed_below known out s p k below;
-        ahead = below_wider known (is_among out) (is_among (out ++ s ∷ [])) (push_keeps out s) (onward known p) cursor.ahead reached.ahead;
-      };
-    })
-
-pub opened_nowhere : (known : Answers) (out : List (List ℕ)) (p : Position) (ahead : Bool) (cursor : Cursor) → ahead ≡ false
-    → IsReached known (is_among out) p cursor
-    → first_open known (is_among out) (round_at p) ≡ None → IsOpened known out p ahead None cursor
-opened_nowhere known out p ahead cursor off reached is = record {
-  request = sym (rw (is, off, next_at, or_else) refl);
-  reached = reached;
-}
-
-pub opened_further : (known : Answers) (out : List (List ℕ)) (p : Position) (ahead : Bool) (o : Option (List ℕ)) (cursor cursor' : Cursor) (k : ℕ)
-    → ahead ≡ true
-    → IsReached known (is_among out) p cursor → first_open known (is_among out) (round_at p) ≡ None → IsFurther known out p o k
-    → cursor' ≡ record { place = cursor.place; closed = cursor.closed; ahead = k } → IsOpened known out p ahead o cursor'
-opened_further known out p ahead o cursor cursor' k on reached is further same =
-    subst (IsOpened known out p ahead o) (sym same) (record {
-      request = further.request ∙ sym (rw (is, on, next_at, or_else) refl);
-      reached = record {
-        counted = reached.counted;
-        shut = below_wider known (is_among out) (is_among (out_after out o)) (after_keeps out o) p cursor.closed reached.shut;
-        ahead = further.shut;
-      };
-    })
 
 -- the cursor that stands at a place and claims nothing else
 pub reset : (known : Answers) (out : List ℕ → Bool) (p : Position) (place : ℕ) → IsCounted known p place

@@ -91,15 +91,6 @@ pub decide_pass : (test : List ℕ → Bool) (c : List ℕ) (n k tests : ℕ) �
     → decide test (from c n k) tests ≡ decide test (from c n (k + 1)) (counted tests)
 decide_pass test c n k tests lt is = ap (λ ss. decide test ss tests) (from_step c n k lt) ∙ rw (is, decide) refl
 
-pub decide_fail : (test : List ℕ → Bool) (c : List ℕ) (n k tests : ℕ) → k < candidates n → test (candidate c n k).set ≡ true
-    → decide test (from c n k) tests ≡ Fails (candidate c n k) (counted tests)
-decide_fail test c n k tests lt is = ap (λ ss. decide test ss tests) (from_step c n k lt) ∙ rw (is, decide) refl
-
-pub decide_end : (test : List ℕ → Bool) (c : List ℕ) (n k tests : ℕ) → candidates n ≤ k → decide test (from c n k) tests ≡ NoneFails tests
-decide_end test c n k tests le =
-    let none : candidates n - k ≡ 0 = omega arith in
-    ap (λ m. decide test (map (candidate c n) (range_with_len k m)) tests) none
-
 -- ---- how ddmin2 goes on
 
 pub one_left : (test : List ℕ → Bool) (c : List ℕ) (n tests : ℕ) → Fits c n → length c ≤ 1 → ddmin2 test c n tests ≡ kept_after c tests
@@ -154,9 +145,3 @@ pub begins_fits : (faults : ℕ) → 0 < faults → Fits (range_with_len 0 fault
 begins_fits faults pos =
     let len = length-range_with_len 0 faults in
     record { two = omega arith; some = omega arith; few = omega arith }
-
-pub candidates_more : (n : ℕ) → 2 < n → candidates n ≡ 2 * n
-candidates_more n lt = rw (lt-ltb 2 n lt) refl
-
-pub candidates_few : (n : ℕ) → n ≤ 2 → candidates n ≡ n
-candidates_few n le = let no : ltb 2 n ≡ false = grind (arith, nat_tests) in rw no refl

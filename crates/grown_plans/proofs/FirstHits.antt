@@ -22,9 +22,6 @@ use Rattle.grown_plans.proofs.HitByHit.{sites_ahead}
 
 -- ---- how often a point is asked
 
-pub times_few : (p : ℕ) (xs : List ℕ) → times p xs ≤ length xs
-times_few p xs = count_by-le-length (λ q. q == p) xs
-
 pub times_parts : (p : ℕ) (xs ys : List ℕ) → times p (xs ++ ys) ≡ times p xs + times p ys
 times_parts p xs ys = sum_by-append (λ q. cond (q == p) 1 0) xs ys
 
@@ -175,20 +172,12 @@ ends_again r rs asked n e = elim e.2 [
 is_site : (r : Rig) (rs : List Rig) (s : Site) → last_site (r ∷ rs) ≡ Some s → r.site ≡ s
 is_site r rs s e = cc
 
-pub begun_nothing : (b : Begun) (parent : ℕ) (plan : List Rig) (asked : List ℕ) → last_site plan ≡ None → b.parent ≡ None → IsBegun b parent plan asked
-begun_nothing b parent [] asked e none = none
-begun_nothing b parent (r ∷ rs) asked e none = absurd cc
-
 pub begun_is : (b : Begun) (parent : ℕ) (plan : List Rig) (asked : List ℕ) (s : Site) → last_site plan ≡ Some s → b.parent ≡ Some parent → AreCounts b.counts.items (take b.hits asked)
     → EndsAt s asked b.hits → IsBegun b parent plan asked
 begun_is b parent [] asked s e of counts ends = absurd cc
 begun_is b parent (r ∷ rs) asked s e of counts ends =
     let few : times r.site.point (take b.hits asked) < r.site.hit = subst (λ (x : Site). times x.point (take b.hits asked) < x.hit) (sym (is_site r rs s e)) ends.1 in
     (of, (ends.0, counts), few)
-
-pub ends_nothing : (plan : List Rig) (asked : List ℕ) (n : ℕ) → last_site plan ≡ None → EndsPlan plan asked n
-ends_nothing [] asked n e = tt
-ends_nothing (r ∷ rs) asked n e = absurd cc
 
 pub ends_is : (plan : List Rig) (asked : List ℕ) (n : ℕ) (s : Site) → last_site plan ≡ Some s → EndsAt s asked n → EndsPlan plan asked n
 ends_is [] asked n s e ends = absurd cc
@@ -197,15 +186,6 @@ ends_is (r ∷ rs) asked n s e ends = subst (λ (x : Site). EndsAt x asked n) (s
 pub ends_of : (plan : List Rig) (asked : List ℕ) (n : ℕ) (s : Site) → last_site plan ≡ Some s → EndsPlan plan asked n → EndsAt s asked n
 ends_of [] asked n s e ends = absurd cc
 ends_of (r ∷ rs) asked n s e ends = subst (λ (x : Site). EndsAt x asked n) (is_site r rs s e) ends
-
-pub serves_now : (b : Begun) (parent : ℕ) (plan : List Rig) (asked : List ℕ) (s : Site) → last_site plan ≡ Some s → Serves b parent plan asked → b.parent ≡ Some parent
-    → get_or b.counts.items s.point 0 < s.hit → CountsFirst b asked
-serves_now b parent [] asked s e serves of few = absurd cc
-serves_now b parent (r ∷ rs) asked s e serves of few = serves of (subst (λ (x : Site). get_or b.counts.items x.point 0 < x.hit) (sym (is_site r rs s e)) few)
-
-pub from_one : (plan : List Rig) (s : Site) → last_site plan ≡ Some s → AreOrdinals plan → 0 < s.hit
-from_one [] s e some = absurd cc
-from_one (r ∷ rs) s e some = subst (λ (x : Site). 0 < x.hit) (is_site r rs s e) some
 
 -- a count that grows by a hit of this point stays below the fault's, unless that hit is the fault's
 pub still_early : (s : Site) (asked : List ℕ) (i : ℕ) (b : Bool) → i < length asked → (get_or asked i 0 == s.point) ≡ b → times s.point (take i asked) < s.hit

@@ -74,9 +74,6 @@ returns_here text false r e h = sym (ap is_fault e) ∙ h
 as_case : (text : Option (List ℕ)) (b c : Bool) (r : Reply) → b ≡ c → r ≡ cond b (Return text) Go → r ≡ cond c (Return text) Go
 as_case text b c r e h = h ∙ ap (λ x. cond x (Return text) Go) e
 
-self_is : (p : ℕ) → (p == p) ≡ true
-self_is p = grind (arith, nat_tests)
-
 same_point : (p q : ℕ) → (p == q) ≡ true → p ≡ q
 same_point p q e = grind (arith, nat_tests, e)
 

@@ -64,12 +64,6 @@ pub at_chunk : {D : Type 0} {stands : D → List Effect → Type 0} (v : Variant
     → Played stands v w r (at_step t (Writing (get_or cs at []) (drop (at + 1) cs))) d
 at_chunk {stands = stands} v w r t d cs at h k = subst (λ (l : List (List ℕ)). Played stands v w r (at_step t (write_step l)) d) (next_chunk cs at h) k
 
--- all chunks are written
-pub all_written : {D : Type 0} {stands : D → List Effect → Type 0} (v : Variant) (w : List (List (List ℕ))) (r : Run) (t : Tally) (d : D) (cs : List (List ℕ)) (at : ℕ) → length cs ≤ at
-    → Played stands v w r (at_step t (write_step (drop at cs))) d
-    → Played stands v w r (at_step t Syncing) d
-all_written {stands = stands} v w r t d cs at h k = subst (λ (l : List (List ℕ)). Played stands v w r (at_step t (write_step l)) d) (drop_all at cs h) k
-
 pub appends_as : {D : Type 0} (stands : D → List Effect → Type 0) (d d' : D) (n : ℕ) (x y : List ℕ) → x ≡ y → Adds stands d d' (Append n x) → Adds stands d d' (Append n y)
 appends_as stands d d' n x y e adds = subst (λ (b : List ℕ). Adds stands d d' (Append n b)) e adds
 

@@ -273,20 +273,6 @@ head_from n (Some verdict.Unresolved ∷ slots) = head_from (n + 1) slots
 pub head_in : (slots : List (Option Verdict)) → slice_get (first_failures (in_book slots)) 0 ≡ first_in 0 slots
 head_in slots = filter_head (failures_from 0 slots) (ascends_from 0 slots) ∙ head_from 0 slots
 
--- a step of a loop over the book
-next_place : (n : ℕ) (slots : List (Option Verdict)) (d : Option Verdict) → n < length slots → failures_from n (drop n slots) ≡ failures_from n (get_or slots n d ∷ drop (n + 1) slots)
-next_place n slots d lt = ap (failures_from n) (drop-cons slots n d lt ∙ ap (λ k. get_or slots n d ∷ drop k slots) (sym (add-one n)))
-
-pub next_first : (found whole : List (ℕ × ℕ)) (n : ℕ) (slots : List (Option Verdict)) (d : Option Verdict) → n < length slots
-    → collected found (failures_from n (drop n slots)) ≡ whole → collected (with_first found n (get_or slots n d)) (failures_from (n + 1) (drop (n + 1) slots)) ≡ whole
-next_first found whole n slots d lt so_far = step found n (get_or slots n d) (drop (n + 1) slots) ∙ ap (collected found) (sym (next_place n slots d lt)) ∙ so_far
-  where
-    step : (found : List (ℕ × ℕ)) (n : ℕ) (slot : Option Verdict) (rest : List (Option Verdict)) → collected (with_first found n slot) (failures_from (n + 1) rest) ≡ collected found (failures_from n (slot ∷ rest))
-    step found n None rest = refl
-    step found n (Some verdict.Pass) rest = refl
-    step found n (Some (verdict.Fail code)) rest = refl
-    step found n (Some verdict.Unresolved) rest = refl
-
 pub at_end : (found whole : List (ℕ × ℕ)) (n : ℕ) (slots : List (Option Verdict)) → length slots ≤ n → collected found (failures_from n (drop n slots)) ≡ whole → found ≡ whole
 at_end found whole n slots far so_far = sym (ap (λ s. collected found (failures_from n s)) (drop_all n slots far)) ∙ so_far
 

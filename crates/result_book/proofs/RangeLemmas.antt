@@ -206,18 +206,6 @@ full_after say plans range ls slots fits agrees own said each =
     (agrees_lists range (verdicts_from say 0 plans) verdict.Pass (λ t. said_there say plans verdict.Pass (range t) (said t)) slots ls agrees own)
     (λ m lt. each m (omega (arith, fits, length_lists slots ls)))
 
--- each range has its plans' verdicts, and each number is in a range that was put: the book is full of the verdicts
-pub book_is : (say : ℕ → Entries → Verdict) (plans : List Entries) (range : ℕ → Stretch) (ls : List (Vec (ℕ × Stretch) Global))
-    → AllAreOf range ls
-    → ((t : ℕ) → AreSaid say plans (range t).first (range t).verdicts)
-    → ((m : ℕ) → m < length plans → (t : ℕ) × (((range t).first ≤ m) × (m < (range t).first + length (range t).verdicts) × (0 < sum_by (λ (l : Vec (ℕ × Stretch) Global). count_by (λ p. nat_eq p.0 t) l.items) ls)))
-    → enter_lists (replicate (length plans) None) ls ≡ map Some (verdicts_from say 0 plans)
-book_is say plans range ls own said each =
-    let start : List (Option Verdict) = replicate (length plans) None in
-    let fits : length start ≡ length plans = length_empty (length plans) in
-    full_after say plans range ls start fits (empty_agrees say plans) own said
-    (λ m lt. let put = each m lt in has_put_lists range start ls put.0 m (omega (arith, fits)) own (put.1.0, put.1.1) put.1.2)
-
 -- the same where the verdicts of the first plans are known, and were put first: each other number is in a range that was put
 pub book_after_known : (say : ℕ → Entries → Verdict) (plans : List Entries) (known : List Verdict) (range : ℕ → Stretch) (ls : List (Vec (ℕ × Stretch) Global))
     → AreSaid say plans 0 known

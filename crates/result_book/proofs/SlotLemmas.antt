@@ -110,12 +110,6 @@ verdict_at verdict n (plan ∷ plans) (suc i) d lt = ap (λ k. verdict k (get_or
     moved : (n i : ℕ) → n + suc i ≡ n + 1 + i
     moved n i = omega arith
 
-pub taken_at : (slots : List (Option Verdict)) (n : ℕ) (slot : Option Verdict) → n < length slots → slot ≡ get_or slots n slot → is_some slot ≡ has slots n
-taken_at [] n slot lt is = absurd (omega arith)
-taken_at (None ∷ slots) zero slot lt is = ap is_some is
-taken_at (Some w ∷ slots) zero slot lt is = ap is_some is
-taken_at (s ∷ slots) (suc n) slot lt is = taken_at slots n slot (omega arith) is
-
 -- The same if a place is looked up without that.
 pub taken_in : (slots : List (Option Verdict)) (n : ℕ) (slot : Option Verdict) → slot ≡ get_or slots n None → is_some slot ≡ has slots n
 taken_in slots n slot is = ap is_some is ∙ seen (get_or slots n None)

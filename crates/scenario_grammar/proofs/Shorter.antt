@@ -207,9 +207,6 @@ abbrev pub spread : ℕ → List (List ℕ) → ℕ
 spread gap [] = 0
 spread gap (p ∷ ps) = length p + gap + spread gap ps
 
-onto_first_spread : (gap b : ℕ) (p : List ℕ) (ps : List (List ℕ)) → spread gap ((b ∷ p) ∷ ps) ≡ suc (spread gap (p ∷ ps))
-onto_first_spread gap b p ps = omega arith
-
 cut_spread : (text : List ℕ) → (0 < length (cut_at_arrows text)) × (spread 2 (cut_at_arrows text) ≡ length text + 2)
 unfolding cut_at_arrows
 cut_spread [] = (omega arith, refl)

@@ -60,14 +60,6 @@ pub joined_done : (done total us : List Term) (t : Term) → us ≡ [] → done 
 unfolding joined_onto
 joined_done done total us t k so_far = let one : done ++ joined_onto t us ≡ done ++ t ∷ [] = rw k refl in sym one ∙ so_far
 
-pub apart_if_none : (done total us rest : List Term) (t u : Term) (r : Option ℕ) → us ≡ u ∷ rest → r ≡ joint t u → is_none r ≡ true → done ++ joined_onto t us ≡ total → (done ++ t ∷ []) ++ joined_onto u rest ≡ total
-apart_if_none done total us rest t u None k is test so_far = joined_apart done total us rest t u k (sym is) so_far
-apart_if_none done total us rest t u (Some n) k is test so_far = absurd (cc)
-
-pub joined_if_some : (done total us rest : List Term) (t u : Term) (r : Option ℕ) → us ≡ u ∷ rest → r ≡ joint t u → is_none r ≡ false → done ++ joined_onto t us ≡ total → done ++ joined_onto (record t { count = r }) rest ≡ total
-joined_if_some done total us rest t u None k is test so_far = absurd (cc)
-joined_if_some done total us rest t u (Some n) k is test so_far = joined_more done total us rest t u n k (sym is) so_far
-
 -- what the loop over a chain keeps: what is done, what is left of the chain, and where the walk stands
 pub record ChainWalk (set : List ℕ) (done total : List Term) (end : ℕ) (left : List Term) (most number passed : ℕ) : Type 0 where
   pub few : number ≤ most

@@ -240,19 +240,6 @@ tidied_scenario s i = record {
 
 -- ---- loops over entries
 
-put_in : (es xs : Entries) (name : List ℕ) (c : List Term) (b : Bool) → insert_all bytes_eq (cond b (insert_entry bytes_eq es name c) es) xs ≡ insert_all bytes_eq es (cond b ((name, c) ∷ xs) xs)
-put_in es xs name c true = refl
-put_in es xs name c false = refl
-
-pub tidied_goes_on : (done more total left rest : Entries) (e : List ℕ × List Term) → left ≡ e ∷ rest → more ≡ with_entry done e.0 (tidied_chain e.1)
-    → insert_all bytes_eq done (tidied left) ≡ total → insert_all bytes_eq more (tidied rest) ≡ total
-tidied_goes_on done more total left rest e l m so_far =
-    ap (λ es. insert_all bytes_eq es (tidied rest)) m ∙ put_in done (tidied rest) e.0 (tidied_chain e.1) (nat_lt 0 (length (tidied_chain e.1)))
-    ∙ sym (ap (λ es. insert_all bytes_eq done (tidied es)) l) ∙ so_far
-
-pub tidied_is_done : (done total left : Entries) → left ≡ [] → insert_all bytes_eq done (tidied left) ≡ total → done ≡ total
-tidied_is_done done total left l so_far = sym (ap (λ es. insert_all bytes_eq done (tidied es)) l) ∙ so_far
-
 -- what the loop over the entries keeps
 pub record EntriesWalk (set : List ℕ) (done total left : Entries) (number passed : ℕ) : Type 0 where
   pub few : number + 256 * length left ≤ 65536
@@ -282,12 +269,6 @@ keeping_goes_on set done more total left rest number passed next then e l m n st
       stands = stands;
       so_far = ap (λ es. insert_all bytes_eq es (kept_from set next rest)) m ∙ ap (λ x. insert_all bytes_eq (insert_entry bytes_eq done e.0 (kept_chain set number e.1)) (kept_from set x rest)) n ∙ sym one ∙ k.so_far;
     }
-
-pub room_for : (set : List ℕ) (done total left rest : Entries) (number passed : ℕ) (e : List ℕ × List Term) → left ≡ e ∷ rest → EntriesWalk set done total left number passed → number + length e.1 < 2 ^ 32
-room_for set done total left rest number passed e l k =
-    let short : AllByRecursion (λ e. length e.1 ≤ 256) (e ∷ rest) = subst (λ (es : Entries). AllByRecursion (λ e. length e.1 ≤ 256) es) l k.short in
-    let longer : length left ≡ suc (length rest) = ap length l in
-    omega (arith, short.0, longer, k.few)
 
 pub keeping_is_done : (set : List ℕ) (done total left : Entries) (number passed : ℕ) → left ≡ [] → EntriesWalk set done total left number passed → done ≡ total
 unfolding kept_from

@@ -80,13 +80,6 @@ tidied_light f l ts =
 abbrev pub one : Term → ℕ
 one t = 1
 
-pub weight-one : (ts : List Term) → weight one ts ≡ length ts
-weight-one [] = refl
-weight-one (t ∷ ts) = omega (arith, weight-one ts)
-
-pub one_joint : LightJoint one
-one_joint t u n e = omega arith
-
 -- ---- how many faults
 
 pub weight-fault : (ts : List Term) → weight fault_of ts ≡ faults_in ts

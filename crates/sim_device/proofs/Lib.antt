@@ -3,7 +3,6 @@ pub mod InUse
 pub mod Untouched
 pub mod PendingLaws
 pub mod EffectLaws
-pub mod Keeping
 pub mod KeptWrites
 pub mod Overwrites
 pub mod LogLaws

@@ -114,9 +114,6 @@ with_cut asks halts cut keep pending old new i j kept is some c judged =
 
 -- ---- hits of the cut
 
-pub not_asked : (keep pending : ℕ) (r : Run) → CutAsked keep pending r r []
-not_asked keep pending r = record { given = refl; answers = []; told = sym (append-nil (replies r)); kept_are = refl; asked = λ asks asking f. f }
-
 pub asked_once : (keep pending : ℕ) (old r new : Run) (kept : List Bool) → CutAsked keep pending old r kept → length kept < pending → is_cut_short r ≡ false
     → new ≡ hit r keep → (a : Reply) → replies new ≡ replies r ++ a ∷ [] → (keeps_it : Bool) → keeps_it ≡ keeps a → (now : List Bool) → now ≡ kept ++ keeps_it ∷ []
     → CutAsked keep pending old new now

@@ -12,10 +12,6 @@ pub led_more : {S : Type 0} (m : Machine S) (s : S) (answers : List Reply) (a : 
 led_more m s [] a = refl
 led_more m s (b ∷ answers) a = led_more m (m.step s b) answers a
 
-pub led_on : {S : Type 0} (m : Machine S) (s : S) (answers more : List Reply) → led m s (answers ++ more) ≡ led m (led m s answers) more
-led_on m s [] more = refl
-led_on m s (b ∷ answers) more = led_on m (m.step s b) answers more
-
 pub reached_more : {S : Type 0} (m : Machine S) (r : Run) (s : S) (p : ℕ) → Reached m r s → m.move s ≡ Ask p
     → (r' : Run) → r' ≡ hit r p → (a : Reply) → replies r' ≡ replies r ++ a ∷ [] → Reached m r' (m.step s a)
 reached_more {S} m r s p k asks r' same a told = record {

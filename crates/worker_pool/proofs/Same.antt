@@ -17,13 +17,6 @@ Below-same count d e same below = (
   NextBelow-same count d.next e.next same.next below.1,
 )
 
-SameNext-refl : (n : Option Next) → SameNext n n
-SameNext-refl None = refl
-SameNext-refl (Some n) = (refl, refl)
-
-pub SameDesk-refl : (d : Desk) → SameDesk d d
-SameDesk-refl d = record { deque = refl; right = refl; pushed = refl; stolen = refl; next = SameNext-refl d.next }
-
 SameNext-trans : (n m o : Option Next) → SameNext n m → SameNext m o → SameNext n o
 SameNext-trans None m o same then = subst (λ x. SameNext x o) same then
 SameNext-trans (Some n) None o same then = absurd same

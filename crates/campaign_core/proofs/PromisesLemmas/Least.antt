@@ -44,9 +44,6 @@ not_true false n = refl
 abbrev answer_or : List Met → Site → Reply → Reply
 answer_or those s other = option_map_or (λ (m : Met). m.reply) (find (is_at s) those) other
 
-abbrev answered_at : Site → Met → List Met → Reply → Reply
-answered_at s m rest other = option_map_or (λ (x : Met). x.reply) (cond (is_at s m) (Some m) (find (is_at s) rest)) other
-
 passed : (s : Site) (m : Met) (rest : List Met) (other : Reply) → is_at s m ≡ false → answer_or (m ∷ rest) s other ≡ answer_or rest s other
 passed s m rest other e = ap (λ b. option_map_or (λ (x : Met). x.reply) (cond b (Some m) (find (is_at s) rest)) other) e
 

@@ -122,16 +122,6 @@ pub told_onward : (plan : List Rig) (o : Option (List ℕ)) → onward_told plan
 told_onward plan None = sym (none_onward plan (is_last_return plan))
 told_onward plan (Some hits) = refl
 
-pub not_return : (plan : List Rig) (o : Option (List ℕ)) → is_last_return plan ≡ false → onward_told plan o ≡ []
-not_return plan o e = told_onward plan o ∙ ap (λ (b : Bool). onward_if (b && again_told plan o) plan) e
-
-pub not_again : (plan : List Rig) (o : Option (List ℕ)) → false ≡ again_told plan o → onward_told plan o ≡ []
-not_again plan o e = told_onward plan o ∙ ap (λ (b : Bool). onward_if (is_last_return plan && b) plan) (sym e) ∙ none_onward plan (is_last_return plan)
-
-pub turned : (plan onward : List Rig) (o : Option (List ℕ)) → is_last_return plan ≡ true → true ≡ again_told plan o → onward ≡ from_then_on plan → onward_told plan o ≡ onward ∷ []
-turned plan onward o e again is =
-    told_onward plan o ∙ ap (λ (b : Bool). onward_if (b && again_told plan o) plan) e ∙ ap (λ (b : Bool). onward_if b plan) (sym again) ∙ ap (λ (p : List Rig). p ∷ []) (sym is)
-
 -- ---- a look
 
 seen_hits : (known : KnownRuns) (plan : List Rig) (hits : List ℕ) (s : Look) (v : Verdict) → s ≡ look.Seen v → IsLook (known plan) hits s → known plan ≡ Some (told v (Some hits))
@@ -173,16 +163,6 @@ sees_alike known rigs plan hits s v children b is h kept alike =
     by_test : (c : Bool) → known plan ≡ Some (told v (Some hits)) → CameTo known (cond c (Some plan) None) plan (cond c (Some v) None)
     by_test true k = (refl, ap verdict_told k)
     by_test false k = refl
-
--- The one plan with a sticky last fault, or none.
-pub no_onward : (known : KnownRuns) (rigs plan : List Rig) → onward_told plan (hits_of known plan) ≡ [] → onward_walked known rigs plan ≡ None
-no_onward known rigs plan e = ap (alike_of known rigs) e
-
-pub one_onward : (known : KnownRuns) (rigs plan onward slice : List Rig) (o : Option Verdict) → onward_told plan (hits_of known plan) ≡ onward ∷ [] → slice ≡ onward → CameTo known (if_alike rigs slice (hits_of known slice)) slice o
-    → CameTo known (onward_walked known rigs plan) onward o
-one_onward known rigs plan onward slice o e same came =
-    subst (λ (w : Option (List Rig)). CameTo known w onward o) (sym (ap (alike_of known rigs) e))
-    (subst (λ (p : List Rig). CameTo known (if_alike rigs p (hits_of known p)) p o) same came)
 
 -- ---- the verdict of each subject that agrees
 
