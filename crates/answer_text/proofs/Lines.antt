@@ -1,10 +1,12 @@
 -- Texts cut at their first line feed.
-use Rattle.std.proofs.Common.{◌≡◌, ℕ, suc, ◌+◌, ◌-◌, ◌<◌, List, [], ◌∷◌, Bool, true, false, not, eqb, ltb, cond, length, take, drop, length-append, length-drop, Option, Some, None, refl, ap, sym, ◌∙◌, arith}
+use Rattle.std.proofs.Common.{◌≡◌, ℕ, suc, ◌+◌, ◌-◌, ◌<◌, List, [], ◌∷◌, Bool, true, false, not, eqb, ltb, cond, length, get_or, take, drop, length-append, length-drop, Option, Some, None, refl, ap, sym, ◌∙◌, arith}
 use Rattle.std.specs.List.{slice_split, position_or_len}
 use Rattle.std.specs.Prelude.{position}
 use Rattle.std.specs.Option.{option_map}
 use Rattle.std.proofs.lemmas.List.{take_all}
+use Rattle.std.proofs.lemmas.List.Sums.{position_or_len_is}
 use Rattle.std.proofs.lemmas.Bool.Decides.{nat_tests}
+use Rattle.memchr.specs.Find.{IsFirstByte, is_byte}
 use Rattle.scenario_values.specs.Words.{lacks}
 use Rattle.scenario_grammar.specs.Words.{cut}
 use Rattle.scenario_grammar.proofs.CutLaws.{and_both, same_byte, cut_gives, cut_front_lacks}
@@ -87,3 +89,29 @@ shorter_at c text front rest h = let e = cut_gives c text front rest h in rw e (
 
 pub shorter : (text front rest : List ℕ) → cut 10 text ≡ Some (front, rest) → length rest < length text
 shorter text front rest h = shorter_at 10 text front rest h
+
+-- ---- the first line feed, as a search of bytes finds it
+
+fails : (b : Bool) → (b ≡ true → ⊥) → b ≡ false
+fails true h = absurd (h refl)
+fails false h = refl
+
+none_left : (n : ℕ) → ltb n n ≡ false
+none_left n = grind (arith, nat_tests)
+
+less_is : (m n : ℕ) → m < n → ltb m n ≡ true
+less_is m n h = grind (arith, nat_tests)
+
+pub found_is : (text : List ℕ) (found : Option ℕ) → IsFirstByte (is_byte 10) text found → found ≡ position (λ b. eqb b 10) text
+found_is text None none =
+    let end : position_or_len (λ b. eqb b 10) text ≡ length text =
+    position_or_len_is (λ b. eqb b 10) text (length text) 0 (omega arith) (λ k less. fails (eqb (get_or text k 0) 10) (none k (omega arith) less)) (λ less. absurd (omega (arith, less)))
+    in
+    sym (ap (λ (n : ℕ). cond (ltb n (length text)) (Some n) None) end ∙ ap (λ (b : Bool). cond b (Some (length text)) None) (none_left (length text)))
+found_is text (Some k) found =
+    let first = found.0 in
+    let high = first.high in
+    let here : position_or_len (λ b. eqb b 10) text ≡ k =
+    position_or_len_is (λ b. eqb b 10) text k 0 (omega (arith, high)) (λ i less. fails (eqb (get_or text i 0) 10) (first.before i (omega arith) less)) (λ less. found.1)
+    in
+    sym (ap (λ (n : ℕ). cond (ltb n (length text)) (Some n) None) here ∙ ap (λ (b : Bool). cond b (Some k) None) (less_is k (length text) high))

@@ -9,6 +9,7 @@ use Rattle.std.proofs.lemmas.List.Sums.{suffix_len-le-length}
 use Rattle.scenario_values.specs.declared.term.Term.{Term}
 use Rattle.scenario_values.specs.Scenario.{Entries}
 use Rattle.scenario_values.specs.Tidied.{is_used, is_live, is_endless, is_idle, joined_counts, joint, join_by, with_count, joined_onto, joined, without_used, up_to_endless, without_idle_end, tidied_chain, put, tidied}
+use Rattle.answer_text.specs.inside.Tidy.{is_tidy, is_tidy_chain, is_tidy_from, leads_to}
 
 -- ---- what a join says of its terms
 
@@ -374,3 +375,76 @@ put_again name chain es e f = by_test (ltb 0 (length chain)) refl
 pub tidied_again : (s : Entries) → tidied (tidied s) ≡ tidied s
 tidied_again [] = refl
 tidied_again (e ∷ es) = put_again e.0 (tidied_chain e.1) (tidied es) (chain_again e.1) (tidied_again es)
+
+-- ---- what is easily seen to be tidy
+
+not_true : (b : Bool) → not b ≡ true → b ≡ false
+not_true true h = absurd cc
+not_true false h = refl
+
+joint_none : (t u : Term) → (is_idle t && is_idle u) ≡ false → joint t u ≡ None
+joint_none t u h = ap (λ (b : Bool). cond b (joined_counts t.count u.count) None) h
+
+record Leads (t u : Term) : Type 0 where
+  live : is_live t ≡ true
+  ends : is_endless t ≡ false
+  apart : (is_idle t && is_idle u) ≡ false
+
+leads_gives : (t u : Term) → leads_to t u ≡ true → Leads t u
+leads_gives t u h =
+    let last = both (is_live t && not (is_endless t)) (not (is_idle t && is_idle u)) h in
+    let first = both (is_live t) (not (is_endless t)) last.0 in
+    record { live = first.0; ends = not_true (is_endless t) first.1; apart = not_true (is_idle t && is_idle u) last.1 }
+
+from_gives : (t u : Term) (us : List Term) → is_tidy_from t (u ∷ us) ≡ true → Leads t u × (is_tidy_from u us ≡ true)
+from_gives t u us h = let p = both (leads_to t u) (is_tidy_from u us) h in (leads_gives t u p.0, p.1)
+
+tidy_apart : (t : Term) (us : List Term) → is_tidy_from t us ≡ true → Apart (t ∷ us)
+tidy_apart t [] h = tt
+tidy_apart t (u ∷ us) h = let p = from_gives t u us h in (joint_none t u p.0.apart, tidy_apart u us p.1)
+
+tidy_live : (t : Term) (us : List Term) → is_tidy_from t us ≡ true → AllLive (t ∷ us)
+tidy_live t [] h = ((both (is_live t) (not (is_idle t)) h).0, tt)
+tidy_live t (u ∷ us) h = let p = from_gives t u us h in (p.0.live, tidy_live u us p.1)
+
+tidy_ends : (t : Term) (us : List Term) → is_tidy_from t us ≡ true → EndsOnly (t ∷ us)
+tidy_ends t [] h = tt
+tidy_ends t (u ∷ us) h = let p = from_gives t u us h in (p.0.ends, tidy_ends u us p.1)
+
+none_with : (a b : Bool) → b ≡ false → (a && b) ≡ false
+none_with true b h = h
+none_with false b h = refl
+
+not_all_idle : (t : Term) (us : List Term) → is_tidy_from t us ≡ true → (is_idle t && list_all is_idle us) ≡ false
+not_all_idle t [] h = ap (λ (b : Bool). b && true) (not_true (is_idle t) (both (is_live t) (not (is_idle t)) h).1)
+not_all_idle t (u ∷ us) h = none_with (is_idle t) (list_all is_idle (u ∷ us)) (not_all_idle u us (from_gives t u us h).1)
+
+tidy_end : (t : Term) (us : List Term) → is_tidy_from t us ≡ true → without_idle_end (t ∷ us) ≡ t ∷ us
+tidy_end t [] h = end_cons t [] ∙ ap (λ (b : Bool). cond b [] (t ∷ [])) (not_all_idle t [] h)
+tidy_end t (u ∷ us) h =
+    end_cons t (u ∷ us) ∙ ap (λ (b : Bool). cond b [] (t ∷ without_idle_end (u ∷ us))) (not_all_idle t (u ∷ us) h)
+    ∙ ap (λ (r : List Term). t ∷ r) (tidy_end u us (from_gives t u us h).1)
+
+chain_same : (ts : List Term) → is_tidy_chain ts ≡ true → tidied_chain ts ≡ ts
+unfolding tidied_chain
+chain_same [] h = absurd cc
+chain_same (t ∷ us) h =
+    ap (λ (x : List Term). without_idle_end (joined (up_to_endless x))) (all_live (t ∷ us) (tidy_live t us h))
+    ∙ ap (λ (x : List Term). without_idle_end (joined x)) (up_to_same (t ∷ us) (tidy_ends t us h))
+    ∙ ap without_idle_end (joined_again (t ∷ us) (tidy_apart t us h))
+    ∙ tidy_end t us h
+
+some_length : (n : ℕ) → ltb 0 (suc n) ≡ true
+some_length n = grind (arith, nat_tests)
+
+put_same : (name : List ℕ) (chain : List Term) (es : Entries) → is_tidy_chain chain ≡ true → put name chain es ≡ (name, chain) ∷ es
+put_same name [] es h = absurd cc
+put_same name (t ∷ ts) es h = ap (λ (b : Bool). cond b ((name, t ∷ ts) ∷ es) es) (some_length (length ts))
+
+pub scenario_same : (s : Entries) → is_tidy s ≡ true → tidied s ≡ s
+scenario_same [] h = refl
+scenario_same (e ∷ es) h =
+    let p = both (is_tidy_chain e.1) (is_tidy es) h in
+    ap (λ (c : List Term). put e.0 c (tidied es)) (chain_same e.1 p.0)
+    ∙ put_same e.0 e.1 (tidied es) p.0
+    ∙ ap (λ (r : Entries). (e.0, e.1) ∷ r) (scenario_same es p.1)

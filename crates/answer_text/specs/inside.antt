@@ -1,3 +1,4 @@
 -- What the code keeps. No clause that a caller sees names any of it.
 pub mod Books
 pub mod Names
+pub mod Tidy

@@ -19,6 +19,9 @@ use target_trait::Verdict;
 /// The most hits that a line may record. A count is refused before hits are made of it, so that a line takes no more memory than so many hits do.
 pub const MOST_HITS: u32 = 65536;
 
+/// For how many stretches there is room at first. Few lines have more, and room for these grows.
+const FIRST_ROOM: usize = 16;
+
 /// Hits of one point in a row: as many as the count says, and at least one. The point is a place among names.
 #[derive(Clone, Copy, Debug, PartialEq, Eq)]
 pub struct Stretch {
@@ -202,10 +205,11 @@ pub fn same_hits(a: &Option<Hits>, b: &Option<Hits>) -> bool
 pub fn hits_in(alloc: Global, points: &PointNames<'_>, text: &str) -> Result<Hits, LineError>
     ensures { Gives (λ hits. hits) result (hits_in points.now text.now) }
 {
-    let mut hits = Vec::new(alloc);
     if text.is_empty() {
-        return Ok(Hits { stretches: hits });
+        let stretches = Vec::new(alloc);
+        return Ok(Hits { stretches });
     }
+    let mut hits = Vec::with_capacity(alloc, FIRST_ROOM)?;
     let mut total = 0;
     let mut rest = text;
     while let Some((item, after)) = cut_once(rest, ';') {

@@ -2,6 +2,7 @@
 //! recorded run of each scenario.
 #![tactic(auto)]
 
+mod cuts;
 mod fault;
 mod hits;
 mod laws;
@@ -9,8 +10,10 @@ mod line;
 mod names;
 mod reading;
 mod runs;
+mod tidying;
 mod verdicts;
 
+pub use cuts::cut_line;
 pub use fault::{AnswersFault, LineError, LineFault};
 pub use hits::{Hits, MOST_HITS, Stretch, hits_in};
 pub use laws::{
@@ -20,3 +23,4 @@ pub use line::run_in;
 pub use names::PointNames;
 pub use reading::{LIMIT, read, read_runs};
 pub use runs::{RunLine, Runs, Stranger, ToldRun};
+pub use tidying::tidied_from;

@@ -8,9 +8,10 @@ use crate::fault::{LineError, LineFault};
 use crate::hits::field_in;
 use crate::names::PointNames;
 use crate::runs::RunLine;
+use crate::tidying::tidied_from;
 use crate::verdicts::verdict_in;
 use indexmap::IndexMap;
-use scenario_grammar::{Scenario, ScenarioFault, Text, cut_once, parse, tidy};
+use scenario_grammar::{Scenario, ScenarioFault, Text, cut_once, parse};
 use std::alloc::Global;
 use std::str;
 use target_trait::Verdict;
@@ -83,7 +84,7 @@ fn answer_in<'a>(
     let verdict = verdict_in(alloc, codes, word)?;
     let (text, field) = fields_of(rest);
     let scenario = scenario_in(alloc, text)?;
-    Ok(((tidy(alloc, &scenario)?, verdict), field))
+    Ok(((tidied_from(alloc, scenario)?, verdict), field))
 }
 
 /// What a line records of a run. `needed` says whether it has to have hits.

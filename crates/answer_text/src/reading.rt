@@ -1,6 +1,5 @@
 //! The text of answers, read.
-ghost use Rattle.std.specs.Prelude.{◌≡◌, ◌<◌, ◌≤◌, ◌+◌, ◌^◌, ◌==◌, false, length, List, position, option_map, IfOk, IfErr, OnOk, Ok};
-ghost use Rattle.scenario_grammar.specs.Words.{cut};
+ghost use Rattle.std.specs.Prelude.{◌≡◌, ◌<◌, ◌≤◌, ◌+◌, ◌^◌, false, length, List, IfOk, IfErr, OnOk, Ok};
 ghost use Rattle.answer_text.specs.declared.fault.AnswersFault.TheVariants.{Memory};
 ghost use Rattle.answer_text.specs.declared.runs.RunLine.{RunLine};
 ghost use Rattle.answer_text.specs.Answers.{Says};
@@ -9,6 +8,7 @@ ghost use Rattle.answer_text.specs.Known.{Knows};
 ghost use Rattle.answer_text.specs.Runs.{Tells, TellsAnswers, TellsRuns, answers_of, known_answers, known_runs, known_strangers, runs_of, told_in};
 ghost use Rattle.answer_text.specs.inside.Books.{Holds, fault_at, read_line};
 
+use crate::cuts::cut_line;
 use crate::fault::{AnswersFault, LineError, LineFault};
 use crate::line::run_in;
 use crate::names::PointNames;
@@ -18,23 +18,6 @@ use std::alloc::Global;
 
 /// The longest text of answers, in bytes.
 pub const LIMIT: usize = 268435456;
-
-/// Where the first line feed stands.
-fn line_feed(text: &[u8]) -> Option<usize>
-    ensures { result ≡ position (λ b. b == 10) text.now }
-{
-    text.iter().position(|b| *b == b'\n')
-}
-
-/// The first line without its line feed, and what follows it, if a line feed ends it.
-fn cut_line(text: &[u8]) -> Option<(&[u8], &[u8])>
-    ensures { option_map (λ x. (x.0.now, x.1.now)) result ≡ cut 10 text.now }
-{
-    match line_feed(text) {
-        None => None,
-        Some(end) => Some((&text[..end], &text[end + 1..])),
-    }
-}
 
 /// Reads one line. After an `Err` the runs are of no use.
 #[tactic(auto, unfolding(crate::specs::inside::Books::read_line))]

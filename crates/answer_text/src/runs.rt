@@ -10,8 +10,9 @@ ghost use Rattle.answer_text.specs.inside.Books.{noted};
 use crate::fault::{LineError, LineFault};
 use crate::hits::{Hits, same_hits};
 use crate::names::PointNames;
+use crate::tidying::tidied_text;
 use indexmap::IndexMap;
-use scenario_grammar::{Scenario, Text, print, tidy};
+use scenario_grammar::{Scenario, Text, print};
 use std::alloc::{AllocError, Global};
 use std::marker::Model;
 use target_trait::Verdict;
@@ -117,9 +118,7 @@ impl Runs {
     pub fn told(&self, alloc: Global, scenario: &Scenario) -> Result<Option<&ToldRun>, AllocError>
         ensures { IfOk result (λ told. option_map (λ r. r.now) told ≡ told_in self.now (tidied scenario.now)) }
     {
-        let tidied = tidy(alloc, scenario)?;
-        let key = Text::from_string(print(alloc, &tidied)?);
-        Ok(self.told.get(&key))
+        Ok(self.told.get(&tidied_text(alloc, scenario)?))
     }
 
     /// The recorded verdict of the scenario once it is tidied, if there is one. `Err` means that memory was refused.

@@ -1,6 +1,5 @@
 //! The lines of a text of answers, read again one by one.
-ghost use Rattle.std.specs.Prelude.{◌≡◌, ◌<◌, ◌^◌, ◌==◌, length, true, position, option_map, IfOk};
-ghost use Rattle.scenario_grammar.specs.Words.{cut};
+ghost use Rattle.std.specs.Prelude.{◌<◌, ◌^◌, length, IfOk};
 ghost use Rattle.answered_runs.specs.inside.LineSteps.{IsScenarioOn};
 
 use answer_text::{LineError, PointNames, run_in};
@@ -13,23 +12,6 @@ pub struct AnswerLines<'a> {
     pub codes: &'a [Text],
     pub points: &'a [Text],
     pub text: &'a [u8],
-}
-
-/// Where the first line feed stands.
-fn line_feed(text: &[u8]) -> Option<usize>
-    ensures { result ≡ position (λ b. b == 10) text.now }
-{
-    text.iter().position(|b| *b == b'\n')
-}
-
-/// The first line without its line feed, and what follows it, if a line feed ends it.
-pub(crate) fn cut_line(text: &[u8]) -> Option<(&[u8], &[u8])>
-    ensures { option_map (λ x. (x.0.now, x.1.now)) result ≡ cut 10 text.now }
-{
-    match line_feed(text) {
-        None => None,
-        Some(end) => Some((&text[..end], &text[end + 1..])),
-    }
 }
 
 /// The names of codes and points by which lines are read.

@@ -5,13 +5,13 @@ ghost use Rattle.grown_plans.specs.numbered.GrownScenarios.{grown_scenario};
 ghost use Rattle.answered_runs.specs.inside.Played.{AreAdded, AreDone, AreMarked, IsLineAdded, IsState};
 
 use crate::broken::BrokenRun;
-use crate::lines::{LineNames, cut_line, scenario_on};
+use crate::lines::{LineNames, scenario_on};
 use crate::plans::KnownPlans;
 use crate::played::{Played, add_run};
 use crate::scenarios::plan_scenario;
 use crate::table::AnsweredRuns;
-use answer_text::PointNames;
-use scenario_values::{Scenario, tidy};
+use answer_text::{PointNames, cut_line, tidied_from};
+use scenario_values::Scenario;
 use std::alloc::{AllocError, Global};
 
 /// The tidied scenario of the plan of this number.
@@ -23,7 +23,7 @@ fn scenario_of(alloc: Global, known: &KnownPlans<'_>, number: usize) -> Result<S
     let mut faults = Vec::new(alloc);
     known.list().plans.faults_of(number, &mut faults)?;
     let scenario = plan_scenario(alloc, known.runs().points(), faults.as_slice())?;
-    tidy(alloc, &scenario)
+    tidied_from(alloc, scenario)
 }
 
 /// Marks a line.

@@ -4,7 +4,7 @@ use Rattle.answer_text.proofs.HitReading.{Leads, gives_err, begins, leads_on, it
 use Rattle.answer_text.proofs.hits.hits_in.Goals as goal
 
 pub loop-item-init : goal.loop-item-init
-loop-item-init c = let h : Leads c.args.points.now c.args.text.now c.args.text.now c.new-hits.result.items = begins c.args.points.now c.args.text.now c.new-hits.result.items c.is_empty.result c.new-hits.ensures.items c.is_empty.ensures c.if-is_empty.false in record { utf8 = c.utf8.text; leads = h; total = search rules }
+loop-item-init c = let h : Leads c.args.points.now c.args.text.now c.args.text.now c.in_ok-hits.hits.items = begins c.args.points.now c.args.text.now c.in_ok-hits.hits.items c.is_empty.result c.in_ok-hits.ensures.items c.is_empty.ensures c.if-is_empty.false in record { utf8 = c.utf8.text; leads = h; total = search rules }
 
 pub loop-item-smaller : goal.loop-item-smaller
 loop-item-smaller c = shorter_at 59 c.loop-item.rest.now c.in-Some.item.now c.in-Some.after.now (sym c.in-Some.ensures)

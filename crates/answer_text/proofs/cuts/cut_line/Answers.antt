@@ -1,5 +1,5 @@
 use Rattle.answer_text.proofs.Lines.{cut_none, cut_range}
-use Rattle.answered_runs.proofs.lines.cut_line.Goals as goal
+use Rattle.answer_text.proofs.cuts.cut_line.Goals as goal
 
 pub returns-in-None : goal.returns-in-None
 returns-in-None c = cut_none c.args.text.now c.in-None.ensures
