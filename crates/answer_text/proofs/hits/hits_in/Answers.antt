@@ -19,7 +19,7 @@ loop-item-preserved c = record {
 
 pub returns-in_err-stretch : goal.returns-in_err-stretch
 returns-in_err-stretch c =
-    gives_err _ c.from_residual.result c.in_err-stretch.field-0.0 _ c.from_residual.ensures
+    gives_err _ c.from_residual-in_err-stretch.result c.in_err-stretch.field-0.0 _ c.from_residual-in_err-stretch.ensures
     (item_fails c.args.points.now c.args.text.now c.loop-item.rest.now c.in-Some.item.now c.in-Some.after.now c.loop-item.hits.items c.in_err-stretch.field-0.0 (sym c.in-Some.ensures) c.loop-item.invariant.leads c.in_err-stretch.ensures)
 
 pub returns-in_err-total : goal.returns-in_err-total

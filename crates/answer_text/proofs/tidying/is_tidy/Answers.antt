@@ -1,4 +1,4 @@
-use Rattle.std.proofs.Common.{rules, ◌≡◌, true, sym}
+use Rattle.std.proofs.Common.{rules, ◌≡◌, true}
 use Rattle.answer_text.specs.inside.Tidy.{is_tidy}
 use Rattle.answer_text.proofs.TidyAgain.{scenario_same}
 use Rattle.answer_text.proofs.tidying.is_tidy.Goals as goal
