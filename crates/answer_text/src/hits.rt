@@ -8,6 +8,7 @@ ghost use Rattle.scenario_grammar.specs.Words.{is_number};
 ghost use Rattle.answer_text.specs.FirstFault.{Gives};
 ghost use Rattle.answer_text.specs.Hits.{are_same, count_in, count_of, ends_with, field_by, field_in, hits_in, item_in, most_hits, points_of, same_hits, with_item};
 
+use crate::cuts::cut_item;
 use crate::fault::{LineError, LineFault};
 use crate::names::PointNames;
 use itoa::Buffer;
@@ -212,7 +213,7 @@ pub fn hits_in(alloc: Global, points: &PointNames<'_>, text: &str) -> Result<Hit
     let mut hits = Vec::with_capacity(alloc, FIRST_ROOM)?;
     let mut total = 0;
     let mut rest = text;
-    while let Some((item, after)) = cut_once(rest, ';') {
+    while let Some((item, after)) = cut_item(rest) {
         let stretch = item_in(alloc, points, item)?;
         total = add(alloc, points, &mut hits, total, stretch)?;
         rest = after;
