@@ -166,10 +166,10 @@ told_same a s r q e f = let both : Some r ≡ Some q = sym e ∙ f in cc
 
 -- ---- one run more
 
-pub seen_run : (a : Answered) (run : SeenRun) (r : ToldRun) → IsTold a run.scenario.now r → run.line ≡ r.line → (let o : Option Told = Some (told_of r) in o) ≡ Some (told run.verdict (Some run.hits.now)) → IsSeen a run
-seen_run a run r t line e =
+pub seen_run : (a : Answered) (s : Entries) (run : SeenRun) (r : ToldRun) → IsTold a s r → run.line ≡ r.line → (let o : Option Told = Some (told_of r) in o) ≡ Some (told run.verdict (Some run.hits.now)) → IsSeen a s run
+seen_run a s run r t line e =
     let same : told_of r ≡ told run.verdict (Some run.hits.now) = cc in
-    record { recorded = r; told = t; seen = ap (line_of run.scenario.now) same; line = line }
+    record { recorded = r; told = t; seen = ap (line_of s) same; line = line }
 
 pub seen_points : (a : Answered) (s : Entries) (r : ToldRun) (v : Verdict) (hits : List ℕ) → HaveKnownPoints a → told_in a.book s ≡ Some r → (let o : Option Told = Some (told_of r) in o) ≡ Some (told v (Some hits))
     → AllByRecursion (λ p. p < length a.points) hits
@@ -180,19 +180,19 @@ seen_points a s r v hits known recorded e =
     in
     all
 
-pub put_added : (a : Answered) (x y : Played) (run : SeenRun) (r : ToldRun) → IsState a x → (let o : Option Told = Some (told_of r) in o) ≡ Some (told run.verdict (Some run.hits.now)) → y.unseen.items ≡ x.unseen.items
-    → y.own.items ≡ x.own.items → (found : Option BrokenRun) → IsPut a x.tree y.tree (line_seen run) found → IsAdded a x y run.scenario.now r found
-put_added a x y run r state e unseen own None puts =
+pub put_added : (a : Answered) (x y : Played) (s : Entries) (run : SeenRun) (r : ToldRun) → IsState a x → (let o : Option Told = Some (told_of r) in o) ≡ Some (told run.verdict (Some run.hits.now)) → y.unseen.items ≡ x.unseen.items
+    → y.own.items ≡ x.own.items → (found : Option BrokenRun) → IsPut a x.tree y.tree (line_seen s run) found → IsAdded a x y s r found
+put_added a x y s run r state e unseen own None puts =
     let same : told_of r ≡ told run.verdict (Some run.hits.now) = cc in
     record {
       state = record { sound = puts.sound; unseen = subst (AllByRecursion (IsUnseen a)) (sym unseen) state.unseen };
       goes = record { grows = puts.grows; listed = λ u c. subst (λ (l : List UnseenRun). Contains l u) (sym unseen) c; own = own };
       done = λ certain. record {
-        kept = subst (IsKept a.points y.tree) (sym (ap (line_of run.scenario.now) same)) puts.kept;
+        kept = subst (IsKept a.points y.tree) (sym (ap (line_of s) same)) puts.kept;
         listed = λ none. absurd (let w : Some run.hits.now ≡ None = sym (ap (λ (t : Told). t.hits) same) ∙ none in cc);
       };
     }
-put_added a x y run r state e unseen own (Some b) broken = broken
+put_added a x y s run r state e unseen own (Some b) broken = broken
 
 pub list_added : (a : Answered) (x y : Played) (u : UnseenRun) (r : ToldRun) (v : Verdict) → IsState a x → IsTold a u.scenario r → u.line ≡ r.line → u.verdict ≡ v → (let o : Option Told = Some (told_of r) in o) ≡ Some (told v None) → y.tree ≡ x.tree
     → y.unseen.items ≡ x.unseen.items ++ u ∷ [] → y.own.items ≡ x.own.items → IsAdded a x y u.scenario r None

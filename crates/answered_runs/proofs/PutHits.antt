@@ -1,9 +1,14 @@
 -- What a run says, put into a tree hit by hit.
-use Rattle.std.proofs.Common.{◌≡◌, ◌⊎◌, inl, inr, ℕ, ◌+◌, ◌<◌, ◌≤◌, Option, Some, None, List, [], ◌∷◌, ◌++◌, length, take, get_or, refl, ap, sym, ◌∙◌, subst, arith, true, false}
-use Rattle.std.specs.Prelude.{slice_get}
+use Rattle.std.proofs.Common.{◌≡◌, ◌⊎◌, inl, inr, ℕ, ◌+◌, ◌<◌, ◌≤◌, Option, Some, None, List, [], ◌∷◌, ◌++◌, length, take, get_or, refl, ap, sym, ◌∙◌, subst, arith, true, false, Result}
+use Rattle.std.specs.Prelude.{IfOk, slice_get}
+use Rattle.std.specs.declared.alloc.AllocError.{AllocError}
 use Rattle.std.proofs.lemmas.List.{length-take-le, take_more}
 use Rattle.std.proofs.lemmas.Bool.{cases_lt}
-use Rattle.action_eval.specs.Answers.{Reply, Go, Run, given_of, hit, is_cut_short, replies, run_of, start}
+use Rattle.scenario_values.specs.Scenario.{Entries, IsScenario}
+use Rattle.scenario_values.specs.Tidied.{tidied}
+use Rattle.action_eval.specs.Answers.{Reply, Go, Run, cuts_short, given_of, hit, is_cut_short, replies, run_of, start}
+use Rattle.action_eval.specs.SameMeaning.{Meaning, meaning}
+use Rattle.action_eval.proofs.RunLaws.{tidied_means}
 use Rattle.target_trait.specs.Cuts.{IsAsking}
 use Rattle.target_trait.specs.Play.{Move, Ask, Done, Unknown}
 use Rattle.target_trait.specs.declared.judgement.Judgement.TheVariants.{Kept, Broken}
@@ -17,7 +22,7 @@ use Rattle.answered_runs.specs.declared.broken.Conflict.{Conflict}
 use Rattle.answered_runs.specs.declared.broken.Conflict.TheVariants as conflict
 use Rattle.answered_runs.specs.declared.saying.SeenRun.{SeenRun}
 use Rattle.answered_runs.specs.declared.tree.Said.{Said}
-use Rattle.answered_runs.specs.inside.Trees.{EndsThere, Enters, Grows, IsBroken, IsConflict, IsPauseFault, IsPut, IsSaid, IsSeen, IsSound, Leads, Puts, Tree, line_seen, move_of, walk}
+use Rattle.answered_runs.specs.inside.Trees.{EndsThere, Enters, Grows, HasBegun, IsBroken, IsConflict, IsPauseFault, IsPut, IsSaid, IsSeen, IsSound, Leads, Puts, Tree, line_seen, move_of, walk}
 use Rattle.answered_runs.proofs.Places.{Entered, entered, grows_on, leads_grow, name_is}
 use Rattle.answered_runs.proofs.PlayedHits.{length_replies, replies_over, short_over}
 
@@ -134,25 +139,25 @@ module _ (a : Answered) (name : List Reply) (there x : Said) (p : IsSaid a name 
 -- ---- one run, hit by hit
 
 -- so far this run was put into the tree, up to the answer that comes next
-pub record Putting (a : Answered) (run : SeenRun) (t0 t : Tree) (i place : ℕ) (answer : Reply) (now : Run) : Type 0 where
+pub record Putting (a : Answered) (s : Entries) (run : SeenRun) (t0 t : Tree) (i place : ℕ) (answer : Reply) (now : Run) : Type 0 where
   pub sound : IsSound a t
   pub grows : Grows t0 t
-  pub now_is : now ≡ run_of run.scenario.now a.points 0 0 (length run.hits.now) (take i run.hits.now)
+  pub now_is : now ≡ run_of s a.points 0 0 (length run.hits.now) (take i run.hits.now)
   pub within : i ≤ length run.hits.now
   pub before : List Reply
   pub reached : walk t 0 before ≡ Some place
-  pub name_is : before ++ answer ∷ [] ≡ Go ∷ replies (run_over a.points run.scenario.now (take i run.hits.now))
-  pub goes : (count : ℕ) → count ≤ i → is_cut_short (run_over a.points run.scenario.now (take count run.hits.now)) ≡ false
-  pub said : (count : ℕ) (answers : List Reply) (move : Move) → count < i → Says a.points (line_seen run) count answers move → Leads t answers move
+  pub name_is : before ++ answer ∷ [] ≡ Go ∷ replies (run_over a.points s (take i run.hits.now))
+  pub goes : (count : ℕ) → count ≤ i → is_cut_short (run_over a.points s (take count run.hits.now)) ≡ false
+  pub said : (count : ℕ) (answers : List Reply) (move : Move) → count < i → Says a.points (line_seen s run) count answers move → Leads t answers move
 
 -- the same, with what comes after these hits
-pub record Through (a : Answered) (run : SeenRun) (t0 u : Tree) (i m : ℕ) : Type 0 where
+pub record Through (a : Answered) (s : Entries) (run : SeenRun) (t0 u : Tree) (i m : ℕ) : Type 0 where
   pub sound : IsSound a u
   pub grows : Grows t0 u
   pub within : i ≤ length run.hits.now
-  pub reached : walk u 0 (Go ∷ replies (run_over a.points run.scenario.now (take i run.hits.now))) ≡ Some m
-  pub goes : (count : ℕ) → count ≤ i → is_cut_short (run_over a.points run.scenario.now (take count run.hits.now)) ≡ false
-  pub said : (count : ℕ) (answers : List Reply) (move : Move) → count < i + 1 → Says a.points (line_seen run) count answers move → Leads u answers move
+  pub reached : walk u 0 (Go ∷ replies (run_over a.points s (take i run.hits.now))) ≡ Some m
+  pub goes : (count : ℕ) → count ≤ i → is_cut_short (run_over a.points s (take count run.hits.now)) ≡ false
+  pub said : (count : ℕ) (answers : List Reply) (move : Move) → count < i + 1 → Says a.points (line_seen s run) count answers move → Leads u answers move
 
 split_less : (m n : ℕ) → m < n + 1 → (m < n) ⊎ (m ≡ n)
 split_less m n less = elim (cases_lt m n) [
@@ -161,20 +166,20 @@ split_less m n less = elim (cases_lt m n) [
 ]
 
 -- what a line with these hits says
-pub says_is : (points : List (List ℕ)) (run : SeenRun) (count : ℕ) (answers : List Reply) (move : Move) → Says points (line_seen run) count answers move
-    → (answers ≡ replies (run_over points run.scenario.now (take count run.hits.now))) × (move ≡ move_said run.verdict (slice_get run.hits.now count)) × (count ≤ length run.hits.now)
-says_is points run count answers move says =
+pub says_is : (points : List (List ℕ)) (s : Entries) (run : SeenRun) (count : ℕ) (answers : List Reply) (move : Move) → Says points (line_seen s run) count answers move
+    → (answers ≡ replies (run_over points s (take count run.hits.now))) × (move ≡ move_said run.verdict (slice_get run.hits.now count)) × (count ≤ length run.hits.now)
+says_is points s run count answers move says =
     let same : says.hits ≡ run.hits.now = sym (hits_same run.hits.now says.hits says.known) in (
-      sym says.reached ∙ ap (λ (h : List ℕ). replies (run_over points run.scenario.now (take count h))) same,
+      sym says.reached ∙ ap (λ (h : List ℕ). replies (run_over points s (take count h))) same,
       says.move_is ∙ ap (λ (h : List ℕ). move_said run.verdict (slice_get h count)) same,
       subst (λ (h : List ℕ). count ≤ length h) same says.within,
     )
 
-module _ (a : Answered) (run : SeenRun) where
+module _ (a : Answered) (s : Entries) (run : SeenRun) where
   abbrev answered : ℕ → List Reply
-  answered count = replies (run_over a.points run.scenario.now (take count run.hits.now))
+  answered count = replies (run_over a.points s (take count run.hits.now))
 
-  pub begins : (t : Tree) → IsSound a t → Putting a run t t 0 0 Go (start (given_of run.scenario.now a.points 0 0 (length run.hits.now)))
+  pub begins : (t : Tree) → IsSound a t → Putting a s run t t 0 0 Go (start (given_of s a.points 0 0 (length run.hits.now)))
   begins t sound = record {
     sound = sound;
     grows = record { said = λ m x e. e; ways = λ n r m e. e };
@@ -185,19 +190,19 @@ module _ (a : Answered) (run : SeenRun) where
     name_is = refl;
     goes = λ count le.
         let none : 0 ≡ count = omega (arith, le) in
-        subst (λ (n : ℕ). is_cut_short (run_over a.points run.scenario.now (take n run.hits.now)) ≡ false) none refl;
+        subst (λ (n : ℕ). is_cut_short (run_over a.points s (take n run.hits.now)) ≡ false) none refl;
     said = λ count answers move less says. absurd (omega (arith, less));
   }
 
-  module _ (t0 t : Tree) (i place : ℕ) (answer : Reply) (now : Run) (p : Putting a run t0 t i place answer now) where
+  module _ (t0 t : Tree) (i place : ℕ) (answer : Reply) (now : Run) (p : Putting a s run t0 t i place answer now) where
     -- what comes next is said by this run
-    own : IsSeen a run → (x : Said) → x.line ≡ run.line → move_of x.next ≡ move_said run.verdict (slice_get run.hits.now i) → IsSaid a (p.before ++ answer ∷ []) x
+    own : IsSeen a s run → (x : Said) → x.line ≡ run.line → move_of x.next ≡ move_said run.verdict (slice_get run.hits.now i) → IsSaid a (p.before ++ answer ∷ []) x
     own seen x line next =
-        let says : Says a.points (line_seen run) i (answered i) (move_of x.next) =
+        let says : Says a.points (line_seen s run) i (answered i) (move_of x.next) =
         record { hits = run.hits.now; known = refl; within = p.within; reached = refl; goes_on = p.goes i (omega arith); move_is = next }
         in
         record {
-          scenario = run.scenario.now;
+          scenario = s;
           run = seen.recorded;
           told = seen.told;
           line = line ∙ seen.line;
@@ -210,11 +215,11 @@ module _ (a : Answered) (run : SeenRun) where
     name_long : length (p.before ++ answer ∷ []) ≡ i + 1
     name_long =
         let long = ap length p.name_is in
-        let all = length_replies a.points run.scenario.now (take i run.hits.now) in
+        let all = length_replies a.points s (take i run.hits.now) in
         let count = length-take-le i run.hits.now p.within in
         omega (arith, long, all, count)
 
-    module _ (seen : IsSeen a run) (u : Tree) (x : Said) (m : ℕ) (line : x.line ≡ run.line) (next : move_of x.next ≡ move_said run.verdict (slice_get run.hits.now i)) (enters : Enters t u place answer x m) where
+    module _ (seen : IsSeen a s run) (u : Tree) (x : Said) (m : ℕ) (line : x.line ≡ run.line) (next : move_of x.next ≡ move_said run.verdict (slice_get run.hits.now i)) (enters : Enters t u place answer x m) where
       e : Entered a t u (p.before ++ answer ∷ []) m
       e = entered a t u p.before answer x place m p.sound p.reached (own seen x line next) enters
 
@@ -229,7 +234,7 @@ module _ (a : Answered) (run : SeenRun) where
             in
             two_said a (p.before ++ answer ∷ []) there x from (own seen x line next) hit b (hit_is ∙ sym name_long) broken
 
-        pub through : IsBroken there x hit None → Through a run t0 u i m
+        pub through : IsBroken there x hit None → Through a s run t0 u i m
         through same = record {
           sound = e.sound;
           grows = grows_on t0 t u p.grows e.grows;
@@ -242,10 +247,10 @@ module _ (a : Answered) (run : SeenRun) where
             there_is : walk u 0 (Go ∷ answered i) ≡ Some m
             there_is = subst (λ (l : List Reply). walk u 0 l ≡ Some m) p.name_is e.reached
 
-            by_case : (count : ℕ) (answers : List Reply) (move : Move) → Says a.points (line_seen run) count answers move → (count < i) ⊎ (count ≡ i) → Leads u answers move
+            by_case : (count : ℕ) (answers : List Reply) (move : Move) → Says a.points (line_seen s run) count answers move → (count < i) ⊎ (count ≡ i) → Leads u answers move
             by_case count answers move says (inl less) = leads_grow t u e.grows answers move (p.said count answers move less says)
             by_case count answers move says (inr is) =
-                let (answers_are, move_is, few) = says_is a.points run count answers move says in
+                let (answers_are, move_is, few) = says_is a.points s run count answers move says in
                 record {
                   place = m;
                   said = there;
@@ -258,21 +263,21 @@ module _ (a : Answered) (run : SeenRun) where
     pub runs_on : is_cut_short now ≡ false
     runs_on =
         let short : length (take i run.hits.now) ≤ length run.hits.now = (let l = length-take-le i run.hits.now p.within in let w = p.within in omega (arith, l, w)) in
-        ap is_cut_short p.now_is ∙ short_over a.points run.scenario.now (length run.hits.now) (take i run.hits.now) short ∙ p.goes i (omega arith)
+        ap is_cut_short p.now_is ∙ short_over a.points s (length run.hits.now) (take i run.hits.now) short ∙ p.goes i (omega arith)
 
-    pub next_run : (i < length run.hits.now) → hit now (get_or run.hits.now i 0) ≡ run_of run.scenario.now a.points 0 0 (length run.hits.now) (take (i + 1) run.hits.now)
+    pub next_run : (i < length run.hits.now) → hit now (get_or run.hits.now i 0) ≡ run_of s a.points 0 0 (length run.hits.now) (take (i + 1) run.hits.now)
     next_run less =
         ap (λ (r : Run). hit r (get_or run.hits.now i 0)) p.now_is
-        ∙ ap (run_of run.scenario.now a.points 0 0 (length run.hits.now)) (sym (take_more run.hits.now i 0 less))
+        ∙ ap (run_of s a.points 0 0 (length run.hits.now)) (sym (take_more run.hits.now i 0 less))
 
-  module _ (t0 u : Tree) (i m : ℕ) (g : Through a run t0 u i m) where
+  module _ (t0 u : Tree) (i m : ℕ) (g : Through a s run t0 u i m) where
     few : i < length run.hits.now → length (take (i + 1) run.hits.now) ≤ length run.hits.now
     few less = let l = length-take-le (i + 1) run.hits.now (omega (arith, less)) in omega (arith, l, less)
 
     -- no pause stops the run at its next hit
-    pub goes_on : (old now : Run) (answer : Reply) → i < length run.hits.now → old ≡ run_of run.scenario.now a.points 0 0 (length run.hits.now) (take i run.hits.now)
-        → now ≡ run_of run.scenario.now a.points 0 0 (length run.hits.now) (take (i + 1) run.hits.now) → replies now ≡ replies old ++ answer ∷ [] → is_cut_short now ≡ false
-        → Putting a run t0 u (i + 1) m answer now
+    pub goes_on : (old now : Run) (answer : Reply) → i < length run.hits.now → old ≡ run_of s a.points 0 0 (length run.hits.now) (take i run.hits.now)
+        → now ≡ run_of s a.points 0 0 (length run.hits.now) (take (i + 1) run.hits.now) → replies now ≡ replies old ++ answer ∷ [] → is_cut_short now ≡ false
+        → Putting a s run t0 u (i + 1) m answer now
     goes_on old now answer less old_is now_is told goes = record {
       sound = g.sound;
       grows = g.grows;
@@ -290,48 +295,48 @@ module _ (a : Answered) (run : SeenRun) where
 
         more : answered (i + 1) ≡ answered i ++ answer ∷ []
         more =
-            sym (replies_over a.points run.scenario.now (length run.hits.now) (take (i + 1) run.hits.now) (few less)) ∙ ap replies (sym now_is) ∙ told
+            sym (replies_over a.points s (length run.hits.now) (take (i + 1) run.hits.now) (few less)) ∙ ap replies (sym now_is) ∙ told
             ∙ ap (λ (r : Run). replies r ++ answer ∷ []) old_is
-            ∙ ap (λ (l : List Reply). l ++ answer ∷ []) (replies_over a.points run.scenario.now (length run.hits.now) (take i run.hits.now) short)
+            ∙ ap (λ (l : List Reply). l ++ answer ∷ []) (replies_over a.points s (length run.hits.now) (take i run.hits.now) short)
 
-        by_goes : (count : ℕ) → (count < i + 1) ⊎ (count ≡ i + 1) → is_cut_short (run_over a.points run.scenario.now (take count run.hits.now)) ≡ false
+        by_goes : (count : ℕ) → (count < i + 1) ⊎ (count ≡ i + 1) → is_cut_short (run_over a.points s (take count run.hits.now)) ≡ false
         by_goes count (inl le) = g.goes count (omega (arith, le))
         by_goes count (inr is) =
-            ap (λ (n : ℕ). is_cut_short (run_over a.points run.scenario.now (take n run.hits.now))) is
-            ∙ sym (short_over a.points run.scenario.now (length run.hits.now) (take (i + 1) run.hits.now) (few less)) ∙ ap is_cut_short (sym now_is) ∙ goes
+            ap (λ (n : ℕ). is_cut_short (run_over a.points s (take n run.hits.now))) is
+            ∙ sym (short_over a.points s (length run.hits.now) (take (i + 1) run.hits.now) (few less)) ∙ ap is_cut_short (sym now_is) ∙ goes
 
     -- a pause stops it there
-    module _ (now : Run) (less : i < length run.hits.now) (now_is : now ≡ run_of run.scenario.now a.points 0 0 (length run.hits.now) (take (i + 1) run.hits.now)) (stops : is_cut_short now ≡ true) where
-      cut : is_cut_short (run_over a.points run.scenario.now (take (i + 1) run.hits.now)) ≡ true
-      cut = sym (short_over a.points run.scenario.now (length run.hits.now) (take (i + 1) run.hits.now) (few less)) ∙ ap is_cut_short (sym now_is) ∙ stops
+    module _ (now : Run) (less : i < length run.hits.now) (now_is : now ≡ run_of s a.points 0 0 (length run.hits.now) (take (i + 1) run.hits.now)) (stops : is_cut_short now ≡ true) where
+      cut : is_cut_short (run_over a.points s (take (i + 1) run.hits.now)) ≡ true
+      cut = sym (short_over a.points s (length run.hits.now) (take (i + 1) run.hits.now) (few less)) ∙ ap is_cut_short (sym now_is) ∙ stops
 
-      both : (count : ℕ) → is_cut_short (run_over a.points run.scenario.now (take count run.hits.now)) ≡ true → is_cut_short (run_over a.points run.scenario.now (take count run.hits.now)) ≡ false → ⊥
+      both : (count : ℕ) → is_cut_short (run_over a.points s (take count run.hits.now)) ≡ true → is_cut_short (run_over a.points s (take count run.hits.now)) ≡ false → ⊥
       both count x y = let w : true ≡ false = sym x ∙ y in cc
 
-      paused_whole : EndsThere run (i + 1) → Puts a t0 u (line_seen run)
+      paused_whole : EndsThere run (i + 1) → Puts a t0 u (line_seen s run)
       paused_whole (last, unresolved) = record { sound = g.sound; grows = g.grows; kept = record { pauses = pauses; says = says } }
         where
-          pauses : (count : ℕ) → count ≤ length run.hits.now → is_cut_short (run_over a.points run.scenario.now (take count run.hits.now)) ≡ true → (count ≡ length run.hits.now) × (run.verdict ≡ Unresolved)
+          pauses : (count : ℕ) → count ≤ length run.hits.now → is_cut_short (run_over a.points s (take count run.hits.now)) ≡ true → (count ≡ length run.hits.now) × (run.verdict ≡ Unresolved)
           pauses count le short = elim (split_less count (i + 1) (omega (arith, le, last))) [
             | inl h ↦ absurd (both count short (g.goes count (omega (arith, h))))
             | inr h ↦ (h ∙ last, unresolved)
           ]
 
-          says : (count : ℕ) (answers : List Reply) (move : Move) → Says a.points (line_seen run) count answers move → Leads u answers move
+          says : (count : ℕ) (answers : List Reply) (move : Move) → Says a.points (line_seen s run) count answers move → Leads u answers move
           says count answers move say =
-              let (answers_are, move_is, le) = says_is a.points run count answers move say in
+              let (answers_are, move_is, le) = says_is a.points s run count answers move say in
               elim (split_less count (i + 1) (omega (arith, le, last))) [
                 | inl h ↦ g.said count answers move h say
                 | inr h ↦
                     let same : say.hits ≡ run.hits.now = sym (hits_same run.hits.now say.hits say.known) in
-                    absurd (both (i + 1) cut (subst (λ (n : ℕ). is_cut_short (run_over a.points run.scenario.now (take n run.hits.now)) ≡ false) h
-                    (subst (λ (l : List ℕ). is_cut_short (run_over a.points run.scenario.now (take count l)) ≡ false) same say.goes_on)))
+                    absurd (both (i + 1) cut (subst (λ (n : ℕ). is_cut_short (run_over a.points s (take n run.hits.now)) ≡ false) h
+                    (subst (λ (l : List ℕ). is_cut_short (run_over a.points s (take count l)) ≡ false) same say.goes_on)))
               ]
 
-      paused_broken : IsSeen a run → (b : BrokenRun) → IsPauseFault run (i + 1) (Some b) → IsContradiction a b
+      paused_broken : IsSeen a s run → (b : BrokenRun) → IsPauseFault run (i + 1) (Some b) → IsContradiction a b
       paused_broken seen b (line, earlier, how, never) = record {
-        scenario = run.scenario.now;
-        other = run.scenario.now;
+        scenario = s;
+        other = s;
         lawful = seen.told.lawful;
         certain = seen.told.certain;
         other_lawful = seen.told.lawful;
@@ -343,25 +348,89 @@ module _ (a : Answered) (run : SeenRun) where
         line = line ∙ seen.line;
         earlier = earlier ∙ seen.line;
         contradicts =
-            subst (ContradictsBy a.points (line_of run.scenario.now (told_of seen.recorded)) (line_of run.scenario.now (told_of seen.recorded))) (sym how)
+            subst (ContradictsBy a.points (line_of s (told_of seen.recorded)) (line_of s (told_of seen.recorded))) (sym how)
             (λ pauses.
             let own = subst (EndsAtPause a.points) seen.seen pauses in
             never (own (i + 1) (omega (arith, less)) cut));
       }
 
-      pub paused : IsSeen a run → (found : Option BrokenRun) → IsPauseFault run (i + 1) found → IsPut a t0 u (line_seen run) found
+      pub paused : IsSeen a s run → (found : Option BrokenRun) → IsPauseFault run (i + 1) found → IsPut a t0 u (line_seen s run) found
       paused seen None h = paused_whole h
       paused seen (Some b) h = paused_broken seen b h
 
     -- the run ends there
-    pub whole : length run.hits.now ≤ i → Puts a t0 u (line_seen run)
+    pub whole : length run.hits.now ≤ i → Puts a t0 u (line_seen s run)
     whole last = record {
       sound = g.sound;
       grows = g.grows;
       kept = record {
         pauses = λ count le short. absurd (let goes = g.goes count (omega (arith, le, last)) in let w : true ≡ false = sym short ∙ goes in cc);
         says = λ count answers move say.
-            let (answers_are, move_is, le) = says_is a.points run count answers move say in
+            let (answers_are, move_is, le) = says_is a.points s run count answers move say in
             g.said count answers move (omega (arith, le, last)) say;
       };
     }
+
+-- ---- a session plays the run: that of a scenario whose tidied form the line has
+
+module _ (a : Answered) (w : Entries) (run : SeenRun) where
+  abbrev pub played : ℕ → Run
+  played i = run_of w a.points 0 0 (length run.hits.now) (take i run.hits.now)
+
+  abbrev pub tidy_run : ℕ → Run
+  tidy_run i = run_of (tidied w) a.points 0 0 (length run.hits.now) (take i run.hits.now)
+
+  -- so far the session played what was put into the tree
+  pub record Playing (t0 t : Tree) (i place : ℕ) (answer : Reply) (now : Run) : Type 0 where
+    pub now_is : now ≡ played i
+    pub putting : Putting a (tidied w) run t0 t i place answer (tidy_run i)
+
+  pub next_played : (i : ℕ) (now : Run) → now ≡ played i → i < length run.hits.now → hit now (get_or run.hits.now i 0) ≡ played (i + 1)
+  next_played i now is less =
+      ap (λ (r : Run). hit r (get_or run.hits.now i 0)) is
+      ∙ ap (run_of w a.points 0 0 (length run.hits.now)) (sym (take_more run.hits.now i 0 less))
+
+  module _ (lawful : IsScenario w) where
+    means : (i : ℕ) → meaning (tidy_run i) ≡ meaning (played i)
+    means i = (tidied_means w lawful.distinct_names).at a.points 0 0 (length run.hits.now) (take i run.hits.now)
+
+    replies_same : (i : ℕ) → replies (played i) ≡ replies (tidy_run i)
+    replies_same i = sym (ap (λ (m : Meaning). m.replies) (means i))
+
+    short_same : (i : ℕ) → is_cut_short (played i) ≡ is_cut_short (tidy_run i)
+    short_same i = sym (ap (λ (m : Meaning). cuts_short m.stop) (means i))
+
+    pub playing_on : (t0 t : Tree) (i place : ℕ) (answer : Reply) (now : Run) → Playing t0 t i place answer now → is_cut_short now ≡ false
+    playing_on t0 t i place answer now p =
+        ap is_cut_short p.now_is ∙ short_same i ∙ runs_on a (tidied w) run t0 t i place answer (tidy_run i) p.putting
+
+    module _ (t0 u : Tree) (i m : ℕ) (g : Through a (tidied w) run t0 u i m) (less : i < length run.hits.now) (now : Run) (now_is : now ≡ played (i + 1)) where
+      short_now : is_cut_short (tidy_run (i + 1)) ≡ is_cut_short now
+      short_now = sym (short_same (i + 1)) ∙ ap is_cut_short (sym now_is)
+
+      pub plays_on : (old : Run) (answer : Reply) → old ≡ played i → replies now ≡ replies old ++ answer ∷ [] → is_cut_short now ≡ false → Playing t0 u (i + 1) m answer now
+      plays_on old answer old_is told goes = record {
+        now_is = now_is;
+        putting = goes_on a (tidied w) run t0 u i m g (tidy_run i) (tidy_run (i + 1)) answer less refl refl more (short_now ∙ goes);
+      }
+        where
+          more : replies (tidy_run (i + 1)) ≡ replies (tidy_run i) ++ answer ∷ []
+          more =
+              sym (replies_same (i + 1)) ∙ ap replies (sym now_is) ∙ told
+              ∙ ap (λ (r : Run). replies r ++ answer ∷ []) old_is
+              ∙ ap (λ (l : List Reply). l ++ answer ∷ []) (replies_same i)
+
+      pub pauses : is_cut_short now ≡ true → IsSeen a (tidied w) run → (found : Option BrokenRun) → IsPauseFault run (i + 1) found → IsPut a t0 u (line_seen (tidied w) run) found
+      pauses stops = paused a (tidied w) run t0 u i m g (tidy_run (i + 1)) less refl (short_now ∙ stops)
+
+-- ---- a session without hits
+
+pub has_begun : (points : List (List ℕ)) (limit : ℕ) (s : Entries) (r : Run) → r ≡ start (given_of s points 0 0 limit) → HasBegun points limit r
+has_begun points limit s r is = is ∙ ap (λ (w : Entries). start (given_of w points 0 0 limit)) (sym (ap (λ (x : Run). x.given.scenario) is))
+
+pub scenario_begun : (points : List (List ℕ)) (limit : ℕ) (s : Entries) (r : Run) → r ≡ start (given_of s points 0 0 limit) → r.given.scenario ≡ s
+scenario_begun points limit s r is = ap (λ (x : Run). x.given.scenario) is
+
+-- what is put in of one scenario is put in of the same one
+pub put_so : (a : Answered) (t u : Tree) (run : SeenRun) (w s : Entries) (found : Result (Option BrokenRun) AllocError) → w ≡ s → IfOk found (IsPut a t u (line_seen w run)) → IfOk found (IsPut a t u (line_seen s run))
+put_so a t u run w s found is h = subst (λ (x : Entries). IfOk found (IsPut a t u (line_seen x run))) is h

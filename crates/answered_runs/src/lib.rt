@@ -9,6 +9,7 @@ mod contradictions;
 mod grown;
 mod laws;
 mod lines;
+mod plan_runs;
 mod plans;
 mod played;
 mod replies;

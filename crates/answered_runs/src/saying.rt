@@ -1,23 +1,23 @@
 //! A run with hits, put into the tree of what lines say.
 ghost use Rattle.std.specs.Prelude.{◌≡◌, ◌<◌, ◌≤◌, IfOk, length};
 ghost use Rattle.std.specs.List.{AllByRecursion};
-ghost use Rattle.action_eval.specs.Answers.{reply_of_answer, texts};
-ghost use Rattle.answered_runs.specs.inside.Trees.{Enters, IsBroken, IsConflict, IsPauseFault, IsPut, IsSeen, IsSound, line_seen};
+ghost use Rattle.scenario_values.specs.Scenario.{IsScenario};
+ghost use Rattle.scenario_values.specs.Tidied.{tidied};
+ghost use Rattle.action_eval.specs.Answers.{reply_of_answer};
+ghost use Rattle.answered_runs.specs.inside.Trees.{Enters, HasBegun, IsBroken, IsConflict, IsPauseFault, IsPut, IsSeen, IsSound, line_seen};
 
 use crate::broken::{BrokenRun, Conflict};
 use crate::table::AnsweredRuns;
 use crate::tree::{AnswerTree, Next, Said};
 use action_eval::{Answer, Session};
 use grown_runs::Break;
-use scenario_values::Scenario;
-use std::alloc::{AllocError, Global};
+use std::alloc::AllocError;
 use target_trait::Verdict;
 
 /// A recorded run with its hits.
 #[derive(Clone, Copy)]
 pub(crate) struct SeenRun<'a> {
     pub line: u32,
-    pub scenario: &'a Scenario,
     pub verdict: Verdict,
     pub hits: &'a [u32],
 }
@@ -78,21 +78,22 @@ fn after_pause(run: &SeenRun<'_>, count: usize) -> Option<BrokenRun>
     })
 }
 
-/// Puts what a run says into the tree, or finds how it contradicts what is there, or itself.
+/// Puts what a run says into the tree, or finds how it contradicts what is there, or itself. A session without hits plays it. The run is recorded of
+/// the session's scenario, tidied.
 pub(crate) fn put_run(
-    alloc: Global,
     runs: &AnsweredRuns<'_>,
     tree: &mut AnswerTree,
+    session: &mut Session<'_>,
     run: &SeenRun<'_>,
 ) -> Result<Option<BrokenRun>, AllocError>
     requires few { length run.now.hits.now ≤ 65536 }
     requires known { AllByRecursion (λ p. p < length runs.now.points) run.now.hits.now }
-    requires seen { IsSeen runs.now run.now }
+    requires begun { HasBegun runs.now.points (length run.now.hits.now) session.old }
+    requires lawful { IsScenario session.old.given.scenario }
+    requires seen { IsSeen runs.now (tidied session.old.given.scenario) run.now }
     requires sound { IsSound runs.now tree.old }
-    ensures { IfOk result (IsPut runs.now tree.old tree.new (line_seen run.now)) }
+    ensures { IfOk result (IsPut runs.now tree.old tree.new (line_seen (tidied session.old.given.scenario) run.now)) }
 {
-    let limit = run.hits.len() as u32;
-    let mut session = Session::new(alloc, run.scenario, runs.points(), 0, 0, limit)?;
     let line = run.line;
     let mut place = 0;
     let mut answer = Answer::Go;
@@ -110,5 +111,6 @@ pub(crate) fn put_run(
     }
     let next = Next::End(run.verdict);
     place = follow(tree, place, answer, Said { line, next })?;
-    Ok(broken_at(tree.said(place), Said { line, next }, limit + 1))
+    let hit = run.hits.len() as u32 + 1;
+    Ok(broken_at(tree.said(place), Said { line, next }, hit))
 }

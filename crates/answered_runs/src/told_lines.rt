@@ -1,30 +1,15 @@
 //! Which lines there are: the first ones with their scenarios, those of known plans before the others.
-ghost use Rattle.std.specs.Prelude.{◌≡◌, ◌<◌, ◌^◌, ◌⊎◌, [], ℕ, false, true, length, slice_index_or, IfOk, OnOk};
-ghost use Rattle.scenario_values.specs.Tidied.{tidied};
-ghost use Rattle.grown_plans.specs.numbered.GrownScenarios.{grown_scenario};
+ghost use Rattle.std.specs.Prelude.{◌≡◌, ◌<◌, ◌^◌, ◌⊎◌, ℕ, false, true, length, slice_index_or, IfOk, OnOk};
 ghost use Rattle.answered_runs.specs.inside.Played.{AreAdded, AreDone, AreMarked, IsLineAdded, IsState};
 
 use crate::broken::BrokenRun;
 use crate::lines::{LineNames, scenario_on};
+use crate::plan_runs::{PlayBuffers, add_told};
 use crate::plans::KnownPlans;
 use crate::played::{Played, add_run};
-use crate::scenarios::plan_scenario;
 use crate::table::AnsweredRuns;
-use answer_text::{PointNames, cut_line, tidied_from};
-use scenario_values::Scenario;
+use answer_text::{PointNames, cut_line};
 use std::alloc::{AllocError, Global};
-
-/// The tidied scenario of the plan of this number.
-fn scenario_of(alloc: Global, known: &KnownPlans<'_>, number: usize) -> Result<Scenario, AllocError>
-    requires { number < length known.now.list.plans }
-    ensures { IfOk result (λ s. s ≡ tidied (grown_scenario known.now.answered.points (slice_index_or known.now.list.plans number []))) }
-{
-    let _ = known.list();
-    let mut faults = Vec::new(alloc);
-    known.list().plans.faults_of(number, &mut faults)?;
-    let scenario = plan_scenario(alloc, known.runs().points(), faults.as_slice())?;
-    tidied_from(alloc, scenario)
-}
 
 /// Marks a line.
 fn mark(own: &mut Vec<bool>, line: u32) -> Result<(), AllocError>
@@ -46,11 +31,11 @@ fn is_own(own: &[bool], line: usize) -> bool
 }
 
 /// Adds the recorded run of the plan of this number, if there is one, and marks its line.
-fn add_plan(
-    alloc: Global,
-    known: &KnownPlans<'_>,
-    played: &mut Played,
+fn add_plan<'a>(
+    known: &KnownPlans<'a>,
+    buffers: &mut PlayBuffers<'a>,
     number: usize,
+    played: &mut Played,
 ) -> Result<Option<BrokenRun>, AllocError>
     requires number { number < length known.now.list.plans }
     requires state { IsState known.now.answered played.old }
@@ -61,9 +46,7 @@ fn add_plan(
     let Some(run) = known.told(number) else {
         return Ok(None);
     };
-    let scenario = scenario_of(alloc, known, number)?;
-    let _ = scenario.entries();
-    if let Some(broken) = add_run(alloc, known.runs(), played, scenario, run)? {
+    if let Some(broken) = add_told(known, buffers, number, played, run)? {
         return Ok(Some(broken));
     }
     mark(&mut played.own, run.line)?;
@@ -80,8 +63,9 @@ pub(crate) fn add_plans(
     requires marked { AreMarked known.now.answered played.old }
     ensures { IfOk result (AreAdded AreMarked known.now.answered played.new) }
 {
+    let mut buffers = PlayBuffers::new(alloc);
     for number in 0..known.list().plans.len() {
-        if let Some(broken) = add_plan(alloc, known, played, number)? {
+        if let Some(broken) = add_plan(known, &mut buffers, number, played)? {
             return Ok(Some(broken));
         }
     }

@@ -1,7 +1,7 @@
 -- What lines say comes next after answers, as a tree of places. Private contracts cite it.
 use Rattle.std.specs.Prelude.{◌≡◌, ◌≢◌, ◌⊎◌, ◌<◌, ℕ, List, [], ◌∷◌, ◌++◌, length, Option, None, Some, option_and_then, slice_get, IfSome}
 use Rattle.std.specs.List.{AllByRecursion}
-use Rattle.action_eval.specs.Answers.{Reply, Go}
+use Rattle.action_eval.specs.Answers.{Reply, Go, Run, given_of, start}
 use Rattle.target_trait.specs.Cuts.{IsAsking}
 use Rattle.target_trait.specs.Play.{Move, Ask}
 use Rattle.target_trait.specs.declared.judgement.Verdict.{Verdict}
@@ -126,16 +126,20 @@ IsBroken there x hit (Some b) = (b.line ≡ x.line) × (b.earlier ≡ there.line
 
 -- ---- a run with hits
 
--- What a line says that records hits.
-abbrev pub line_seen : SeenRun → Line
-line_seen run = line_of run.scenario.now (record { verdict = run.verdict; hits = Some run.hits.now })
+-- What a line says that records the hits of a scenario's run.
+abbrev pub line_seen : Entries → SeenRun → Line
+line_seen s run = line_of s (record { verdict = run.verdict; hits = Some run.hits.now })
 
 -- A recorded run of a certain scenario, with its hits.
-pub record IsSeen (a : Answered) (run : SeenRun) : Type 0 where
+pub record IsSeen (a : Answered) (s : Entries) (run : SeenRun) : Type 0 where
   pub recorded : ToldRun
-  pub told : IsTold a run.scenario.now recorded
-  pub seen : line_of run.scenario.now (told_of recorded) ≡ line_seen run
+  pub told : IsTold a s recorded
+  pub seen : line_of s (told_of recorded) ≡ line_seen s run
   pub line : run.line ≡ recorded.line
+
+-- A run over these points without a hit yet, in which so many hits are answered. Nothing is drawn in it, so any seed will do.
+abbrev pub HasBegun : List (List ℕ) → ℕ → Run → Type 0
+HasBegun points limit r = r ≡ start (given_of r.given.scenario points 0 0 limit)
 
 -- A run that a pause stopped after so many hits has no further hit, and is unresolved.
 abbrev pub EndsThere : SeenRun → ℕ → Type 0

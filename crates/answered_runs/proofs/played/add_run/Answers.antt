@@ -10,24 +10,24 @@ use Rattle.answered_runs.proofs.played.add_run.Goals as goal
 pub returns-then-not-is_certain : goal.returns-then-not-is_certain
 returns-then-not-is_certain c = passed_over c.args.runs.now c.args.played.now c.args.scenario c.args.run.now c.requires.state (sym c.is_certain.ensures.certain ∙ c.if-not-is_certain.true)
 
-pub put_run-requires-clause-known : goal.put_run-requires-clause-known
-put_run-requires-clause-known c =
+pub put_written-requires-clause-known : goal.put_written-requires-clause-known
+put_written-requires-clause-known c =
     let a : Answered = c.args.runs.now in
     let r : ToldRun = c.args.run.now in
     let seen_so : Some (told_of r) ≡ Some (told c.in-Seen.verdict (Some c.read.new.hits.items)) = subst (IsLook (Some (told_of r)) c.read.new.hits.items) c.in-Seen.is c.in_ok-verdict.ensures.told in
-    let same : Some (told_of r) ≡ Some (told c.in-Seen.verdict (Some c.as_slice.result.now)) = seen_so ∙ ap (λ (h : List ℕ). Some (told c.in-Seen.verdict (Some h))) (sym c.as_slice.ensures.value) in
-    seen_points a c.args.scenario r c.in-Seen.verdict c.as_slice.result.now (known_points a _ _ _ c.lines.ensures.of c.lines.ensures.names) c.requires.recorded same
+    let same : Some (told_of r) ≡ Some (told c.in-Seen.verdict (Some c.as_slice-hits.result.now)) = seen_so ∙ ap (λ (h : List ℕ). Some (told c.in-Seen.verdict (Some h))) (sym c.as_slice-hits.ensures.value) in
+    seen_points a c.args.scenario r c.in-Seen.verdict c.as_slice-hits.result.now (known_points a _ _ _ c.lines.ensures.of c.lines.ensures.names) c.requires.recorded same
 
-pub put_run-requires-clause-seen : goal.put_run-requires-clause-seen
-put_run-requires-clause-seen c =
+pub put_written-requires-clause-seen : goal.put_written-requires-clause-seen
+put_written-requires-clause-seen c =
     let a : Answered = c.args.runs.now in
     let r : ToldRun = c.args.run.now in
     let seen_so : Some (told_of r) ≡ Some (told c.in-Seen.verdict (Some c.read.new.hits.items)) = subst (IsLook (Some (told_of r)) c.read.new.hits.items) c.in-Seen.is c.in_ok-verdict.ensures.told in
-    let same : Some (told_of r) ≡ Some (told c.in-Seen.verdict (Some c.as_slice.result.now)) = seen_so ∙ ap (λ (h : List ℕ). Some (told c.in-Seen.verdict (Some h))) (sym c.as_slice.ensures.value) in
+    let same : Some (told_of r) ≡ Some (told c.in-Seen.verdict (Some c.as_slice-hits.result.now)) = seen_so ∙ ap (λ (h : List ℕ). Some (told c.in-Seen.verdict (Some h))) (sym c.as_slice-hits.ensures.value) in
     let told_is : IsTold a c.args.scenario r =
     record { lawful = c.is_certain.ensures.lawful; certain = is_certain_of c.args.scenario (sym c.is_certain.ensures.certain ∙ c.if-not-is_certain.false); recorded = c.requires.recorded }
     in
-    seen_run a _ r told_is refl same
+    seen_run a c.args.scenario _ r told_is refl same
 
 pub returns-in_ok-push-in-Unseen : goal.returns-in_ok-push-in-Unseen
 returns-in_ok-push-in-Unseen c =

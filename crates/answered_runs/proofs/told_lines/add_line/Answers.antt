@@ -46,6 +46,10 @@ add_run-requires-clause-recorded c =
     let tidy : tidied u ≡ u = tidy_on c.args.names.now.codes.now c.args.names.now.points c.args.line.now.text.now c.in_ok-scenario.field-0 u c.in-Some.is c.in_ok-scenario.ensures in
     sym (ap (told_in a.book) tidy) ∙ sym c.in_ok-run.ensures ∙ ap (option_map (λ r. r.now)) c.in-Some-2.is
 
+pub add_run-requires-clause-tidy : goal.add_run-requires-clause-tidy
+add_run-requires-clause-tidy c =
+    tidy_on c.args.names.now.codes.now c.args.names.now.points c.args.line.now.text.now c.in_ok-scenario.field-0 c.in-Some.scenario c.in-Some.is c.in_ok-scenario.ensures
+
 pub returns : goal.returns
 returns c =
     let a : Answered = c.args.runs.now in
