@@ -9,6 +9,11 @@ use action_eval::Rig;
 use std::alloc::AllocError;
 use target_trait::{RiggedRuns, RunSettings, Target, Verdict};
 
+/// Does nothing. A contract sees a field of 32 bits as any number, but an argument as one that fits.
+fn fits(number: u32)
+    ensures { number < 2 ^ 32 }
+{}
+
 /// The verdict of the run of these rigged hits under a stream number. The buffers then have the points that the run asked. An error means that memory
 /// was refused. The target keeps its setup, even after an error.
 pub fn run_rigs<T: Target>(
@@ -27,10 +32,14 @@ pub fn run_rigs<T: Target>(
     ensures setup { target.new ≡ target.old }
 {
     runs.table.load(T::catalogue(), rigs)?;
+    let limits = input.limits;
     let settings = RunSettings {
-        seed: input.limits.seed,
+        seed: limits.seed,
         stream,
-        max_hits: input.limits.max_hits,
+        max_hits: limits.max_hits,
     };
-    runs.run(target, input.workload, settings)
+    // Called for its contract: a run asks no more points than this.
+    fits(limits.max_hits);
+    let verdict = runs.run(target, input.workload, settings)?;
+    Ok(verdict)
 }

@@ -130,10 +130,10 @@ returns-clause-grown g c = λ first count at was.
     let many = was.told.hits in
     c.raise.ensures.most p lt
     ∙ ap (λ k. max (get_or c.args.growth.now.outcomes.hits.items p 0) k)
-    (ap (λ cs. get_or cs p 0) c.as_slice-2.ensures.value ∙ c.in_ok-growing.ensures.counts.1 p (omega (arith, lt, few, many)) ∙ ap (times p) asked_is))
+    (ap (λ cs. get_or cs p 0) c.as_slice.ensures.value ∙ c.in_ok-growing.ensures.counts.1 p (omega (arith, lt, few, many)) ∙ ap (times p) asked_is))
 
-pub invariant_of-growth-in-Break-branch-6 : goal.invariant_of-growth-in-Break-branch-6
-invariant_of-growth-in-Break-branch-6 g c =
+pub invariant_of-growth-in-Break-branch-5 : goal.invariant_of-growth-in-Break-branch-5
+invariant_of-growth-in-Break-branch-5 g c =
     let few = children_few c.args.input.now.kinds g.T.Target.names c.args.input.now.of_target c.args.number c.as_slice-faults.result.now c.trace-asked.result.now in
     let asked = c.in_ok-verdict.ensures.few in
     let same = ap length c.trace-asked.ensures in
@@ -142,8 +142,8 @@ invariant_of-growth-in-Break-branch-6 g c =
     let joined = length-append c.args.growth.now.outcomes.verdicts.items (c.in_ok-verdict.verdict ∷ []) in
     record { bounded = omega (arith, few, asked, same, before, pushed, joined, c.in_ok-growing.ensures.many) }
 
-pub invariant_of-growth-in-Break-branch-7 : goal.invariant_of-growth-in-Break-branch-7
-invariant_of-growth-in-Break-branch-7 g c =
+pub invariant_of-growth-in-Break-branch-6 : goal.invariant_of-growth-in-Break-branch-6
+invariant_of-growth-in-Break-branch-6 g c =
     let few = children_few c.args.input.now.kinds g.T.Target.names c.args.input.now.of_target c.args.number c.as_slice-faults.result.now c.trace-asked.result.now in
     let asked = c.in_ok-verdict.ensures.few in
     let same = ap length c.trace-asked.ensures in

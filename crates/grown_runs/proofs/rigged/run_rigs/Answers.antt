@@ -9,7 +9,7 @@ returns-clause-verdict g c =
     let limits = c.args.input.now.limits in
     let asks = g.T.Target.asks c.args.target.now c.args.input.now.workload.now in
     let names = g.T.Target.names in
-    c.in_ok-run.ensures.ok
+    c.in_ok-verdict.ensures.ok
     ∙ ap (λ (t : Rigged). verdict_with asks names limits.seed limits.max_hits c.args.stream t.scenario) c.in_ok-load.ensures.ok
     ∙ ap (λ points. verdict_with asks names limits.seed limits.max_hits c.args.stream (rigged_scenario points c.args.rigs.now)) c.catalogue.ensures
     ∙ verdict_is asks names limits.seed limits.max_hits c.args.stream _
