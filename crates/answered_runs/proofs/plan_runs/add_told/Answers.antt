@@ -1,7 +1,6 @@
-use Rattle.std.proofs.Common.{refl, ◌≡◌, ◌∙◌, List, [], ℕ, Some, None, Result, Ok, Err, ap, get_or, sym, subst}
+use Rattle.std.proofs.Common.{refl, ◌≡◌, ◌∙◌, List, [], ℕ, Some, Result, Ok, Err, ap, get_or, sym, subst}
 use Rattle.std.specs.Prelude.{OnOk}
 use Rattle.std.specs.declared.alloc.AllocError.{AllocError}
-use Rattle.std.proofs.lemmas.Result.{IfOk-weaker}
 use Rattle.scenario_values.specs.Scenario.{Entries, IsScenario}
 use Rattle.scenario_values.specs.Tidied.{tidied}
 use Rattle.scenario_values.proofs.Limits.{tidied_scenario}
@@ -15,10 +14,9 @@ use Rattle.answer_text.specs.declared.runs.ToldRun.{ToldRun}
 use Rattle.answer_text.proofs.TidyAgain.{tidied_again}
 use Rattle.answered_runs.specs.Answered.{Answered, plan_told, told_of}
 use Rattle.answered_runs.specs.declared.saying.SeenRun.{SeenRun}
-use Rattle.answered_runs.specs.inside.Played.{IsAdded}
-use Rattle.answered_runs.specs.inside.Trees.{IsPut, IsSeen, IsTold, line_seen}
+use Rattle.answered_runs.specs.inside.Trees.{IsSeen, IsTold}
 use Rattle.answered_runs.proofs.CertainAnswers.{rigs_certain}
-use Rattle.answered_runs.proofs.PlayedRuns.{known_points, plan_recorded, put_added, seen_points, seen_run}
+use Rattle.answered_runs.proofs.PlayedRuns.{known_points, plan_recorded, seen_points, seen_run}
 use Rattle.answered_runs.proofs.plan_runs.add_told.Goals as goal
 
 -- the recorded run of a plan, which is lawful

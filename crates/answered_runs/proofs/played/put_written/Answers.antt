@@ -1,10 +1,8 @@
-use Rattle.std.proofs.Common.{◌≡◌, ◌∙◌, List, ℕ, ap, length, subst, sym}
+use Rattle.std.proofs.Common.{◌∙◌, List, ℕ, ap, length, subst, sym}
 use Rattle.scenario_values.specs.Scenario.{Entries, IsScenario}
 use Rattle.scenario_values.specs.Tidied.{tidied}
 use Rattle.action_eval.specs.Answers.{given_of, start}
-use Rattle.answered_runs.specs.Answered.{Answered}
-use Rattle.answered_runs.specs.declared.saying.SeenRun.{SeenRun}
-use Rattle.answered_runs.specs.inside.Trees.{IsPut, IsSeen, line_seen}
+use Rattle.answered_runs.specs.inside.Trees.{IsSeen}
 use Rattle.answered_runs.proofs.PutHits.{has_begun, put_so, scenario_begun}
 use Rattle.answered_runs.proofs.played.put_written.Goals as goal
 

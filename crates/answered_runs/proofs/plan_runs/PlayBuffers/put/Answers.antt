@@ -1,4 +1,4 @@
-use Rattle.std.proofs.Common.{◌≡◌, ◌∙◌, List, ℕ, ap, length, subst, sym}
+use Rattle.std.proofs.Common.{◌∙◌, List, ℕ, ap, length, subst, sym}
 use Rattle.scenario_values.specs.Scenario.{Entries, IsScenario}
 use Rattle.scenario_values.specs.Tidied.{tidied}
 use Rattle.action_eval.specs.Answers.{given_of, start}
