@@ -19,7 +19,7 @@ use Rattle.plan_gen.specs.Census.{sites_of}
 use Rattle.plan_gen.specs.PlanList.{Asked, plan_list}
 use Rattle.grown_plans.specs.Promises.{IsLawful}
 use Rattle.campaign_core.proofs.FirstLevel.{few_sites_of}
-use Rattle.campaign_core.proofs.Grown.{list_is, listed_is, plans_counted, plans_some}
+use Rattle.campaign_core.proofs.Grown.{list_is, plans_counted, plans_some}
 
 -- ---- a result, and what holds if there is one
 
