@@ -168,9 +168,6 @@ module _ (c : Campaign) where
   unfolding reduce_answer
   reduce-is stream scenario = refl
 
-pub reduce-minimal : (c : Campaign) (read : Result (ℕ × Entries) Refusal) (t : ℕ × Entries) → read ≡ Ok t → IsReducedToMinimal c t.0 t.1 → IfOk read (λ t. IsReducedToMinimal c t.0 t.1)
-reduce-minimal c read t takes minimal = let P : Result (ℕ × Entries) Refusal → Type 0 = λ r. IfOk r (λ t. IsReducedToMinimal c t.0 t.1) in subst P (sym takes) minimal
-
 -- ---- the scenario that a command takes
 
 module _ (c : Campaign) (number : ℕ) where
@@ -184,28 +181,10 @@ module _ (c : Campaign) (number : ℕ) where
       let f : Bool → Result (ℕ × Entries) Refusal = λ b. if b then Err too_many_plans else numbered number (slice_get (plans c) number) in
       ap f (lt-ltb most_plans (counted c number) many)
 
-pub unplanned : (c : Campaign) (number : ℕ) (f : CampaignFault) → IsUnfound c number f → IsUntaken (planned c number) (faults.Campaign f)
-unplanned c number campaign.TooManyPlans h = planned-many c number h
-unplanned c number campaign.Memory h = tt
-unplanned c number (campaign.Write n) h = absurd h
-
 -- nor one that memory is refused
 pub memory-untaken : {T : Type 0} (taken : Result (ℕ × Entries) Refusal) (result : Result T CommandFault) → IsErrAnd result (λ f. f ≡ faults.Campaign campaign.Memory) → IfErr result (IsUntaken taken)
 memory-untaken taken (Ok t) is = absurd is
 memory-untaken taken (Err f) is = let P : CommandFault → Type 0 = λ x. IsUntaken taken x in subst P (sym is) tt
-
--- a command that takes no scenario wrote nothing
-pub untaken-short : (answer : ℕ → Entries → Answer) (read : Result (ℕ × Entries) Refusal) (w : Change) (fault : CommandFault) → IsUntouched w → IsUntaken read fault
-    → FallsShort (taken_answer answer read) w fault
-untaken-short answer read w (faults.Scenario scenario.Memory) untouched h = untouched
-untaken-short answer read w (faults.Scenario (scenario.Bad kind entry term)) untouched h = (untouched, ap (taken_answer answer) h)
-untaken-short answer read w (faults.Plan number) untouched h = (untouched, ap (taken_answer answer) h)
-untaken-short answer read w (faults.Campaign campaign.TooManyPlans) untouched h = (untouched, ap (taken_answer answer) h)
-untaken-short answer read w (faults.Campaign campaign.Memory) untouched h = untouched
-untaken-short answer read w (faults.Campaign (campaign.Write n)) untouched h = absurd h
-untaken-short answer read w (faults.Unlawful line) untouched h = absurd h
-untaken-short answer read w faults.Outside untouched h = absurd h
-untaken-short answer read w faults.OutsideWithDepth untouched h = absurd h
 
 -- ---- the plans of a component that somebody else runs
 

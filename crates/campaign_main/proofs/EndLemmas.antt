@@ -56,10 +56,6 @@ tells-of noted refusal line exit.Refused w told why = why refl
 tells-of noted refusal line exit.Memory w told why = told
 tells-of noted refusal line (exit.Write n) w told why = absurd told
 
-pub tells-by : (refusal : Type 0) (line : List ℕ) (end : Exit) (w : Change) → RefusesWith line end w → (end ≡ exit.Refused → refusal)
-    → TellsBy refusal end w
-tells-by refusal line end w told why = tells-of (IsUntouched w) refusal line end w told why
-
 -- an end that refuses with a line, where nothing was written
 pub refuses-ends : (line : List ℕ) (end : Exit) (w : Change) (answer : Answer) (v : Change) → RefusesWith line end w → IsUntouched v → EndsAs end answer v
 refuses-ends line exit.Kept w answer v told h = absurd told

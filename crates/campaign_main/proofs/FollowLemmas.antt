@@ -88,10 +88,6 @@ part-written start old new front whole n grew first part less =
     let long : length whole ≡ length front + length rest = sym (ap length is) ∙ length-append front rest in
     (subst (Appends start new) taken (Appends-trans start old new front (take n rest) first part), omega arith)
 
-Appends-none : (start : Option (List ℕ)) → Appends start start []
-Appends-none None = tt
-Appends-none (Some xs) = sym (append-nil xs)
-
 -- ---- one look
 
 -- The text of a look has no verdict in it.

@@ -35,11 +35,6 @@ use Rattle.campaign_main.specs.OwnTarget.{own_given_answer, own_text_answer}
 
 -- ---- notes that are told
 
--- notes that aren't empty are told as lines are
-pub noted-some : (notes : List ℕ) (w : Change) → ¬ (notes ≡ []) → IsTold notes w → IsNoted notes w
-noted-some [] w some told = absurd (some refl)
-noted-some (byte ∷ more) w some told = told
-
 -- ---- what an answer may note
 
 -- the answer notes what the order may

@@ -22,12 +22,6 @@ use Rattle.outside_campaign.proofs.ResultLemmas.{some_component}
 use Rattle.outside_campaign.specs.declared.with_depth.fault.QuestionFault.TheVariants as fault
 use Rattle.campaign_main.specs.Questions.{IsAnswerTo, IsShown, RefusesShown, Subject, asked_part}
 
--- what is so for each text of answers that tells what is recorded is so for one
-pub each-known : {A E X : Type 0} (result : Result A E) (P : A → List ℕ → Type 0) (IsTold : List ℕ → X → Type 0) {x : X} (answers : List ℕ) → IsTold answers x
-    → IfOk result (λ a. (answers : List ℕ) → IsTold answers x → P a answers) → IfOk result (λ a. P a answers)
-each-known (Ok a) P IsTold answers told h = h answers told
-each-known (Err e) P IsTold answers told h = tt
-
 module _ (s : Subject) (answers : List ℕ) (known : KnownRuns) (same : known ≡ told_by s.1 answers) where
   agrees : (component : Component) → AgreesWithText s.1.codes s.1.points answers component → Agrees component (verdicts_in known)
   agrees component h = subst (λ (k : KnownRuns). Agrees component (verdicts_in k)) (sym same) (agrees_by s.1.codes s.1.points answers component h)

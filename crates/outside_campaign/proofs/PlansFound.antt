@@ -64,15 +64,6 @@ or_none : (first : Option (ℕ × Entries)) → option_or first None ≡ first
 or_none None = refl
 or_none (Some f) = refl
 
-pub all_looked_at : (code_name : ℕ → List ℕ) (known : KnownVerdicts) (plans rest : List Entries) (found : Found) → rest ≡ [] → IsLeft code_name known plans rest found → IsFound code_name known plans found
-all_looked_at code_name known plans rest found none before =
-    let left = subst (λ (ps : List Entries). IsLeft code_name known plans ps found) none before in
-    record {
-      answered_is = sym (add-zero found.answered) ∙ left.answered_is;
-      lines_are = sym (append-nil (string_bytes found.lines)) ∙ left.lines_are;
-      first_is = sym (or_none found.first) ∙ left.first_is;
-    }
-
 -- ---- the text
 
 pieces : (head counted known last : List ℕ) → ((head ++ counted) ++ known) ++ last ≡ head ++ (counted ++ (known ++ (last ++ [])))

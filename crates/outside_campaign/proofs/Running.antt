@@ -386,6 +386,3 @@ comes_to known code s ok component agrees = passes_through (tests_of known code 
 pub told_by : (known : KnownVerdicts) (code : ℕ) (s : Entries) (set : List ℕ) (v : Verdict) (fails : Bool) → are_faults (all_faults s) set ≡ true → Some v ≡ known (tidied (kept set s)) → fails ≡ fails_with code v
     → known_tests known code s set ≡ Some fails
 told_by known code s set v fails faults is e = rw faults (ap (option_map (fails_with code)) (sym is) ∙ ap sure (sym e))
-
-pub untold_by : (known : KnownVerdicts) (code : ℕ) (s : Entries) (set : List ℕ) → are_faults (all_faults s) set ≡ true → None ≡ known (tidied (kept set s)) → known_tests known code s set ≡ None
-untold_by known code s set faults is = rw faults (ap (option_map (fails_with code)) (sym is))

@@ -98,7 +98,3 @@ reported form outside given a depth answers text first low t points listed is_te
       λ s agrees. as_seen form outside given a depth text first low t.points is_text is_first lawful told s
       (subst (λ (ps : List (List ℕ)). IsComponent ps a.listed s) (sym t.points) (subst (λ (ls : List (List Kind)). IsComponent outside.points ls s) (sym t.listed) agrees.component)) (subst (AgreesWithRuns s) (sym t.told) agrees.agrees);
 }
-
--- what is so of the answers and the depth that known plans have
-pub at_known : (P : Answered → ℕ → Type 0) (k : KnownList) (a : Answered) (depth : ℕ) → (k.answered ≡ a) × (k.depth ≡ depth) → P k.answered k.depth → P a depth
-at_known P k a depth same is = subst (λ (n : ℕ). P a n) same.1 (subst (λ (x : Answered). P x k.depth) same.0 is)

@@ -75,26 +75,11 @@ contains_left (x ∷ xs) ys t there = by_place (λ later. contains_left xs ys t 
     by_place more (inl is) = subst (λ (y : Entries). Contains (x ∷ xs ++ ys) y) is (contains_head x (xs ++ ys))
     by_place more (inr later) = contains_tail x t (xs ++ ys) (more later)
 
-contains_right : (xs ys : List Entries) (t : Entries) → Contains ys t → Contains (xs ++ ys) t
-contains_right [] ys t there = there
-contains_right (x ∷ xs) ys t there = contains_tail x t (xs ++ ys) (contains_right xs ys t there)
-
 tried_first : (xs others : List Entries) (t : Entries) → Contains xs t → Contains (or_else xs others) t
 tried_first [] others t there = absurd (contains_none t there)
 tried_first (x ∷ xs) others t there = there
 
 -- ---- faults
-
-pub asks_refused : (a : Answered) (depth : ℕ) (asked : Asked) (why : QuestionFault) → RefusesAsks a depth asked why → RefusesBy a depth asked why
-asks_refused a depth asked (fault.Broken b) h = h
-asks_refused a depth asked (fault.Outside (refusal.NotAnswered t)) h = absurd h
-asks_refused a depth asked (fault.Outside (refusal.Answers f)) h = h
-asks_refused a depth asked (fault.Outside (refusal.Census line)) h = h
-asks_refused a depth asked (fault.Scenario f) h = h
-asks_refused a depth asked (fault.Unseen line) h = h
-asks_refused a depth asked (fault.Outside (refusal.Campaign campaign.TooManyPlans)) h = h
-asks_refused a depth asked (fault.Outside (refusal.Campaign campaign.Memory)) h = h
-asks_refused a depth asked (fault.Outside (refusal.Campaign (campaign.Write n))) h = h
 
 -- nothing is told of a plan's run
 by_gap : (a : Answered) (depth : ℕ) (asked : Asked) (why : QuestionFault) → IsGapFault a (known_plans a depth) why → RefusesBy a depth asked why
