@@ -74,7 +74,7 @@ fn is_tidy(scenario: &Scenario) -> bool
     true
 }
 
-/// The scenario, tidied. One that is tidy already isn't copied. An error means that memory was refused.
+/// The scenario, tidied. One that is seen to be tidy already isn't copied. An error means that memory was refused.
 pub fn tidied_from(alloc: Global, scenario: Scenario) -> Result<Scenario, AllocError>
     ensures { IfOk result (λ s. s ≡ tidied scenario) }
 {

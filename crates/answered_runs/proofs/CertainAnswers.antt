@@ -97,11 +97,6 @@ stop_is s points seed stream limit hits c few =
     ap (λ (b : Bool). cond b (Some stop.Limit) (stopped_by (history_of (run_of s points seed stream limit hits)))) (not_over s points seed stream limit hits few)
     ∙ ap stopped_by (certain_history s points seed stream limit hits c few)
 
-pub certain_replies : (s : Entries) (points : List (List ℕ)) (seed stream limit : ℕ) (hits : List ℕ) → IsCertain s → length hits ≤ limit
-    → replies (run_of s points seed stream limit hits) ≡ replies (run_over points s hits)
-certain_replies s points seed stream limit hits c few =
-    answers_are s points seed stream limit hits c few ∙ sym (answers_are s points 0 0 (length hits) hits c (omega arith))
-
 -- ---- the first answers
 
 history_take : (s : Entries) (points : List (List ℕ)) (hits : List ℕ) (n : ℕ) → IsCertain s → history_over points s (take n hits) ≡ take n (history_over points s hits)

@@ -122,10 +122,6 @@ hits_few (Some stretches) hits e = by_test (list_all is_low stretches && nat_le 
         subst (λ (l : List ℕ). length l ≤ 65536) same few
     by_test false f g = absurd cc
 
--- a run that was looked up and seen
-pub few_seen : (r : ToldRun) (v : Verdict) (hits : List ℕ) → (let o : Option Told = Some (told_of r) in o) ≡ Some (told v (Some hits)) → length hits ≤ 65536
-few_seen r v hits e = let same : told_of r ≡ told v (Some hits) = cc in hits_few r.hits hits (ap (λ (t : Told). t.hits) same)
-
 hits_known : (n : ℕ) (o : Option (List Stretch)) → HasFew n o → IfSome (option_and_then hits_by o) (λ hits. AllByRecursion (λ p. p < n) hits)
 hits_known n None few = tt
 hits_known n (Some stretches) few = by_test (list_all is_low stretches && nat_le (length (points_of stretches)) most_hits)
@@ -179,20 +175,6 @@ seen_points a s r v hits known recorded e =
     subst (λ (o : Option (List ℕ)). IfSome o (λ h. AllByRecursion (λ p. p < length a.points) h)) (ap (λ (t : Told). t.hits) same) (known s r recorded)
     in
     all
-
-pub put_added : (a : Answered) (x y : Played) (s : Entries) (run : SeenRun) (r : ToldRun) → IsState a x → (let o : Option Told = Some (told_of r) in o) ≡ Some (told run.verdict (Some run.hits.now)) → y.unseen.items ≡ x.unseen.items
-    → y.own.items ≡ x.own.items → (found : Option BrokenRun) → IsPut a x.tree y.tree (line_seen s run) found → IsAdded a x y s r found
-put_added a x y s run r state e unseen own None puts =
-    let same : told_of r ≡ told run.verdict (Some run.hits.now) = cc in
-    record {
-      state = record { sound = puts.sound; unseen = subst (AllByRecursion (IsUnseen a)) (sym unseen) state.unseen };
-      goes = record { grows = puts.grows; listed = λ u c. subst (λ (l : List UnseenRun). Contains l u) (sym unseen) c; own = own };
-      done = λ certain. record {
-        kept = subst (IsKept a.points y.tree) (sym (ap (line_of s) same)) puts.kept;
-        listed = λ none. absurd (let w : Some run.hits.now ≡ None = sym (ap (λ (t : Told). t.hits) same) ∙ none in cc);
-      };
-    }
-put_added a x y s run r state e unseen own (Some b) broken = broken
 
 pub list_added : (a : Answered) (x y : Played) (u : UnseenRun) (r : ToldRun) (v : Verdict) → IsState a x → IsTold a u.scenario r → u.line ≡ r.line → u.verdict ≡ v → (let o : Option Told = Some (told_of r) in o) ≡ Some (told v None) → y.tree ≡ x.tree
     → y.unseen.items ≡ x.unseen.items ++ u ∷ [] → y.own.items ≡ x.own.items → IsAdded a x y u.scenario r None

@@ -43,10 +43,6 @@ pub is_told : (o : Option Told) (v : Verdict) → Some v ≡ option_map (λ told
 is_told None v e = absurd cc
 is_told (Some told) v e = refl
 
-pub is_untold : (o : Option Told) → None ≡ option_map (λ told. told.verdict) o → o ≡ None
-is_untold None e = refl
-is_untold (Some told) e = absurd (let f : None ≡ Some told.verdict = e in cc)
-
 pub told_more : (runs : KnownRuns) (plans : List (List Rig)) (i : ℕ) → i < length plans → are_told (runs (get_or plans i [])) ≡ true → AreAllTold runs (take i plans) → AreAllTold runs (take (i + 1) plans)
 told_more runs plans i less here before =
     subst (AreAllTold runs) (sym (take_more plans i [] less)) (all_append (λ (p : List Rig). are_told (runs p) ≡ true) (take i plans) (get_or plans i [] ∷ []) before (here, tt))
@@ -56,34 +52,6 @@ told_all runs plans i end all = subst (AreAllTold runs) (take_all i plans end) a
 
 -- ---- how many runs are recorded without their hits
 
-pub look_unseen : (o : Option Told) (hits : List ℕ) (l : Look) (v : Verdict) → IsLook o hits l → l ≡ look.Unseen v → is_without_hits o ≡ true
-look_unseen o hits look.Unknown v is e = absurd cc
-look_unseen o hits (look.Unseen w) v is e = ap is_without_hits is
-look_unseen o hits (look.Seen w) v is e = absurd cc
-
-pub look_seen : (o : Option Told) (hits : List ℕ) (l : Look) (v : Verdict) → IsLook o hits l → l ≡ look.Seen v → is_without_hits o ≡ false
-look_seen o hits look.Unknown v is e = absurd cc
-look_seen o hits (look.Unseen w) v is e = absurd cc
-look_seen o hits (look.Seen w) v is e = ap is_without_hits is
-
-pub look_unknown : (o : Option Told) (hits : List ℕ) (l : Look) → IsLook o hits l → l ≡ look.Unknown → is_without_hits o ≡ false
-look_unknown o hits look.Unknown is e = ap is_without_hits is
-look_unknown o hits (look.Unseen w) is e = absurd cc
-look_unknown o hits (look.Seen w) is e = absurd cc
-
 one_count : (runs : KnownRuns) (plan : List Rig) (b : Bool) → is_unseen runs plan ≡ b → unseen_count runs (plan ∷ []) ≡ cond b 1 0
 one_count runs plan true e = ap (λ (b : Bool). length (cond b (plan ∷ []) [])) e
 one_count runs plan false e = ap (λ (b : Bool). length (cond b (plan ∷ []) [])) e
-
-pub unseen_more : (runs : KnownRuns) (plans : List (List Rig)) (i : ℕ) (b : Bool) (old new : ℕ) → i < length plans → is_unseen runs (get_or plans i []) ≡ b → new ≡ old + cond b 1 0
-    → old ≡ unseen_count runs (take i plans) → new ≡ unseen_count runs (take (i + 1) plans)
-unseen_more runs plans i b old new less unseen more before =
-    let plan : List Rig = get_or plans i [] in
-    let parts : unseen_count runs (take i plans ++ plan ∷ []) ≡ unseen_count runs (take i plans) + unseen_count runs (plan ∷ []) =
-    ap length (filter-append (is_unseen runs) (take i plans) (plan ∷ [])) ∙ length-append (filter (is_unseen runs) (take i plans)) (filter (is_unseen runs) (plan ∷ [])) in
-    let one = one_count runs plan b unseen in
-    let whole = ap (unseen_count runs) (take_more plans i [] less) in
-    omega (arith, more, before, parts, one, whole)
-
-pub unseen_all : (runs : KnownRuns) (plans : List (List Rig)) (i count : ℕ) → length plans ≤ i → count ≡ unseen_count runs (take i plans) → count ≡ unseen_count runs plans
-unseen_all runs plans i count end is = is ∙ ap (unseen_count runs) (take_all i plans end)

@@ -18,7 +18,7 @@ use crate::table::AnsweredRuns;
 use crate::tree::AnswerTree;
 use action_eval::{FaultTable, Session, SessionBuffers};
 use answer_text::{ToldRun, tidied_from};
-use grown_plans::{RigLists, rigs_of};
+use grown_plans::RigLists;
 use grown_runs::{Look, RunTable};
 use scenario_values::Scenario;
 use std::alloc::{AllocError, Global};
@@ -52,10 +52,8 @@ impl<'a> PlayBuffers<'a> {
             ≡ rigged_as known.now.answered.points (grown_scenario known.now.answered.points (slice_index_or known.now.list.plans number []))) }
         ensures lawful { OnOk result (IsScenario (grown_scenario known.now.answered.points (slice_index_or known.now.list.plans number []))) }
     {
-        let lists = &mut self.lists;
-        known.list().plans.faults_of(number, &mut lists.faults)?;
-        rigs_of(&mut lists.rigs, &mut lists.ordered, lists.faults.as_slice())?;
-        let rigs = lists.rigs.as_slice();
+        self.lists.put(&known.list().plans, number)?;
+        let rigs = self.lists.rigs.as_slice();
         self.table.load(known.runs().points(), rigs)
     }
 

@@ -8,7 +8,6 @@ pub mod ToldLemmas
 mod TextLemmas
 mod RunLemmas
 mod StrictLemmas
-mod ShownLemmas
 pub mod KeepLemmas
 mod SteadyLemmas
 mod PlanQuestions

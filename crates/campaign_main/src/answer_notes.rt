@@ -1,6 +1,8 @@
 //! The notes on the answer to a question on a component that somebody else runs.
-ghost use Rattle.std.specs.Prelude.{◌≡◌, ◌<◌, ◌==◌, ◌++◌, [], None, Some, true, count_by, length, slice_index_or, string_bytes, IfOk, OnOk, if◌then◌else◌};
+ghost use Rattle.std.specs.Prelude.{◌≡◌, ◌≤◌, ◌++◌, false, count_by, length, string_bytes, IfOk, OnOk};
+ghost use Rattle.std.specs.Option.{option_map_or};
 ghost use Rattle.action_eval.specs.Answers.{texts};
+ghost use Rattle.target_trait.specs.Verdicts.{is_unresolved};
 ghost use Rattle.report.specs.ReportText.{ended, text_of};
 ghost use Rattle.answer_text.specs.Known.{verdicts_in};
 ghost use Rattle.answer_text.specs.Runs.{told_in};
@@ -9,15 +11,13 @@ ghost use Rattle.campaign_main.specs.Notes.{listed_notes};
 ghost use Rattle.campaign_main.specs.QuestionNotes.{census_doubts, doubts_by, is_left_open, is_question_doubted, stranger_notes, unhit_line, unhit_lines, unhit_of, unmet_line, unmet_notes};
 
 use crate::notes::{
-    Doubts, Origin, draws_nothing, is_doubted, is_some_number, is_unhit, listed_outside,
+    Doubts, Origin, draws_nothing, is_doubted, is_never, is_some_number, is_unhit, listed_outside,
     write_doubts, write_strange,
 };
 use answer_text::{Runs, Stranger};
 use command_words::Question;
 use grown_plans::CampaignPlans;
-use outside_campaign::{OutsideCampaign, borrowed, count_unmet};
-use plan_gen::PlanList;
-use scenario_grammar::Scenario;
+use outside_campaign::{OutsideCampaign, borrowed, count_unmet, plan_verdicts};
 use scenario_values::build;
 use std::alloc::{AllocError, Global};
 use std::fmt::Write;
@@ -50,43 +50,37 @@ pub fn all_notes(
     Ok(notes)
 }
 
-/// Whether a scenario is answered as unresolved.
-fn is_left_open(alloc: Global, known: &Runs, scenario: &Scenario) -> Result<bool, AllocError>
-    ensures { IfOk result (λ found. found ≡ is_left_open (verdicts_in (told_in known.now)) scenario.now) }
+/// Whether a verdict is known, and unresolved.
+pub fn is_open(verdict: Option<Verdict>) -> bool
+    ensures { result ≡ option_map_or is_unresolved verdict false }
 {
-    match known.verdict_of(alloc, scenario)? {
-        Some(Verdict::Unresolved) => Ok(true),
-        Some(Verdict::Pass | Verdict::Fail(_)) | None => Ok(false),
-    }
+    matches!(verdict, Some(Verdict::Unresolved))
 }
 
-/// 1 if the plan of this number is answered as unresolved, else 0.
-fn count_of(
-    alloc: Global,
-    known: &Runs,
-    plans: &PlanList<'_>,
-    number: usize,
-) -> Result<u32, AllocError>
-    requires { number < length plans.now }
-    ensures { IfOk result (λ n. n ≡ if is_left_open (verdicts_in (told_in known.now)) (slice_index_or plans.now number []) then 1 else 0) }
+/// How many of these verdicts are known to be unresolved.
+pub fn count_open(verdicts: &[Option<Verdict>]) -> u32
+    requires { length verdicts.now ≤ 65536 }
+    ensures { result ≡ count_by (λ verdict. option_map_or is_unresolved verdict false) verdicts.now }
 {
-    let scenario = plans.plan(number).scenario(alloc)?;
-    if is_left_open(alloc, known, &scenario)? {
-        Ok(1)
-    } else {
-        Ok(0)
+    let mut count = 0;
+    for number in 0..verdicts.len() {
+        if is_open(verdicts[number]) {
+            count += 1;
+        }
     }
+    count
 }
 
 /// How many of the plans are answered as unresolved.
-fn count_left_open(alloc: Global, known: &Runs, plans: &PlanList<'_>) -> Result<u32, AllocError>
+fn count_left_open(
+    alloc: Global,
+    known: &Runs,
+    plans: &CampaignPlans<'_>,
+) -> Result<u32, AllocError>
     ensures { IfOk result (λ n. n ≡ count_by (is_left_open (verdicts_in (told_in known.now))) plans.now) }
 {
-    let mut count = 0;
-    for number in 0..plans.len() {
-        count += count_of(alloc, known, plans, number)?;
-    }
-    Ok(count)
+    let verdicts = plan_verdicts(alloc, known, plans)?;
+    Ok(count_open(verdicts.as_slice()))
 }
 
 /// What a report by these answers doesn't show.
@@ -94,7 +88,7 @@ fn doubts_known(
     alloc: Global,
     known: &Runs,
     campaign: &OutsideCampaign<'_>,
-    plans: &PlanList<'_>,
+    plans: &CampaignPlans<'_>,
 ) -> Result<Doubts, AllocError>
     requires { plans.now ≡ outside_plans campaign.now.settings.now campaign.now.outside.now }
     ensures { IfOk result (λ doubts. doubts ≡ doubts_by (verdicts_in (told_in known.now)) campaign.now.settings.now campaign.now.outside.now) }
@@ -102,7 +96,7 @@ fn doubts_known(
     let outside = campaign.outside;
     let none = build(alloc, &[])?;
     Ok(Doubts {
-        clean: is_left_open(alloc, known, &none)?,
+        clean: is_open(known.verdict_of(alloc, &none)?),
         unresolved: count_left_open(alloc, known, plans)?,
         plans: plans.len() as u32,
         unhit: is_unhit(outside.hits.as_slice()),
@@ -137,12 +131,6 @@ fn write_unhit(out: &mut String, name: &str) -> Result<(), AllocError>
     writeln!(out, "strict: no hit without faults of {name}")
 }
 
-fn is_never(hits: u32) -> bool
-    ensures { result ≡ (hits == 0) }
-{
-    hits == 0
-}
-
 /// The same, if the point has no hits.
 fn write_if_unhit(out: &mut String, name: &str, hits: u32) -> Result<(), AllocError>
     ensures { OnOk result (string_bytes out.new ≡ string_bytes out.old ++ text_of (unhit_of name.now hits)) }
@@ -169,7 +157,7 @@ pub fn census_doubts(
     alloc: Global,
     campaign: &OutsideCampaign<'_>,
     known: &Runs,
-    plans: &PlanList<'_>,
+    plans: &CampaignPlans<'_>,
 ) -> Result<String, AllocError>
     requires { plans.now ≡ outside_plans campaign.now.settings.now campaign.now.outside.now }
     ensures { IfOk result (λ lines. string_bytes lines ≡ census_doubts campaign.now.settings.now campaign.now.outside.now (told_in known.now)) }
@@ -178,7 +166,7 @@ pub fn census_doubts(
     let points = borrowed(alloc, outside.points.as_slice())?;
     let points = points.as_slice();
     let doubts = doubts_known(alloc, known, campaign, plans)?;
-    let unmet = count_unmet(alloc, known, points, &CampaignPlans::by_census(plans))?;
+    let unmet = count_unmet(alloc, known, points, plans)?;
     let mut lines = String::new(alloc);
     write_doubts(&mut lines, &doubts)?;
     write_unmet(&mut lines, unmet, doubts.plans)?;

@@ -1,33 +1,25 @@
 //! Answers to questions on a component that somebody else runs. Each is made whole, with the notes on it, before anything is written; what is recorded
 //! is read once for both.
-ghost use Rattle.std.specs.Prelude.{◌≡◌, ◌≤◌, ◌<◌, ◌++◌, ℕ, List, [], None, Some, length, string_bytes, IfErr, IfOk, IsErrOf};
-ghost use Rattle.plan_gen.specs.PlanList.{most_plans};
-ghost use Rattle.answer_text.specs.Runs.{told_in};
-ghost use Rattle.outside_campaign.specs.Campaigns.{plans as listed};
-ghost use Rattle.answered_runs.specs.Answered.{known_plans};
-ghost use Rattle.outside_campaign.specs.Readable.{IsReadable, told_by};
-ghost use Rattle.answered_runs.specs.grown.Further.{AreTooMany};
+ghost use Rattle.std.specs.Prelude.{◌≡◌, ◌≤◌, ◌++◌, ℕ, List, [], None, Some, string_bytes, IfErr, IfOk, IsErrOf};
+ghost use Rattle.outside_campaign.specs.Recorded.{Records, depth_of};
 ghost use Rattle.outside_campaign.specs.with_depth.Explained.{IsExplainedText, RefusesText};
-ghost use Rattle.outside_campaign.specs.with_depth.Questions.{AreUnbroken, Tells};
-ghost use Rattle.campaign_main.specs.QuestionNotes.{name_notes, notes_to, question_doubts, question_notes};
+ghost use Rattle.campaign_main.specs.QuestionNotes.{name_notes, notes_to, question_doubts, question_notes, strict_doubts};
 ghost use Rattle.campaign_main.specs.Questions.{IsAnswer, IsAnswerTo, IsShown, IsUnanswered, IsUnansweredTo, RefusesShown, asked_part, report_form, subject_in};
-ghost use Rattle.campaign_main.specs.inside.OnPlans.{question_on};
+ghost use Rattle.campaign_main.specs.inside.OnPlans.{IsTooLong, question_on};
 
 use crate::answer_notes::{all_notes, census_doubts};
 use crate::command::notes_with;
 use crate::run_notes::run_doubts;
-use answer_text::Runs;
-use answered_runs::{AskedPart, KnownPlans};
+use answered_runs::AskedPart;
 use command_words::{AskedPart as Part, Form as ReportForm, Question, Shown};
 use grown_plans::CampaignPlans;
 use outside_campaign::{
-    OutsideCampaign, QuestionFault, ReadRuns, asks_text, borrowed, explained_text, grown_lines,
-    grown_partial, grown_report, known_plans, outside_plans, partial_text, read_answers,
-    report_text,
+    OutsideCampaign, QuestionFault, ReadRuns, Recorded, borrowed, explained_text, known_plans,
+    outside_plans, read_answers,
 };
-use plan_gen::{PlanFault, PlanList};
+use plan_gen::PlanFault;
 use report::Form;
-use std::alloc::{AllocError, Global};
+use std::alloc::Global;
 
 /// The answer to a question.
 #[derive(Debug, Drop)]
@@ -83,75 +75,107 @@ fn report_form(shown: Shown) -> Option<Form<'static>>
     }
 }
 
-/// The text of a report without a depth, or of the interim report, and whether a plan fails.
-fn census_report(
+/// The text of a report, or of the interim report, and whether a plan fails.
+fn shown_text<'p>(
     alloc: Global,
-    campaign: &OutsideCampaign<'_>,
-    known: &Runs,
-    plans: &CampaignPlans<'_>,
+    campaign: &'p OutsideCampaign<'p>,
+    recorded: Recorded<'_, 'p>,
     shown: Shown,
 ) -> Result<(Vec<u8>, bool), QuestionFault>
-    requires plans { plans.now ≡ listed campaign.now.outside.now campaign.now.settings.now }
-    requires few { length plans.now ≤ most_plans }
-    requires some { 0 < length plans.now }
-    ensures text { IfOk result (λ r. (answers : List ℕ) → told_in known.now ≡ told_by campaign.now.outside.now answers
-        → IsReadable campaign.now.outside.now answers → IsShown None (report_form shown) (subject_in campaign.now) answers r.0.items r.1) }
-    ensures fault { IfErr result (λ why. (answers : List ℕ) → told_in known.now ≡ told_by campaign.now.outside.now answers
-        → RefusesShown None (report_form shown) (subject_in campaign.now) answers why) }
+    requires { (answers : List ℕ) × Records campaign.now.outside.now campaign.now.settings.now answers recorded }
+    ensures text { IfOk result (λ r. (answers : List ℕ) → Records campaign.now.outside.now campaign.now.settings.now answers recorded
+        → IsShown (depth_of recorded) (report_form shown) (subject_in campaign.now) answers r.0.items r.1) }
+    ensures fault { IfErr result (λ why. (answers : List ℕ) → Records campaign.now.outside.now campaign.now.settings.now answers recorded
+        → RefusesShown (depth_of recorded) (report_form shown) (subject_in campaign.now) answers why) }
 {
     match report_form(shown) {
         Some(form) => {
-            let (text, first) = report_text(alloc, &form, campaign, known, plans)?;
+            let (text, first) = recorded.report_text(alloc, campaign, &form)?;
             Ok((text, first.is_some()))
         }
         None => {
-            let (text, found) = partial_text(alloc, campaign, known, plans, false)?;
+            let (text, found) = recorded.partial_text(alloc, campaign)?;
             Ok((text.into_bytes(), found))
         }
     }
 }
 
-/// The text that answers a question without a depth, and whether a plan fails.
-fn census_text(
+/// The text that answers a question, and whether a plan fails.
+fn text_on<'p>(
     alloc: Global,
-    campaign: &OutsideCampaign<'_>,
-    known: &Runs,
-    plans: &CampaignPlans<'_>,
+    campaign: &'p OutsideCampaign<'p>,
+    recorded: Recorded<'_, 'p>,
     question: OnPlans,
 ) -> Result<(Vec<u8>, bool), QuestionFault>
-    requires plans { plans.now ≡ listed campaign.now.outside.now campaign.now.settings.now }
-    requires few { length plans.now ≤ most_plans }
-    requires some { 0 < length plans.now }
-    ensures text { IfOk result (λ r. (answers : List ℕ) → told_in known.now ≡ told_by campaign.now.outside.now answers
-        → IsReadable campaign.now.outside.now answers → IsAnswerTo None (question_on question) (subject_in campaign.now) answers r.0.items r.1) }
-    ensures fault { IfErr result (λ why. (answers : List ℕ) → told_in known.now ≡ told_by campaign.now.outside.now answers
-        → IsUnansweredTo None (question_on question) (subject_in campaign.now) answers why) }
+    requires { (answers : List ℕ) × Records campaign.now.outside.now campaign.now.settings.now answers recorded }
+    ensures text { IfOk result (λ r. (answers : List ℕ) → Records campaign.now.outside.now campaign.now.settings.now answers recorded
+        → IsAnswerTo (depth_of recorded) (question_on question) (subject_in campaign.now) answers r.0.items r.1) }
+    ensures fault { IfErr result (λ why. (answers : List ℕ) → Records campaign.now.outside.now campaign.now.settings.now answers recorded
+        → IsUnansweredTo (depth_of recorded) (question_on question) (subject_in campaign.now) answers why) }
 {
     match question {
         OnPlans::Asks(part) => {
-            let text = asks_text(alloc, known, plans, asked_part(part))?;
+            let text = recorded.asks_text(alloc, campaign, asked_part(part))?;
             Ok((text.into_bytes(), false))
         }
-        OnPlans::Report(shown, _) => census_report(alloc, campaign, known, plans, shown),
+        OnPlans::Report(shown, _) => shown_text(alloc, campaign, recorded, shown),
     }
 }
 
-/// What a strict report without a depth doesn't show; nothing for another question.
-fn census_doubts_on(
+/// What a strict report doesn't show.
+fn strict_doubts(
     alloc: Global,
     campaign: &OutsideCampaign<'_>,
-    known: &Runs,
-    plans: &PlanList<'_>,
+    recorded: Recorded<'_, '_>,
+) -> Result<String, PlanFault>
+    requires { (answers : List ℕ) × Records campaign.now.outside.now campaign.now.settings.now answers recorded }
+    ensures ok { IfOk result (λ doubts. (answers : List ℕ) → Records campaign.now.outside.now campaign.now.settings.now answers recorded
+        → string_bytes doubts ≡ strict_doubts (depth_of recorded) campaign.now.settings.now campaign.now.outside.now answers) }
+    ensures many { IsErrOf result PlanFault.TooManyPlans → IsTooLong campaign.now.settings.now recorded }
+{
+    match recorded {
+        Recorded::ByCensus(runs, plans) => Ok(census_doubts(alloc, campaign, runs, plans)?),
+        Recorded::ByRuns(known) => run_doubts(alloc, known, campaign.settings),
+    }
+}
+
+/// The same for a strict report; nothing for another question.
+fn doubts_on(
+    alloc: Global,
+    campaign: &OutsideCampaign<'_>,
+    recorded: Recorded<'_, '_>,
     question: OnPlans,
-) -> Result<String, AllocError>
-    requires { plans.now ≡ listed campaign.now.outside.now campaign.now.settings.now }
-    ensures { IfOk result (λ doubts. (answers : List ℕ) → told_in known.now ≡ told_by campaign.now.outside.now answers
-        → string_bytes doubts ≡ question_doubts None (question_on question) campaign.now.settings.now campaign.now.outside.now answers) }
+) -> Result<String, PlanFault>
+    requires { (answers : List ℕ) × Records campaign.now.outside.now campaign.now.settings.now answers recorded }
+    ensures ok { IfOk result (λ doubts. (answers : List ℕ) → Records campaign.now.outside.now campaign.now.settings.now answers recorded
+        → string_bytes doubts ≡ question_doubts (depth_of recorded) (question_on question) campaign.now.settings.now campaign.now.outside.now answers) }
+    ensures many { IsErrOf result PlanFault.TooManyPlans → IsTooLong campaign.now.settings.now recorded }
 {
     match question {
-        OnPlans::Report(_, true) => census_doubts(alloc, campaign, known, plans),
+        OnPlans::Report(_, true) => strict_doubts(alloc, campaign, recorded),
         OnPlans::Report(_, false) | OnPlans::Asks(_) => Ok(String::new(alloc)),
     }
+}
+
+/// The answer to a question, by what is recorded.
+fn answer_by<'p>(
+    alloc: Global,
+    campaign: &'p OutsideCampaign<'p>,
+    recorded: Recorded<'_, 'p>,
+    question: OnPlans,
+) -> Result<Answer, QuestionFault>
+    requires { (answers : List ℕ) × Records campaign.now.outside.now campaign.now.settings.now answers recorded }
+    ensures text { IfOk result (λ a. (answers : List ℕ) → Records campaign.now.outside.now campaign.now.settings.now answers recorded
+        → IsAnswerTo (depth_of recorded) (question_on question) (subject_in campaign.now) answers a.text.items a.found) }
+    ensures notes { IfOk result (λ a. (answers : List ℕ) → Records campaign.now.outside.now campaign.now.settings.now answers recorded
+        → string_bytes a.notes ≡ notes_to (depth_of recorded) (question_on question) campaign.now.settings.now campaign.now.outside.now answers) }
+    ensures fault { IfErr result (λ why. (answers : List ℕ) → Records campaign.now.outside.now campaign.now.settings.now answers recorded
+        → IsUnansweredTo (depth_of recorded) (question_on question) (subject_in campaign.now) answers why) }
+{
+    let (text, found) = text_on(alloc, campaign, recorded, question)?;
+    let doubts = doubts_on(alloc, campaign, recorded, question)?;
+    let notes = all_notes(alloc, campaign, recorded.strangers(), doubts.as_str())?;
+    Ok(Answer { text, found, notes })
 }
 
 /// The answer to a question without a depth.
@@ -167,105 +191,31 @@ fn by_census(
     ensures fault { IfErr result (IsUnansweredTo None (question_on question) (subject_in campaign.now) answers.now) }
 {
     let outside = campaign.outside;
-    let known = read_answers(alloc, outside, answers)?;
+    let runs = read_answers(alloc, outside, answers)?;
     let points = borrowed(alloc, outside.points.as_slice())?;
     let list = outside_plans(alloc, points.as_slice(), campaign)?;
     let plans = CampaignPlans::by_census(&list);
-    let (text, found) = census_text(alloc, campaign, &known, &plans, question)?;
-    let doubts = census_doubts_on(alloc, campaign, &known, &list, question)?;
-    let notes = all_notes(alloc, campaign, known.strangers(), doubts.as_str())?;
-    Ok(Answer { text, found, notes })
-}
-
-/// The text of a report with a depth, or of the interim report, and whether a plan fails.
-fn runs_report<'a>(
-    alloc: Global,
-    campaign: &'a OutsideCampaign<'a>,
-    known: &KnownPlans<'a>,
-    shown: Shown,
-) -> Result<(Vec<u8>, bool), QuestionFault>
-    requires points { known.now.answered.points ≡ campaign.now.outside.now.points }
-    requires unbroken { AreUnbroken known.now.answered known.now.depth }
-    ensures text { IfOk result (λ r. (answers : List ℕ) → Tells campaign.now.outside.now answers known.now.answered
-        → IsShown (Some known.now.depth) (report_form shown) (subject_in campaign.now) answers r.0.items r.1) }
-    ensures fault { IfErr result (λ why. (answers : List ℕ) → Tells campaign.now.outside.now answers known.now.answered
-        → RefusesShown (Some known.now.depth) (report_form shown) (subject_in campaign.now) answers why) }
-{
-    match report_form(shown) {
-        Some(form) => {
-            let (text, first) = grown_report(alloc, &form, campaign, known)?;
-            Ok((text, first.is_some()))
-        }
-        None => {
-            let (text, found) = grown_partial(alloc, campaign, known)?;
-            Ok((text.into_bytes(), found))
-        }
-    }
-}
-
-/// The text that answers a question with a depth, and whether a plan fails.
-fn runs_text<'a>(
-    alloc: Global,
-    campaign: &'a OutsideCampaign<'a>,
-    known: &KnownPlans<'a>,
-    question: OnPlans,
-) -> Result<(Vec<u8>, bool), QuestionFault>
-    requires points { known.now.answered.points ≡ campaign.now.outside.now.points }
-    requires unbroken { AreUnbroken known.now.answered known.now.depth }
-    ensures text { IfOk result (λ r. (answers : List ℕ) → Tells campaign.now.outside.now answers known.now.answered
-        → IsAnswerTo (Some known.now.depth) (question_on question) (subject_in campaign.now) answers r.0.items r.1) }
-    ensures fault { IfErr result (λ why. (answers : List ℕ) → Tells campaign.now.outside.now answers known.now.answered
-        → IsUnansweredTo (Some known.now.depth) (question_on question) (subject_in campaign.now) answers why) }
-{
-    match question {
-        OnPlans::Asks(part) => {
-            let lines = grown_lines(alloc, known, campaign.settings)?;
-            let text = lines.text(alloc, asked_part(part))?;
-            Ok((text.into_bytes(), false))
-        }
-        OnPlans::Report(shown, _) => runs_report(alloc, campaign, known, shown),
-    }
-}
-
-/// What a strict report with a depth doesn't show; nothing for another question.
-fn run_doubts_on(
-    alloc: Global,
-    campaign: &OutsideCampaign<'_>,
-    known: &KnownPlans<'_>,
-    question: OnPlans,
-) -> Result<String, PlanFault>
-    ensures ok { IfOk result (λ doubts. (answers : List ℕ) → Tells campaign.now.outside.now answers known.now.answered
-        → string_bytes doubts ≡ question_doubts (Some known.now.depth) (question_on question) campaign.now.settings.now campaign.now.outside.now answers) }
-    ensures many { IsErrOf result PlanFault.TooManyPlans
-        → AreTooMany known.now.answered campaign.now.settings.now.plans (length (known_plans known.now.answered known.now.depth)) }
-{
-    match question {
-        OnPlans::Report(_, true) => run_doubts(alloc, known, campaign.settings),
-        OnPlans::Report(_, false) | OnPlans::Asks(_) => Ok(String::new(alloc)),
-    }
+    answer_by(alloc, campaign, Recorded::ByCensus(&runs, &plans), question)
 }
 
 /// The answer to a question with a depth.
-fn by_runs<'a>(
+fn by_runs(
     alloc: Global,
-    campaign: &'a OutsideCampaign<'a>,
-    known: &KnownPlans<'a>,
+    campaign: &OutsideCampaign<'_>,
+    depth: u32,
     question: OnPlans,
+    answers: &[u8],
 ) -> Result<Answer, QuestionFault>
-    requires points { known.now.answered.points ≡ campaign.now.outside.now.points }
-    requires unbroken { AreUnbroken known.now.answered known.now.depth }
-    ensures text { IfOk result (λ a. (answers : List ℕ) → Tells campaign.now.outside.now answers known.now.answered
-        → IsAnswerTo (Some known.now.depth) (question_on question) (subject_in campaign.now) answers a.text.items a.found) }
-    ensures notes { IfOk result (λ a. (answers : List ℕ) → Tells campaign.now.outside.now answers known.now.answered
-        → string_bytes a.notes ≡ notes_to (Some known.now.depth) (question_on question) campaign.now.settings.now campaign.now.outside.now answers) }
-    ensures fault { IfErr result (λ why. (answers : List ℕ) → Tells campaign.now.outside.now answers known.now.answered
-        → IsUnansweredTo (Some known.now.depth) (question_on question) (subject_in campaign.now) answers why) }
+    requires { depth ≤ 64 }
+    ensures text { IfOk result (λ a. IsAnswerTo (Some depth) (question_on question) (subject_in campaign.now) answers.now a.text.items a.found) }
+    ensures notes { IfOk result (λ a. string_bytes a.notes
+        ≡ notes_to (Some depth) (question_on question) campaign.now.settings.now campaign.now.outside.now answers.now) }
+    ensures fault { IfErr result (IsUnansweredTo (Some depth) (question_on question) (subject_in campaign.now) answers.now) }
 {
-    let (text, found) = runs_text(alloc, campaign, known, question)?;
-    let doubts = run_doubts_on(alloc, campaign, known, question)?;
-    let runs = known.runs().runs();
-    let notes = all_notes(alloc, campaign, runs.strangers(), doubts.as_str())?;
-    Ok(Answer { text, found, notes })
+    let read = ReadRuns::read(alloc, campaign.outside, answers)?;
+    let runs = read.table(alloc);
+    let known = known_plans(alloc, &runs, depth)?;
+    answer_by(alloc, campaign, Recorded::ByRuns(&known), question)
 }
 
 /// The answer to a question on the plans of a campaign.
@@ -283,12 +233,7 @@ fn on_plans(
     let settings = campaign.settings;
     match settings.depth {
         None => by_census(alloc, campaign, question, answers),
-        Some(depth) => {
-            let read = ReadRuns::read(alloc, campaign.outside, answers)?;
-            let runs = read.table(alloc);
-            let known = known_plans(alloc, &runs, depth)?;
-            by_runs(alloc, campaign, &known, question)
-        }
+        Some(depth) => by_runs(alloc, campaign, depth, question, answers),
     }
 }
 

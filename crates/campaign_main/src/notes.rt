@@ -227,6 +227,13 @@ fn write_if_unresolved(
     Ok(())
 }
 
+/// Whether there are no hits.
+pub fn is_never(hits: u32) -> bool
+    ensures { result ≡ (hits == 0) }
+{
+    hits == 0
+}
+
 /// Whether a number isn't 0.
 pub fn is_some_number(number: u32) -> bool
     ensures { result ≡ nat_lt 0 number }

@@ -1,9 +1,9 @@
 //! What the program does, over any reader and any sinks.
 ghost use Rattle.std.specs.Prelude.{◌≡◌, false, IfSome};
-ghost use Rattle.campaign_main.specs.Commands.{answer_of, campaign_for, choice_answer, text_answer};
+ghost use Rattle.campaign_main.specs.Commands.{answer_of, text_answer};
 ghost use Rattle.campaign_core.specs.Writes.{change};
 ghost use Rattle.campaign_main.specs.Ends.{EndsAs, EndsBy, Leaves, NotesBy, OnWhole, RefusesBy, Tells, TellsAs};
-ghost use Rattle.campaign_main.specs.Promises.{KeepsPromises, TextKeepsPromises};
+ghost use Rattle.campaign_main.specs.Promises.{TextKeepsPromises};
 
 use crate::chosen::chosen_command;
 use crate::exit::Exit;
@@ -17,24 +17,6 @@ use std::sync::Wait;
 use std::thread::Threads;
 use target_trait::Sink;
 use work_gate::Gate;
-
-/// Does what is ordered with the target that the settings choose.
-fn perform_chosen<W: Sink, E: Sink, H: Threads + Wait + Sync, G: Gate>(
-    host: &Host<'_, G, H>,
-    order: &Order,
-    settings: &Settings,
-    output: &mut W,
-    faults: &mut E,
-) -> Exit
-    requires output { W.has_failed output.old ≡ false }
-    requires faults { E.has_failed faults.old ≡ false }
-    ensures end { let s = settings.now in EndsAs result (choice_answer order.now s.campaign s.choice) (change W.Sink output.old output.new) }
-    ensures told { let s = settings.now in TellsAs result (choice_answer order.now s.campaign s.choice) (change E.Sink faults.old faults.new) }
-    ensures promises { let s = settings.now in OnWhole result (IfSome (campaign_for s.campaign s.choice) (KeepsPromises order.now)) }
-{
-    let outcome = chosen_command(host, order, settings, output);
-    end_outcome(host.alloc, outcome, faults)
-}
 
 /// Does what is ordered, by the settings that a text gives.
 fn perform_text<W: Sink, E: Sink, H: Threads + Wait + Sync, G: Gate>(
@@ -52,7 +34,10 @@ fn perform_text<W: Sink, E: Sink, H: Threads + Wait + Sync, G: Gate>(
     ensures promises { OnWhole result (TextKeepsPromises order.now text.now) }
 {
     match Settings::read(host.alloc, text) {
-        Ok(settings) => perform_chosen(host, order, &settings, output, faults),
+        Ok(settings) => {
+            let outcome = chosen_command(host, order, &settings, output);
+            end_outcome(host.alloc, outcome, faults)
+        }
         Err(fault) => end_bad_settings(host.alloc, &fault, faults),
     }
 }

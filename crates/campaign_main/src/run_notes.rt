@@ -13,8 +13,9 @@ ghost use Rattle.answered_runs.specs.grown.Further.{AreTooMany};
 ghost use Rattle.campaign_main.specs.Notes.{is_unhit};
 ghost use Rattle.campaign_main.specs.QuestionNotes.{census_told, doubts_told, is_left_open, list_told, run_doubts, unreached_told, unseen_line, unseen_notes};
 
+use crate::answer_notes::{count_open, is_open};
 use crate::notes::{
-    Doubts, draws_nothing, is_some_number, is_unhit, write_all_unreached, write_doubts,
+    Doubts, draws_nothing, is_never, is_some_number, is_unhit, write_all_unreached, write_doubts,
 };
 use answered_runs::{AnsweredRuns, KnownPlans, census, further_behind, reached};
 use campaign_given::CampaignSettings;
@@ -24,7 +25,6 @@ use plan_gen::PlanFault;
 use scenario_values::build;
 use std::alloc::{AllocError, Global};
 use std::fmt::Write;
-use target_trait::Verdict;
 
 /// Whether the run without faults is known to be unresolved.
 fn is_clean_open(alloc: Global, known: &KnownPlans<'_>) -> Result<bool, AllocError>
@@ -32,32 +32,8 @@ fn is_clean_open(alloc: Global, known: &KnownPlans<'_>) -> Result<bool, AllocErr
         IfOk result (λ found. found ≡ is_left_open (verdict_by a.points (told_in a.book) known.now.depth) []) }
 {
     let none = build(alloc, &[])?;
-    match known.runs().verdict_of(alloc, known.depth(), &none)? {
-        Some(Verdict::Unresolved) => Ok(true),
-        Some(Verdict::Pass | Verdict::Fail(_)) | None => Ok(false),
-    }
-}
-
-/// 1 if a verdict is known to be unresolved, else 0.
-fn open_of(verdict: Option<Verdict>) -> u32
-    ensures { result ≡ if option_map_or is_unresolved verdict false then 1 else 0 }
-{
-    match verdict {
-        Some(Verdict::Unresolved) => 1,
-        Some(Verdict::Pass | Verdict::Fail(_)) | None => 0,
-    }
-}
-
-/// How many of these verdicts are known to be unresolved.
-fn count_open(verdicts: &[Option<Verdict>]) -> u32
-    requires { length verdicts.now ≤ 65536 }
-    ensures { result ≡ count_by (λ verdict. option_map_or is_unresolved verdict false) verdicts.now }
-{
-    let mut count = 0;
-    for number in 0..verdicts.len() {
-        count += open_of(verdicts[number]);
-    }
-    count
+    let verdict = known.runs().verdict_of(alloc, known.depth(), &none)?;
+    Ok(is_open(verdict))
 }
 
 /// Whether the run without faults is recorded as one that hits no point.
@@ -107,12 +83,6 @@ fn write_unseen(out: &mut String, unseen: u32, plans: u32) -> Result<(), AllocEr
         return write_unseen_line(out, unseen, plans);
     }
     Ok(())
-}
-
-fn is_never(hits: u32) -> bool
-    ensures { result ≡ (hits == 0) }
-{
-    hits == 0
 }
 
 /// The places of the counts that are 0, in order.

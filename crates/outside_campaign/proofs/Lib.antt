@@ -5,3 +5,4 @@ pub mod Open
 pub mod ResultLemmas
 pub mod PlansFound
 pub mod WithDepthLemmas
+mod RecordedLemmas

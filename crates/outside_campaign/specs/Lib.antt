@@ -10,3 +10,4 @@ pub mod Results
 pub mod Told
 pub mod inside
 pub mod with_depth
+pub mod Recorded

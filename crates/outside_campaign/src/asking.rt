@@ -99,7 +99,7 @@ pub fn asks<K: VerdictTable>(
 
 /// The lines that ask for what is still to be tried of these plans, or a part of them. The reductions are those of the first failures known. An error
 /// means that memory was refused.
-pub fn asks_text<K: VerdictTable>(
+pub(crate) fn asks_text<K: VerdictTable>(
     alloc: Global,
     known: &K,
     plans: &CampaignPlans<'_>,

@@ -186,7 +186,7 @@ fn write_first(
 /// and the line `answered` ends with the word `known`.
 ///
 /// An error means that memory was refused.
-pub fn partial_text<K: VerdictTable>(
+pub(crate) fn partial_text<K: VerdictTable>(
     alloc: Global,
     campaign: &OutsideCampaign<'_>,
     known: &K,

@@ -21,7 +21,7 @@ use std::alloc::Global;
 ///
 /// The plans are those that [`outside_plans`](crate::outside_plans) lists for this campaign. `NotAnswered` has the first scenario that is still to
 /// be tried, if there is one. Any other fault means that memory was refused.
-pub fn report_text(
+pub(crate) fn report_text(
     alloc: Global,
     form: &Form<'_>,
     campaign: &OutsideCampaign<'_>,

@@ -10,6 +10,7 @@ use target_trait::RiggedRuns;
 /// difference to the plan.
 #[derive(Drop)]
 pub struct Workspace {
+    /// The table of the next plan's rigged hits, and the memory of its run.
     pub runs: RiggedRuns,
     /// The lists into which a plan's rigged hits are put, and the faults of a plan that grew.
     pub lists: RigLists,

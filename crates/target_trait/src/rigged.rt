@@ -30,6 +30,7 @@ pub struct RiggedRuns {
     pub table: FaultTable<'static>,
     /// The buffers of the last run, in which the points stand that it asked.
     pub buffers: SessionBuffers,
+    /// Where a run takes memory that the buffers don't have.
     pub alloc: Global,
 }
 
@@ -50,6 +51,8 @@ impl RiggedRuns {
     /// points that the run asked, in order.
     ///
     /// An error means that memory was refused; the buffers may be given back to the system then. The target keeps its setup, after an error too.
+    // (a campaign runs thousands of these, and a call of its own costs each one some hundred instructions)
+    #[inline(always)]
     pub fn run<T: Target>(
         &mut self,
         target: &mut T,

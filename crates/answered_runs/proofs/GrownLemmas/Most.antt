@@ -40,12 +40,6 @@ zero_length : (n : ℕ) → length {A = ℕ} (replicate n 0) ≡ n
 zero_length zero = refl
 zero_length (suc n) = let rest = zero_length n in omega (arith, rest)
 
-pub none_raised : (runs : KnownRuns) (points : ℕ) (counts : List ℕ) → counts ≡ replicate points 0 → AreMostOf runs [] points counts
-none_raised runs points counts is = record {
-  many = ap length is ∙ zero_length points;
-  are = λ p lt. ap (λ (l : List ℕ). get_or l p 0) is ∙ zero_at points p;
-}
-
 pub raised : (runs : KnownRuns) (plans : List (List Rig)) (i points : ℕ) (plan : List Rig) (old new : List ℕ) → i < length plans → plan ≡ get_or plans i [] → AreMostOf runs (take i plans) points old → length new ≡ length old
     → ((p : ℕ) → p < length old → get_or new p 0 ≡ max (get_or old p 0) (times_told p (hits_of runs plan))) → AreMostOf runs (take (i + 1) plans) points new
 raised runs plans i points plan old new less is so_far many more = record {

@@ -30,10 +30,6 @@ pub waits : (a : Answered) (depth : ℕ) (rigs : List Rig) (o : Option Verdict) 
 waits a depth rigs o s old new said none is added =
     added ∙ ap (λ (x : Entries). old ++ x ∷ []) is ∙ sym (ap (λ (b : Bool). old ++ map (rigged_in a) (cond b (rigs ∷ []) [])) (ap is_none (sym said) ∙ none))
 
-pub waits_not : (a : Answered) (depth : ℕ) (rigs : List Rig) (o : Option Verdict) (old new : List Entries) → o ≡ verdicts_in a depth rigs → is_none o ≡ false → new ≡ old → new ≡ old ++ waiting_of a depth (rigs ∷ [])
-waits_not a depth rigs o old new said some same =
-    same ∙ sym (append-nil old) ∙ sym (ap (λ (b : Bool). old ++ map (rigged_in a) (cond b (rigs ∷ []) [])) (ap is_none (sym said) ∙ some))
-
 -- ---- the lists with one left out
 
 -- none of these lists is known to fail, and the scenarios of those that aren't known were added
@@ -91,30 +87,6 @@ taken_back a depth code n i lists less old mid new cut fails many so_far added i
     ∙ ap (λ (b : Bool). old ++ map (rigged_in a) (cond b [] (unknown (verdicts_in a depth) lists))) (sym fails)
 
 -- ---- a plan, by its own verdict
-
-pub kept_causes : (known : Verdicts) (n : ℕ) (rigs : List Rig) (o : Option Verdict) (old new : List (ℕ × ℕ)) → o ≡ known rigs → known_by known n rigs o ≡ [] → new ≡ old → new ≡ old ++ known_by known n rigs (known rigs)
-kept_causes known n rigs o old new said none same = same ∙ sym (append-nil old) ∙ ap (λ (l : List (ℕ × ℕ)). old ++ l) (sym none ∙ ap (known_by known n rigs) said)
-
-pub kept_open : (a : Answered) (depth : ℕ) (rigs : List Rig) (o : Option Verdict) (old new : List Entries) → o ≡ verdicts_in a depth rigs → cond (is_none o) (rigs ∷ []) [] ≡ open_by (verdicts_in a depth) rigs o → new ≡ old ++ waiting_of a depth (rigs ∷ [])
-    → new ≡ old ++ map (rigged_in a) (open_by (verdicts_in a depth) rigs (verdicts_in a depth rigs))
-kept_open a depth rigs o old new said same added =
-    added ∙ ap (λ (p : Option Verdict). old ++ map (rigged_in a) (cond (is_none p) (rigs ∷ []) [])) (sym said)
-    ∙ ap (λ (l : List (List Rig)). old ++ map (rigged_in a) l) (same ∙ ap (open_by (verdicts_in a depth) rigs) said)
-
-pub failed_causes : (known : Verdicts) (n code : ℕ) (rigs : List Rig) (old new : List (ℕ × ℕ)) → Some (Fail code) ≡ known rigs → one_fails known code (lesser rigs) ≡ true → new ≡ old → new ≡ old ++ known_by known n rigs (known rigs)
-failed_causes known n code rigs old new said fails same = kept_causes known n rigs (Some (Fail code)) old new said (ap (λ (b : Bool). cond b [] ((n, code) ∷ [])) fails) same
-
-pub pushed_cause : (known : Verdicts) (n code : ℕ) (rigs : List Rig) (old new : List (ℕ × ℕ)) → Some (Fail code) ≡ known rigs → one_fails known code (lesser rigs) ≡ false → new ≡ old ++ (n, code) ∷ []
-    → new ≡ old ++ known_by known n rigs (known rigs)
-pushed_cause known n code rigs old new said fine added =
-    added ∙ ap (λ (l : List (ℕ × ℕ)). old ++ l) (sym (ap (λ (b : Bool). cond b [] ((n, code) ∷ [])) fine) ∙ ap (known_by known n rigs) said)
-
-pub failed_open : (a : Answered) (depth code : ℕ) (rigs : List Rig) (old mid new : List Entries) → Some (Fail code) ≡ verdicts_in a depth rigs → mid ≡ old ++ waiting_of a depth (rigs ∷ []) → new ≡ mid ++ added_by a depth code (lesser rigs)
-    → new ≡ old ++ map (rigged_in a) (open_by (verdicts_in a depth) rigs (verdicts_in a depth rigs))
-failed_open a depth code rigs old mid new said first added =
-    added
-    ∙ ap (λ (l : List Entries). l ++ added_by a depth code (lesser rigs)) (first ∙ ap (λ (p : Option Verdict). old ++ map (rigged_in a) (cond (is_none p) (rigs ∷ []) [])) (sym said) ∙ append-nil old)
-    ∙ ap (λ (o : Option Verdict). old ++ map (rigged_in a) (open_by (verdicts_in a depth) rigs o)) said
 
 -- ---- plans
 

@@ -37,7 +37,7 @@ fn candidates(
 ///
 /// `TooManyPlans` comes only if more than 65536 plans are known, or the run without faults has at least as many hits. Any other fault means that
 /// memory was refused.
-pub fn grown_lines(
+pub(crate) fn grown_lines(
     alloc: Global,
     known: &KnownPlans<'_>,
     settings: &CampaignSettings,

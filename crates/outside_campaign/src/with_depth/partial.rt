@@ -3,10 +3,11 @@ ghost use Rattle.std.specs.Prelude.{ℕ, List, string_bytes, IfErr, IfOk};
 ghost use Rattle.outside_campaign.specs.Partial.{partial_text};
 ghost use Rattle.outside_campaign.specs.with_depth.Questions.{AreUnbroken, IsPartialText, RefusesAsks, Tells};
 
+use crate::OutsideCampaign;
+use crate::partial::partial_text;
 use crate::with_depth::fault::QuestionFault;
 use crate::with_depth::grown::all_plans;
 use crate::with_depth::table::KnownByRuns;
-use crate::{OutsideCampaign, partial_text};
 use answered_runs::{KnownPlans, further_behind};
 use std::alloc::Global;
 
@@ -14,7 +15,7 @@ use std::alloc::Global;
 /// known once the hits of the plans that it grew from are recorded. Its number isn't known by then, so the lines have scenarios in place of numbers.
 ///
 /// The faults are those of [`grown_report`](crate::with_depth::grown_report), without `NotAnswered`.
-pub fn grown_partial(
+pub(crate) fn grown_partial(
     alloc: Global,
     campaign: &OutsideCampaign<'_>,
     known: &KnownPlans<'_>,

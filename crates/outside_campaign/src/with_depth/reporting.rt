@@ -159,7 +159,7 @@ fn reported_text<'a>(
 ///
 /// `NotAnswered` has a scenario that is still to be tried. `TooManyPlans` comes only if more than 65536 plans are known, or the run without faults
 /// has at least as many hits. Any other fault means that memory was refused.
-pub fn grown_report<'a>(
+pub(crate) fn grown_report<'a>(
     alloc: Global,
     form: &Form<'_>,
     campaign: &'a OutsideCampaign<'a>,

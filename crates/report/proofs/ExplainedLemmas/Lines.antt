@@ -27,19 +27,3 @@ hit_on names old new whole n hits h lt is before before_is added so_far =
     ap (λ (b : List Hit). new ++ text_of (hit_lines names b rest)) (taken hits n h lt is)
     ∙ goes_on old new (ended (hit_line names (take n hits) h)) (text_of (hit_lines names (take n hits ++ h ∷ []) rest)) whole all
     (added ∙ ap (λ (b : List Hit). old ++ ended (hit_line names b h)) before_is)
-
--- the line of a term is written, or none
-pub term_on : (history : List Hit) (name old new whole : List ℕ) (i : ℕ) (terms : List Term) (t : Term) → i < length terms → t ≡ get_or terms i t
-    → new ≡ old ++ text_of (idle_of history name i t)
-    → old ++ text_of (idle_in history name i (drop i terms)) ≡ whole → new ++ text_of (idle_in history name (i + 1) (drop (i + 1) terms)) ≡ whole
-term_on history name old new whole i terms t lt is added so_far =
-    lines_on old new whole (idle_of history name i t) (idle_in history name (i + 1) (drop (i + 1) terms)) added
-    (ap (λ (ts : List Term). old ++ text_of (idle_in history name i ts)) (sym (element_of terms i t lt is)) ∙ so_far)
-
--- the lines of an entry are written
-pub entry_on : (history : List Hit) (old new whole : List ℕ) (all rest : Entries) (e : List ℕ × List Term) → all ≡ e ∷ rest
-    → new ≡ old ++ text_of (idle_in history e.0 0 e.1)
-    → old ++ text_of (idle_lines history all) ≡ whole → new ++ text_of (idle_lines history rest) ≡ whole
-entry_on history old new whole all rest e all_is added so_far =
-    lines_on old new whole (idle_in history e.0 0 e.1) (idle_lines history rest) added
-    (ap (λ (es : Entries). old ++ text_of (idle_lines history es)) (sym all_is) ∙ so_far)

@@ -1,7 +1,7 @@
 use Rattle.std.proofs.Common.{refl, subst, sym}
 use Rattle.campaign_main.specs.Commands.{Answer}
 use Rattle.campaign_main.specs.Ends.{EndsAs, TellsAs}
-use Rattle.campaign_main.proofs.EndLemmas.{answer-chosen, settings-fault-tells, refuses-ends, tells-of}
+use Rattle.campaign_main.proofs.EndLemmas.{answer-chosen, outcome-ends, outcome-tells, outcome-whole, settings-fault-tells, refuses-ends, tells-of}
 use Rattle.campaign_core.specs.Writes.{change}
 use Rattle.campaign_main.proofs.performing.perform_text.Goals as goal
 
@@ -12,17 +12,19 @@ returns-in-Err-clause-told g c =
 
 pub returns-in-Ok-clause-end : goal.returns-in-Ok-clause-end
 returns-in-Ok-clause-end g c =
-    let W = g.W.Sink in
-    let new = c.perform_chosen.new.output in
-    let P : Answer → Type 0 = λ a. EndsAs c.perform_chosen.result a (change W c.args.output.now new) in
-    subst P (sym (answer-chosen _ _ c.in-Ok.settings c.in-Ok.ensures.ok)) c.perform_chosen.ensures.end
+    let w = change g.W.Sink c.args.output.now c.chosen_command-outcome.new.output in
+    let v = change g.E.Sink c.args.faults.now c.end_outcome.new.faults in
+    let P : Answer → Type 0 = λ a. EndsAs c.end_outcome.result a w in
+    subst P (sym (answer-chosen _ _ c.in-Ok.settings c.in-Ok.ensures.ok))
+    (outcome-ends c.chosen_command-outcome.result c.end_outcome.result v _ w c.end_outcome.ensures c.chosen_command-outcome.ensures.text)
 
 pub returns-in-Ok-clause-told : goal.returns-in-Ok-clause-told
 returns-in-Ok-clause-told g c =
-    let E = g.E.Sink in
-    let w = change E c.args.faults.now c.perform_chosen.new.faults in
-    let P : Answer → Type 0 = λ a. TellsAs c.perform_chosen.result a w in
-    subst P (sym (answer-chosen _ _ c.in-Ok.settings c.in-Ok.ensures.ok)) c.perform_chosen.ensures.told
+    let w = change g.W.Sink c.args.output.now c.chosen_command-outcome.new.output in
+    let v = change g.E.Sink c.args.faults.now c.end_outcome.new.faults in
+    let P : Answer → Type 0 = λ a. TellsAs c.end_outcome.result a v in
+    subst P (sym (answer-chosen _ _ c.in-Ok.settings c.in-Ok.ensures.ok))
+    (outcome-tells c.chosen_command-outcome.result c.end_outcome.result v _ w c.end_outcome.ensures c.chosen_command-outcome.ensures.text)
 
 pub returns-in-Err-clause-end : goal.returns-in-Err-clause-end
 returns-in-Err-clause-end g c =

@@ -20,8 +20,7 @@ load-requires-clause-small c =
     let plans : List (List Rig) = c.args.known.now.list.plans in
     let plan : List Rig = get_or plans c.args.number [] in
     let own : c.list.result.now.plans ≡ plans = ap (λ (l : GrownList). l.plans) c.list.ensures.same in
-    let faults : c.as_slice.result.now ≡ plan = c.as_slice.ensures.value ∙ c.in_ok-faults_of.ensures ∙ ap (λ (ps : List (List Rig)). get_or ps c.args.number []) own in
-    let rigs : c.as_slice-rigs.result.now ≡ rigs_of plan = c.as_slice-rigs.ensures.value ∙ c.in_ok-rigs_of.ensures ∙ ap rigs_of faults in
+    let rigs : c.as_slice-rigs.result.now ≡ rigs_of plan = c.as_slice-rigs.ensures.value ∙ c.in_ok-put.ensures.rigs ∙ ap (λ (ps : List (List Rig)). rigs_of (get_or ps c.args.number [])) own in
     subst CanBeRigged (sym rigs) (plan_can plans c.args.number c.requires c.list.ensures.known.rigs)
 
 pub returns-clause-table : goal.returns-clause-table
@@ -30,8 +29,7 @@ returns-clause-table c =
     let plans : List (List Rig) = c.args.known.now.list.plans in
     let plan : List Rig = get_or plans c.args.number [] in
     let own : c.list.result.now.plans ≡ plans = ap (λ (l : GrownList). l.plans) c.list.ensures.same in
-    let faults : c.as_slice.result.now ≡ plan = c.as_slice.ensures.value ∙ c.in_ok-faults_of.ensures ∙ ap (λ (ps : List (List Rig)). get_or ps c.args.number []) own in
-    let rigs : c.as_slice-rigs.result.now ≡ rigs_of plan = c.as_slice-rigs.ensures.value ∙ c.in_ok-rigs_of.ensures ∙ ap rigs_of faults in
+    let rigs : c.as_slice-rigs.result.now ≡ rigs_of plan = c.as_slice-rigs.ensures.value ∙ c.in_ok-put.ensures.rigs ∙ ap (λ (ps : List (List Rig)). rigs_of (get_or ps c.args.number [])) own in
     let names : texts c.points.result.now ≡ a.points = c.points.ensures.names ∙ ap (λ (b : Answered). b.points) c.runs.ensures in
     on_ok_weaker c.load.result
     (λ is. is ∙ ap (λ (n : List (List ℕ)). rigged_as n (rigged_scenario n c.as_slice-rigs.result.now)) names

@@ -2,7 +2,7 @@ use Rattle.std.proofs.Common.{◌≡◌, ◌≤◌, ◌+◌, drop, false}
 use Rattle.std.specs.Prelude.{count_by}
 use Rattle.std.specs.Option.{option_map_or}
 use Rattle.target_trait.specs.Verdicts.{is_unresolved}
-use Rattle.campaign_main.proofs.run_notes.count_open.Given as goal
+use Rattle.campaign_main.proofs.answer_notes.count_open.Given as goal
 
 abbrev pub invariant-loop-number : goal.invariant-loop-number
 invariant-loop-number l = record {
