@@ -1,14 +1,13 @@
 -- Answers, by what a command did.
-use Rattle.std.proofs.Common.{◌≡◌, ◌≤◌, ◌<◌, ◌∙◌, ℕ, Bool, true, false, List, Option, Some, None, Result, Ok, Err, IfErr, IfOk, IsErrAnd, OnOk, length, refl, sym, ap, is_some, option_map, slice_get, subst, if◌then◌else◌}
+use Rattle.std.proofs.Common.{◌≡◌, ◌≤◌, ◌<◌, ◌∙◌, ℕ, Bool, false, List, Option, Some, None, Result, Ok, Err, IfErr, IsErrAnd, OnOk, length, refl, sym, ap, is_some, option_map, subst, if◌then◌else◌}
 use Rattle.std.proofs.lemmas.Bool.{le-ltb, lt-ltb}
 use Rattle.std.specs.Io.KnownBytes.{Appends}
 use Rattle.scenario_values.specs.Scenario.{Entries}
 use Rattle.action_eval.specs.Answers.{Given}
-use Rattle.scenario_grammar.specs.declared.fault.ScenarioFault.TheVariants as scenario
 use Rattle.target_trait.specs.declared.judgement.Verdict.{Verdict}
 use Rattle.plan_gen.specs.PlanList.{most_plans}
 use Rattle.campaign_core.specs.Headline.{Campaign, say, plans, first_failure}
-use Rattle.campaign_core.specs.CommandTexts.{counted, explained, IsFault, IsReducedToMinimal, IsUnfound, IsUnlisted, LeavesOnly, plan_lines, plans_text, reduce_text, tried, try_text}
+use Rattle.campaign_core.specs.CommandTexts.{explained, IsFault, IsUnlisted, LeavesOnly, plan_lines, plans_text, reduce_text, tried, try_text}
 use Rattle.campaign_core.specs.Writes.{Change, IsUntouched, WritesPart, WritesWhole}
 use Rattle.campaign_core.specs.declared.ending.CampaignFault.{CampaignFault}
 use Rattle.campaign_core.specs.declared.ending.CampaignFault.TheVariants as campaign
@@ -22,7 +21,7 @@ use Rattle.campaign_main.specs.declared.exit.Answered.{Answered}
 use Rattle.campaign_main.specs.declared.exit.Conclusion.{Conclusion}
 use Rattle.campaign_main.specs.declared.exit.Conclusion.TheVariants.{Clean}
 use Rattle.campaign_main.specs.Exit.{concluded}
-use Rattle.campaign_main.specs.Commands.{Answer, Refusal, explain_answer, numbered, of_few_plans, of_verdict, outside_answer, planned, plans_answer, reduce_answer, report_in, run_answer, taken_answer, too_many_plans, try_answer}
+use Rattle.campaign_main.specs.Commands.{Answer, Refusal, explain_answer, of_few_plans, of_verdict, outside_answer, plans_answer, reduce_answer, report_in, run_answer, taken_answer, too_many_plans, try_answer}
 use Rattle.campaign_main.specs.Notes.{is_doubted, listed_notes, notes_of, report_notes}
 use Rattle.campaign_main.specs.Ends.{ComesTo, FallsShort, HasNotes, IsCutOff, IsUntaken, IsWritten}
 
@@ -170,18 +169,7 @@ module _ (c : Campaign) where
 
 -- ---- the scenario that a command takes
 
-module _ (c : Campaign) (number : ℕ) where
-  pub planned-few : (plan : Option Entries) → counted c number ≤ most_plans → plan ≡ slice_get (plans c) number → planned c number ≡ numbered number plan
-  planned-few plan few is =
-      let f : Bool → Result (ℕ × Entries) Refusal = λ b. if b then Err too_many_plans else numbered number (slice_get (plans c) number) in
-      ap f (le-ltb most_plans (counted c number) few) ∙ ap (numbered number) (sym is)
-
-  planned-many : most_plans < counted c number → planned c number ≡ Err too_many_plans
-  planned-many many =
-      let f : Bool → Result (ℕ × Entries) Refusal = λ b. if b then Err too_many_plans else numbered number (slice_get (plans c) number) in
-      ap f (lt-ltb most_plans (counted c number) many)
-
--- nor one that memory is refused
+-- memory may be refused, whichever scenario was to be taken
 pub memory-untaken : {T : Type 0} (taken : Result (ℕ × Entries) Refusal) (result : Result T CommandFault) → IsErrAnd result (λ f. f ≡ faults.Campaign campaign.Memory) → IfErr result (IsUntaken taken)
 memory-untaken taken (Ok t) is = absurd is
 memory-untaken taken (Err f) is = let P : CommandFault → Type 0 = λ x. IsUntaken taken x in subst P (sym is) tt

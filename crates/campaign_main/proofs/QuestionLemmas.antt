@@ -224,10 +224,6 @@ too-long (Explain words) s text many = long-reading (is_some s.0.depth) s.1.code
 -- ---- by the answers that a reader gave
 
 module _ (question : Question) (s : Subject) (known : Option (List ℕ)) where
-  -- what holds of the bytes that were read holds of those that the reader tells
-  pub of-bytes : (bytes : List ℕ) (P : List ℕ → Type 0) → IfSome known (λ xs. bytes ≡ xs) → P bytes → IfSome known P
-  of-bytes bytes P is h = if_some known (λ xs. bytes ≡ xs) P (λ xs e. subst P e h) is
-
   pub answers-read-fault-cause : (f : ReadFault) (end : Exit) (w : Change)
       → (f ≡ read.TooLong → IfSome known (λ bytes. 268435456 < length bytes))
       → RefusesWith (answers_read_line f) end w → (f ≡ read.Memory → end ≡ exit.Memory) → end ≡ exit.Refused

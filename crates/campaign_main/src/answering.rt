@@ -2,6 +2,7 @@
 //! is read once for both.
 ghost use Rattle.std.specs.Prelude.{◌≡◌, ◌≤◌, ◌++◌, ℕ, List, [], None, Some, string_bytes, IfErr, IfOk, IsErrOf};
 ghost use Rattle.outside_campaign.specs.Recorded.{Records, depth_of};
+ghost use Rattle.outside_campaign.specs.declared.recorded.Recorded.TheVariants.{ByCensus, ByRuns};
 ghost use Rattle.outside_campaign.specs.with_depth.Explained.{IsExplainedText, RefusesText};
 ghost use Rattle.campaign_main.specs.QuestionNotes.{name_notes, notes_to, question_doubts, question_notes, strict_doubts};
 ghost use Rattle.campaign_main.specs.Questions.{IsAnswer, IsAnswerTo, IsShown, IsUnanswered, IsUnansweredTo, RefusesShown, asked_part, report_form, subject_in};
@@ -10,7 +11,8 @@ ghost use Rattle.campaign_main.specs.inside.OnPlans.{IsTooLong, question_on};
 use crate::answer_notes::{all_notes, census_doubts};
 use crate::command::notes_with;
 use crate::run_notes::run_doubts;
-use answered_runs::AskedPart;
+use answer_text::Runs;
+use answered_runs::{AskedPart, KnownPlans};
 use command_words::{AskedPart as Part, Form as ReportForm, Question, Shown};
 use grown_plans::CampaignPlans;
 use outside_campaign::{
@@ -83,10 +85,10 @@ fn shown_text<'p>(
     shown: Shown,
 ) -> Result<(Vec<u8>, bool), QuestionFault>
     requires { (answers : List ℕ) × Records campaign.now.outside.now campaign.now.settings.now answers recorded }
-    ensures text { IfOk result (λ r. (answers : List ℕ) → Records campaign.now.outside.now campaign.now.settings.now answers recorded
-        → IsShown (depth_of recorded) (report_form shown) (subject_in campaign.now) answers r.0.items r.1) }
-    ensures fault { IfErr result (λ why. (answers : List ℕ) → Records campaign.now.outside.now campaign.now.settings.now answers recorded
-        → RefusesShown (depth_of recorded) (report_form shown) (subject_in campaign.now) answers why) }
+    ensures text { IfOk result (λ r. (answers : List ℕ) → Records campaign.now.outside.now campaign.now.settings.now answers recorded.entry
+        → IsShown (depth_of recorded.entry) (report_form shown) (subject_in campaign.now) answers r.0.items r.1) }
+    ensures fault { IfErr result (λ why. (answers : List ℕ) → Records campaign.now.outside.now campaign.now.settings.now answers recorded.entry
+        → RefusesShown (depth_of recorded.entry) (report_form shown) (subject_in campaign.now) answers why) }
 {
     match report_form(shown) {
         Some(form) => {
@@ -108,10 +110,10 @@ fn text_on<'p>(
     question: OnPlans,
 ) -> Result<(Vec<u8>, bool), QuestionFault>
     requires { (answers : List ℕ) × Records campaign.now.outside.now campaign.now.settings.now answers recorded }
-    ensures text { IfOk result (λ r. (answers : List ℕ) → Records campaign.now.outside.now campaign.now.settings.now answers recorded
-        → IsAnswerTo (depth_of recorded) (question_on question) (subject_in campaign.now) answers r.0.items r.1) }
-    ensures fault { IfErr result (λ why. (answers : List ℕ) → Records campaign.now.outside.now campaign.now.settings.now answers recorded
-        → IsUnansweredTo (depth_of recorded) (question_on question) (subject_in campaign.now) answers why) }
+    ensures text { IfOk result (λ r. (answers : List ℕ) → Records campaign.now.outside.now campaign.now.settings.now answers recorded.entry
+        → IsAnswerTo (depth_of recorded.entry) (question_on question) (subject_in campaign.now) answers r.0.items r.1) }
+    ensures fault { IfErr result (λ why. (answers : List ℕ) → Records campaign.now.outside.now campaign.now.settings.now answers recorded.entry
+        → IsUnansweredTo (depth_of recorded.entry) (question_on question) (subject_in campaign.now) answers why) }
 {
     match question {
         OnPlans::Asks(part) => {
@@ -129,9 +131,9 @@ fn strict_doubts(
     recorded: Recorded<'_, '_>,
 ) -> Result<String, PlanFault>
     requires { (answers : List ℕ) × Records campaign.now.outside.now campaign.now.settings.now answers recorded }
-    ensures ok { IfOk result (λ doubts. (answers : List ℕ) → Records campaign.now.outside.now campaign.now.settings.now answers recorded
-        → string_bytes doubts ≡ strict_doubts (depth_of recorded) campaign.now.settings.now campaign.now.outside.now answers) }
-    ensures many { IsErrOf result PlanFault.TooManyPlans → IsTooLong campaign.now.settings.now recorded }
+    ensures ok { IfOk result (λ doubts. (answers : List ℕ) → Records campaign.now.outside.now campaign.now.settings.now answers recorded.entry
+        → string_bytes doubts ≡ strict_doubts (depth_of recorded.entry) campaign.now.settings.now campaign.now.outside.now answers) }
+    ensures many { IsErrOf result PlanFault.TooManyPlans → IsTooLong campaign.now.settings.now recorded.entry }
 {
     match recorded {
         Recorded::ByCensus(runs, plans) => Ok(census_doubts(alloc, campaign, runs, plans)?),
@@ -147,9 +149,9 @@ fn doubts_on(
     question: OnPlans,
 ) -> Result<String, PlanFault>
     requires { (answers : List ℕ) × Records campaign.now.outside.now campaign.now.settings.now answers recorded }
-    ensures ok { IfOk result (λ doubts. (answers : List ℕ) → Records campaign.now.outside.now campaign.now.settings.now answers recorded
-        → string_bytes doubts ≡ question_doubts (depth_of recorded) (question_on question) campaign.now.settings.now campaign.now.outside.now answers) }
-    ensures many { IsErrOf result PlanFault.TooManyPlans → IsTooLong campaign.now.settings.now recorded }
+    ensures ok { IfOk result (λ doubts. (answers : List ℕ) → Records campaign.now.outside.now campaign.now.settings.now answers recorded.entry
+        → string_bytes doubts ≡ question_doubts (depth_of recorded.entry) (question_on question) campaign.now.settings.now campaign.now.outside.now answers) }
+    ensures many { IsErrOf result PlanFault.TooManyPlans → IsTooLong campaign.now.settings.now recorded.entry }
 {
     match question {
         OnPlans::Report(_, true) => strict_doubts(alloc, campaign, recorded),
@@ -165,17 +167,31 @@ fn answer_by<'p>(
     question: OnPlans,
 ) -> Result<Answer, QuestionFault>
     requires { (answers : List ℕ) × Records campaign.now.outside.now campaign.now.settings.now answers recorded }
-    ensures text { IfOk result (λ a. (answers : List ℕ) → Records campaign.now.outside.now campaign.now.settings.now answers recorded
-        → IsAnswerTo (depth_of recorded) (question_on question) (subject_in campaign.now) answers a.text.items a.found) }
-    ensures notes { IfOk result (λ a. (answers : List ℕ) → Records campaign.now.outside.now campaign.now.settings.now answers recorded
-        → string_bytes a.notes ≡ notes_to (depth_of recorded) (question_on question) campaign.now.settings.now campaign.now.outside.now answers) }
-    ensures fault { IfErr result (λ why. (answers : List ℕ) → Records campaign.now.outside.now campaign.now.settings.now answers recorded
-        → IsUnansweredTo (depth_of recorded) (question_on question) (subject_in campaign.now) answers why) }
+    ensures text { IfOk result (λ a. (answers : List ℕ) → Records campaign.now.outside.now campaign.now.settings.now answers recorded.entry
+        → IsAnswerTo (depth_of recorded.entry) (question_on question) (subject_in campaign.now) answers a.text.items a.found) }
+    ensures notes { IfOk result (λ a. (answers : List ℕ) → Records campaign.now.outside.now campaign.now.settings.now answers recorded.entry
+        → string_bytes a.notes ≡ notes_to (depth_of recorded.entry) (question_on question) campaign.now.settings.now campaign.now.outside.now answers) }
+    ensures fault { IfErr result (λ why. (answers : List ℕ) → Records campaign.now.outside.now campaign.now.settings.now answers recorded.entry
+        → IsUnansweredTo (depth_of recorded.entry) (question_on question) (subject_in campaign.now) answers why) }
 {
     let (text, found) = text_on(alloc, campaign, recorded, question)?;
     let doubts = doubts_on(alloc, campaign, recorded, question)?;
     let notes = all_notes(alloc, campaign, recorded.strangers(), doubts.as_str())?;
     Ok(Answer { text, found, notes })
+}
+
+/// What is recorded, with a list of plans.
+fn with_list<'a, 'p>(runs: &'a Runs, plans: &'a CampaignPlans<'p>) -> Recorded<'a, 'p>
+    ensures { result ≡ ByCensus runs.entry plans.entry }
+{
+    Recorded::ByCensus(runs, plans)
+}
+
+/// What is recorded, with the plans that it makes known.
+fn with_known<'a, 'p>(known: &'a KnownPlans<'p>) -> Recorded<'a, 'p>
+    ensures { result ≡ ByRuns known.entry }
+{
+    Recorded::ByRuns(known)
 }
 
 /// The answer to a question without a depth.
@@ -193,9 +209,9 @@ fn by_census(
     let outside = campaign.outside;
     let runs = read_answers(alloc, outside, answers)?;
     let points = borrowed(alloc, outside.points.as_slice())?;
-    let list = outside_plans(alloc, points.as_slice(), campaign)?;
+    let list = outside_plans(alloc, points.as_slice(), &*campaign)?;
     let plans = CampaignPlans::by_census(&list);
-    answer_by(alloc, campaign, Recorded::ByCensus(&runs, &plans), question)
+    answer_by(alloc, campaign, with_list(&runs, &plans), question)
 }
 
 /// The answer to a question with a depth.
@@ -215,7 +231,7 @@ fn by_runs(
     let read = ReadRuns::read(alloc, campaign.outside, answers)?;
     let runs = read.table(alloc);
     let known = known_plans(alloc, &runs, depth)?;
-    answer_by(alloc, campaign, Recorded::ByRuns(&known), question)
+    answer_by(alloc, campaign, with_known(&known), question)
 }
 
 /// The answer to a question on the plans of a campaign.

@@ -1,6 +1,6 @@
 //! The notes on a command's text: names in scenarios that no point of a target has, scenarios with control characters, and what a strict report
 //! doesn't show.
-ghost use Rattle.std.specs.Prelude.{◌≡◌, ◌<◌, ◌^◌, ◌++◌, [], All, Some, count_by, length, nat_lt, slice_index_or, string_bytes, true, IfOk, OnOk};
+ghost use Rattle.std.specs.Prelude.{◌≡◌, ◌==◌, ◌<◌, ◌^◌, ◌++◌, [], All, Some, count_by, length, nat_lt, slice_index_or, string_bytes, true, IfOk, OnOk};
 ghost use Rattle.action_eval.specs.Answers.{texts};
 ghost use Rattle.answer_text.specs.FirstFault.{has_control};
 ghost use Rattle.target_trait.specs.Verdicts.{is_unresolved};

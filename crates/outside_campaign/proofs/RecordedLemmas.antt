@@ -1,5 +1,5 @@
 -- What is recorded of a component, as answers to questions.
-use Rattle.std.proofs.Common.{◌≡◌, ◌≤◌, ◌∙◌, ℕ, Bool, false, List, [], Option, None, Some, length, ap, sym, subst}
+use Rattle.std.proofs.Common.{◌≡◌, ◌≤◌, ◌∙◌, ℕ, Bool, false, List, [], Option, length, ap, sym, subst}
 use Rattle.plan_gen.specs.PlanList.{most_plans}
 use Rattle.scenario_values.specs.Scenario.{Entries}
 use Rattle.answered_runs.specs.asked.Lines.{lines_for}
@@ -10,16 +10,12 @@ use Rattle.answer_text.specs.Runs.{KnownRuns, RunBook, told_in}
 use Rattle.answer_text.proofs.Agreement.{agrees_by}
 use Rattle.campaign_given.specs.Description.{Description}
 use Rattle.campaign_given.specs.Given.{Given}
-use Rattle.campaign_core.specs.declared.ending.CampaignFault.TheVariants as campaign
 use Rattle.report.specs.declared.forms.forms.Form.{Form}
-use Rattle.outside_campaign.specs.Campaigns.{IsUnreported, asks_text, first_failure, plans, report_in, untried, untried_by}
+use Rattle.outside_campaign.specs.Campaigns.{asks_text, first_failure, plans, report_in, untried, untried_by}
 use Rattle.outside_campaign.specs.Outside.{Component}
 use Rattle.outside_campaign.specs.Partial.{partial_by, partial_text, some_fails, some_fails_by}
 use Rattle.outside_campaign.specs.Recorded.{RecordsByCensus}
-use Rattle.outside_campaign.specs.declared.refusal.OutsideFault.{OutsideFault}
-use Rattle.outside_campaign.specs.declared.refusal.OutsideFault.TheVariants as refusal
-use Rattle.outside_campaign.specs.with_depth.Questions.{IsAskedByCensus, IsKnownByCensus, IsReportedByCensus, RefusesByCensus}
-use Rattle.outside_campaign.specs.declared.with_depth.fault.QuestionFault.TheVariants as fault
+use Rattle.outside_campaign.specs.with_depth.Questions.{IsAskedByCensus, IsKnownByCensus, IsReportedByCensus}
 use Rattle.outside_campaign.proofs.ResultLemmas.{some_component}
 
 module _ (outside : Description) (given : Given) (answers : List ℕ) (book : RunBook) (list : List Entries) (h : RecordsByCensus outside given answers book list) where
@@ -63,12 +59,3 @@ module _ (outside : Description) (given : Given) (answers : List ℕ) (book : Ru
     few = few;
     readable = h.readable;
   }
-
-  -- why there is no report
-  pub unreported_by : (why : OutsideFault) → IsUnreported outside given (told_in book) why → RefusesByCensus outside given answers (fault.Outside why)
-  unreported_by (refusal.Answers f) so = absurd so
-  unreported_by (refusal.Census line) so = absurd so
-  unreported_by (refusal.NotAnswered t) so = (so.0, ap (λ (k : KnownRuns). untried_by outside given k) (sym h.told) ∙ so.1)
-  unreported_by (refusal.Campaign campaign.TooManyPlans) so = absurd so
-  unreported_by (refusal.Campaign campaign.Memory) so = tt
-  unreported_by (refusal.Campaign (campaign.Write n)) so = absurd so

@@ -26,7 +26,7 @@ pub enum Recorded<'a, 'p> {
 impl<'a, 'p> Recorded<'a, 'p> {
     /// The names in answered scenarios that no point has.
     pub fn strangers(self) -> &'a [Stranger]
-        ensures { result.now ≡ strangers_of self }
+        ensures { result.now ≡ strangers_of self.entry }
     {
         match self {
             Recorded::ByCensus(runs, _) => runs.strangers(),
@@ -49,10 +49,10 @@ impl<'a, 'p> Recorded<'a, 'p> {
         part: AskedPart,
     ) -> Result<String, QuestionFault>
         requires { (answers : List ℕ) × Records campaign.now.outside.now campaign.now.settings.now answers self }
-        ensures text { IfOk result (λ text. (answers : List ℕ) → Records campaign.now.outside.now campaign.now.settings.now answers self
-            → IsAskedTo (depth_of self) part campaign.now.outside.now campaign.now.settings.now answers (string_bytes text)) }
-        ensures fault { IfErr result (λ why. (answers : List ℕ) → Records campaign.now.outside.now campaign.now.settings.now answers self
-            → RefusesYet (depth_of self) campaign.now.outside.now campaign.now.settings.now answers why) }
+        ensures text { IfOk result (λ text. (answers : List ℕ) → Records campaign.now.outside.now campaign.now.settings.now answers self.entry
+            → IsAskedTo (depth_of self.entry) part campaign.now.outside.now campaign.now.settings.now answers (string_bytes text)) }
+        ensures fault { IfErr result (λ why. (answers : List ℕ) → Records campaign.now.outside.now campaign.now.settings.now answers self.entry
+            → RefusesYet (depth_of self.entry) campaign.now.outside.now campaign.now.settings.now answers why) }
     {
         match self {
             Recorded::ByCensus(runs, plans) => Ok(asks_text(alloc, runs, plans, part)?),
@@ -75,10 +75,10 @@ impl<'a, 'p> Recorded<'a, 'p> {
         form: &Form<'_>,
     ) -> Result<(Vec<u8>, Option<u32>), QuestionFault>
         requires { (answers : List ℕ) × Records campaign.now.outside.now campaign.now.settings.now answers self }
-        ensures text { IfOk result (λ r. (answers : List ℕ) → Records campaign.now.outside.now campaign.now.settings.now answers self
-            → IsReportedTo (depth_of self) form.now campaign.now.outside.now campaign.now.settings.now answers r.0.items r.1) }
-        ensures fault { IfErr result (λ why. (answers : List ℕ) → Records campaign.now.outside.now campaign.now.settings.now answers self
-            → Refuses (depth_of self) campaign.now.outside.now campaign.now.settings.now answers why) }
+        ensures text { IfOk result (λ r. (answers : List ℕ) → Records campaign.now.outside.now campaign.now.settings.now answers self.entry
+            → IsReportedTo (depth_of self.entry) form.now campaign.now.outside.now campaign.now.settings.now answers r.0.items r.1) }
+        ensures fault { IfErr result (λ why. (answers : List ℕ) → Records campaign.now.outside.now campaign.now.settings.now answers self.entry
+            → Refuses (depth_of self.entry) campaign.now.outside.now campaign.now.settings.now answers why) }
     {
         match self {
             Recorded::ByCensus(runs, plans) => Ok(report_text(alloc, form, campaign, runs, plans)?),
@@ -94,10 +94,10 @@ impl<'a, 'p> Recorded<'a, 'p> {
         campaign: &OutsideCampaign<'_>,
     ) -> Result<(String, bool), QuestionFault>
         requires { (answers : List ℕ) × Records campaign.now.outside.now campaign.now.settings.now answers self }
-        ensures text { IfOk result (λ r. (answers : List ℕ) → Records campaign.now.outside.now campaign.now.settings.now answers self
-            → IsKnownTo (depth_of self) campaign.now.outside.now campaign.now.settings.now answers (string_bytes r.0) r.1) }
-        ensures fault { IfErr result (λ why. (answers : List ℕ) → Records campaign.now.outside.now campaign.now.settings.now answers self
-            → RefusesYet (depth_of self) campaign.now.outside.now campaign.now.settings.now answers why) }
+        ensures text { IfOk result (λ r. (answers : List ℕ) → Records campaign.now.outside.now campaign.now.settings.now answers self.entry
+            → IsKnownTo (depth_of self.entry) campaign.now.outside.now campaign.now.settings.now answers (string_bytes r.0) r.1) }
+        ensures fault { IfErr result (λ why. (answers : List ℕ) → Records campaign.now.outside.now campaign.now.settings.now answers self.entry
+            → RefusesYet (depth_of self.entry) campaign.now.outside.now campaign.now.settings.now answers why) }
     {
         match self {
             Recorded::ByCensus(runs, plans) => Ok(partial_text(

@@ -1,19 +1,12 @@
 -- Runs that answers tell, explained.
 use Rattle.std.proofs.Common.{◌≡◌, ℕ, List, Some, Ok}
-use Rattle.std.specs.Prelude.{is_some}
 use Rattle.scenario_values.specs.Scenario.{Entries}
 use Rattle.scenario_values.specs.Tidied.{tidied}
-use Rattle.scenario_grammar.specs.FirstFault.{FailsAt}
-use Rattle.scenario_grammar.specs.declared.fault.ScenarioFault.{ScenarioFault}
-use Rattle.scenario_grammar.specs.declared.fault.ScenarioFault.TheVariants as scenario
-use Rattle.answer_text.specs.Runs.{Tells, known_of}
-use Rattle.answer_text.specs.declared.fault.AnswersFault.{AnswersFault}
-use Rattle.answer_text.specs.declared.fault.AnswersFault.TheVariants as answers
+use Rattle.answer_text.specs.Runs.{known_of}
 use Rattle.answer_text.specs.declared.runs.ToldRun.{ToldRun}
 use Rattle.campaign_given.specs.Description.{Description}
 use Rattle.campaign_given.specs.Given.{Given}
 use Rattle.campaign_core.specs.declared.ending.CampaignFault.TheVariants as campaign
-use Rattle.outside_campaign.specs.Results.{answers_fault}
 use Rattle.outside_campaign.specs.declared.refusal.OutsideFault.TheVariants as refusal
 use Rattle.outside_campaign.specs.with_depth.Explained.{IsHiddenFault, RefusesText, said, spelled}
 use Rattle.outside_campaign.specs.declared.with_depth.fault.QuestionFault.{QuestionFault}
@@ -22,15 +15,6 @@ use Rattle.outside_campaign.specs.declared.with_depth.fault.QuestionFault.TheVar
 module _ (text : List ℕ) (outside : Description) (given : Given) (told : List ℕ) where
   abbrev Refused : QuestionFault → Type 0
   Refused why = RefusesText text outside given told why
-
-  pub unspelled : (cause : ScenarioFault) → FailsAt cause (spelled text) → Refused (fault.Scenario cause)
-  unspelled scenario.Memory h = tt
-  unspelled (scenario.Bad kind entry term) h = h
-
-  pub unread : (cause : AnswersFault) → Tells cause (is_some given.depth) outside.codes outside.points told → Refused (fault.Outside (answers_fault cause))
-  unread answers.TooLong h = h
-  unread (answers.Line number f) h = h
-  unread answers.Memory h = tt
 
   -- of a run that is told
   module _ (s : Entries) (spells : spelled text ≡ Ok s) (run : ToldRun) (is : known_of (said outside given told) (tidied s) ≡ Some run) where

@@ -1,7 +1,7 @@
 use Rattle.std.proofs.Common.{refl, subst, sym}
 use Rattle.campaign_main.specs.Commands.{Answer}
 use Rattle.campaign_main.specs.Ends.{EndsAs, TellsAs}
-use Rattle.campaign_main.proofs.EndLemmas.{answer-chosen, outcome-ends, outcome-tells, outcome-whole, settings-fault-tells, refuses-ends, tells-of}
+use Rattle.campaign_main.proofs.EndLemmas.{answer-chosen, outcome-ends, outcome-tells, settings-fault-tells, refuses-ends, tells-of}
 use Rattle.campaign_core.specs.Writes.{change}
 use Rattle.campaign_main.proofs.performing.perform_text.Goals as goal
 
