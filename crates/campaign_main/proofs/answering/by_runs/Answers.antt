@@ -27,7 +27,7 @@ answer_by-requires c =
     let same = c.in_ok-known.ensures.known in
     let tells = subst (Tells s.1 answers) (sym same.0) (subst (Tells s.1 answers) (sym c.table-runs.ensures) c.in_ok-read.ensures.read) in
     let unbroken = subst (λ (a : Answered). AreUnbroken a c.in_ok-known.known.depth) (sym same.0)
-        (subst (AreUnbroken c.table-runs.result) (sym same.1) c.in_ok-known.ensures.unbroken) in
+    (subst (AreUnbroken c.table-runs.result) (sym same.1) c.in_ok-known.ensures.unbroken) in
     let records = subst (Records s.1 s.0 answers) (sym c.with_known.ensures) (record { tells = tells; unbroken = unbroken }) in
     (answers, records)
 
@@ -38,7 +38,7 @@ returns c =
     let same = c.in_ok-known.ensures.known in
     let tells = subst (Tells s.1 answers) (sym same.0) (subst (Tells s.1 answers) (sym c.table-runs.ensures) c.in_ok-read.ensures.read) in
     let unbroken = subst (λ (a : Answered). AreUnbroken a c.in_ok-known.known.depth) (sym same.0)
-        (subst (AreUnbroken c.table-runs.result) (sym same.1) c.in_ok-known.ensures.unbroken) in
+    (subst (AreUnbroken c.table-runs.result) (sym same.1) c.in_ok-known.ensures.unbroken) in
     let records = subst (Records s.1 s.0 answers) (sym c.with_known.ensures) (record { tells = tells; unbroken = unbroken }) in
     record {
       text = answered-text c.args.question s answers c.with_known.result (Some c.args.depth) (ap depth_of c.with_known.ensures ∙ ap (λ (n : ℕ). Some n) same.1) records c.answer_by.result c.answer_by.ensures.text;
