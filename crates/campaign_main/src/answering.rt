@@ -181,6 +181,7 @@ fn answer_by<'p>(
 }
 
 /// What is recorded, with a list of plans.
+// (the borrow checker doesn't cover a function that lays references to its own values into this one, so it is made by a call)
 fn with_list<'a, 'p>(runs: &'a Runs, plans: &'a CampaignPlans<'p>) -> Recorded<'a, 'p>
     ensures { result ≡ ByCensus runs.entry plans.entry }
 {
