@@ -32,7 +32,7 @@ pub record RecordsByCensus (outside : Description) (given : Given) (answers : Li
   pub few : length plans ≤ most_plans
   pub some : 0 < length plans
 
--- With a depth: these are the runs that a text of answers records, and some component has the runs of the plans that they make known.
+-- With a depth: these are the runs that a text of answers records, and they don't contradict each other.
 pub record RecordsRuns (outside : Description) (answers : List ℕ) (known : KnownList) : Type 0 where
   pub tells : Tells outside answers known.answered
   pub unbroken : AreUnbroken known.answered known.depth
