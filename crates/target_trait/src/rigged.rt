@@ -51,7 +51,7 @@ impl RiggedRuns {
     /// points that the run asked, in order.
     ///
     /// An error means that memory was refused; the buffers may be given back to the system then. The target keeps its setup, after an error too.
-    // (a campaign runs thousands of these, and a call of its own costs each one some hundred instructions)
+    // (a campaign runs thousands of these, and a call of its own costs each one some fifty instructions)
     #[inline(always)]
     pub fn run<T: Target>(
         &mut self,
