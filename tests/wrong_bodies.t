@@ -54,7 +54,7 @@ The list has where each was refused, and a digest of what that rests on.
   $ cut -f 2 must-fail.tsv | grep -cE '^[0-9a-f]{20}$'
   3
 
-Without a word those are tried that the list doesn't have as they are now, those of a promise, and up to 20 that are drawn: here all. One that is refused elsewhere than
+Without a word those are tried that the list doesn't have as they are now, those of a promise, and up to 20 that are drawn, five of a crate: here all. One that is refused elsewhere than
 the list says fails, and so does a line without an edit.
 
   $ bodies
@@ -70,6 +70,25 @@ the list says fails, and so does a line without an edit.
   toy/stale: refused: toy::scripted at returns
   2 passed, 2 failed
   [1]
+
+An edit that reaches beyond the bodies is tried over the whole crate; once the list has it, over the function at which it was refused, and over the crate if it
+isn't refused there.
+
+  $ rm crates/toy/must-fail/*; checks() { WRONG_BODIES_TIMES=1 bodies "$@" 2>&1 | sed 's/^ *[0-9]*[.][0-9] //'; }
+  $ printf 'const LIMIT: u32 = 1;\n' >> crates/toy/src/lib.rt; edit wide other 'open returns'; printf 'old: u32 = 1\nnew: u32 = 2\n' >> crates/toy/must-fail/wide.edit
+  $ checks --all; checks
+  toy, the whole crate: wide
+  toy/wide: refused: toy::other at returns
+  1 passed, 0 failed
+  toy: wide
+  toy/wide: refused: toy::other at returns
+  1 passed, 0 failed
+  $ sed -i 's/toy::other/toy::plain/' must-fail.tsv; checks
+  toy: wide
+  toy, the whole crate: wide
+  toy/wide: NOT REFUSED where must-fail.tsv says, toy::plain at returns, but toy::other at returns
+  0 passed, 1 failed
+  $ rm crates/toy/must-fail/wide.edit; edit open plain 'open returns'; edit answered other 'script sums'; edit stale scripted 'gone old open returns'
 
 Of a public constant with a text of more than 4,096 bytes its name counts, and not what the text is; a shorter text counts, and so does one that isn't public.
 
@@ -242,14 +261,14 @@ Where crates are named, the edits of others aren't looked at, and their lines st
   wrong_bodies: error: no crate no
   [2]
 
-Of more than 20, those of a promise and those that have changed are tried in any case. A change of the crate's sources changes all; another letter of the kit none.
+Five of a crate's edits are drawn; those of a promise and those that have changed are tried in any case. A change of the crate's sources changes all; another letter of the kit none.
 
   $ rm crates/toy/must-fail/*; for number in $(seq 30); do printf 'fn f%s() {\n    proved %s.\n}\n\n' $number $number; done > crates/toy/src/lib.rt
   $ for number in $(seq 30); do edit $number $number. 'open returns'; done
   $ bodies --all | tail -n 1
   30 passed, 0 failed
   $ bodies | tail -n 1
-  20 passed, 0 failed
+  5 passed, 0 failed
   $ sed -i '1i promise: nothing skipped' crates/toy/must-fail/7.edit; echo >> crates/toy/must-fail/9.edit
   $ bodies > told; grep -cE '^toy/(7|9): refused' told; git add -A && git commit -qm x
   2
