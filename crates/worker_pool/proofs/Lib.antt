@@ -2,7 +2,7 @@ pub mod Keeps
 pub mod Below
 pub mod Same
 pub mod Rings
-pub mod Seated
+pub mod Linked
 pub mod Places
 pub mod Rounds
 pub mod Dealing

@@ -11,7 +11,7 @@ use Rattle.std.proofs.lemmas.List.{get_or-set_same, get_or-set_other, take_all}
 use Rattle.std.proofs.lemmas.List.Elements.{All-nil, All-cons, All-head, All-tail, All-from_get_or, All-same, All-pop}
 use Rattle.std.proofs.lemmas.List.Sums.{sum_by-cons, sum_by-append, sum_by_more}
 use Rattle.crossbeam_deque.specs.Handles.{worker_view}
-use Rattle.worker_pool.specs.declared.desk.Desk.{Desk}
+use Rattle.worker_pool.specs.declared.queue.LocalQueue.{LocalQueue}
 use Rattle.worker_pool.specs.Tickets.{Step, push, pop, steal, State, of_worker, added, taken_from, stepped, after, IsStepOf, IsDealtRound, number_of, pushed}
 use Rattle.worker_pool.specs.Tickets.{count_below}
 use Rattle.worker_pool.specs.Tickets.{front_taken as front_to}
@@ -249,8 +249,8 @@ thief_of n k p in_k in_p is = dite (ℕ_discrete n 1)
       round = tt;
     })
 
-module _ (n : ℕ) (ds : List Desk) (d : Desk) (len : length ds ≡ n) where
-  abbrev at : ℕ → Desk
+module _ (n : ℕ) (ds : List LocalQueue) (d : LocalQueue) (len : length ds ≡ n) where
+  abbrev at : ℕ → LocalQueue
   at k = get_or ds k d
 
   abbrev popped_at : (ℕ → Bool) → ℕ → ℕ

@@ -2,17 +2,17 @@
 //! this crate.
 #![tactic(auto)]
 
+mod active;
 mod apart;
 mod buffers;
-mod desk;
 mod finish;
 mod job;
 mod laws;
 mod pool;
+mod queue;
 mod ring;
 mod rule;
 mod run;
-mod station;
 mod steps;
 mod ticket;
 mod work;

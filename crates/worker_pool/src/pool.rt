@@ -3,16 +3,16 @@ ghost use Rattle.std.specs.Prelude.{◌≡◌, ℕ, ◌+◌, ◌<◌, ◌≤◌,
 ghost use Rattle.std.specs.List.{sum_by};
 ghost use Rattle.worker_pool.specs.Workers.{worker_job, worker_performed, setups_of, AreCounted, AreRight, EachOnce, PerformsPart, SharesAll, SharesPart};
 ghost use Rattle.worker_pool.specs.inside.Ring.{PushedOnce};
-ghost use Rattle.worker_pool.specs.inside.Stations.{answers_of, AreAtDesks, EachGoesOn};
+ghost use Rattle.worker_pool.specs.inside.ActiveWorkers.{answers_of, AreAtQueues, EachGoesOn};
 ghost use Rattle.worker_pool.specs.inside.Buffers.{HasPlaces};
 
-use crate::buffers::{Buffers, leave_all, seat_all};
-use crate::desk::Desk;
+use crate::active::ActiveWorker;
+use crate::buffers::{Buffers, begin_all, leave_all};
 use crate::finish::finish_all;
 use crate::job::Job;
+use crate::queue::LocalQueue;
 use crate::ring::{absorb_all, settle_all};
 use crate::run::round;
-use crate::station::Station;
 use crate::worker::Worker;
 use std::alloc::{AllocError, Global};
 use std::sync::Wait;
@@ -32,25 +32,25 @@ pub struct PoolFault<J: Job> {
     pub workers: Vec<Worker<J>>,
 }
 
-/// Has the tickets at the desks performed: each station works in a thread of its own, and the caller's thread performs what they leave. Then all
+/// Has the tickets at the queues performed: each worker works in a thread of its own, and the caller's thread performs what they leave. Then all
 /// deques and workers together are in a state to which steps of the workers lead.
 fn work_all<J: Job, G: Gate, R: Threads + Wait + Sync>(
     rt: &R,
     gate: &G,
-    stations: &mut Vec<Station<J>>,
-    desks: Vec<Desk>,
-    spare: Vec<Desk>,
+    team: &mut Vec<ActiveWorker<J>>,
+    queues: Vec<LocalQueue>,
+    spare: Vec<LocalQueue>,
 ) -> Result<(), AllocError>
-    requires begun { AreAtDesks J.setup J.limit stations.old desks }
-    requires spare { HasPlaces (vec_len stations.old) spare }
-    ensures len { vec_len stations.new ≡ vec_len stations.old }
-    ensures on { EachGoesOn J.setup J.answers (vec_len stations.old) stations.old.items stations.new.items }
-    ensures all { OnOk result ((count : ℕ) → PushedOnce count desks.items → SharesAll (vec_len stations.old) count (answers_of stations.new.items)) }
-    ensures part { (count : ℕ) → PushedOnce count desks.items → SharesPart (vec_len stations.old) count (answers_of stations.new.items) }
+    requires begun { AreAtQueues J.setup J.limit team.old queues }
+    requires spare { HasPlaces (vec_len team.old) spare }
+    ensures len { vec_len team.new ≡ vec_len team.old }
+    ensures on { EachGoesOn J.setup J.answers (vec_len team.old) team.old.items team.new.items }
+    ensures all { OnOk result ((count : ℕ) → PushedOnce count queues.items → SharesAll (vec_len team.old) count (answers_of team.new.items)) }
+    ensures part { (count : ℕ) → PushedOnce count queues.items → SharesPart (vec_len team.old) count (answers_of team.new.items) }
 {
-    let mut back = round(rt, gate, stations, desks, spare);
+    let mut back = round(rt, gate, team, queues, spare);
     absorb_all(&mut back);
-    let finished = finish_all(rt, stations, &mut back);
+    let finished = finish_all(rt, team, &mut back);
     settle_all(back);
     finished
 }
@@ -104,15 +104,15 @@ pub fn run_all<J: Job, G: Gate, R: Threads + Wait + Sync>(
         return Err(PoolFault { workers });
     };
     let Buffers {
-        desks,
+        queues,
         spare,
-        stations,
+        team,
         workers: back,
         answers,
     } = buffers;
-    let mut stations = seat_all(alloc, workers, stations);
-    let finished = work_all(rt, gate, &mut stations, desks, spare);
-    let (workers, answers) = leave_all(stations, back, answers);
+    let mut team = begin_all(alloc, workers, team);
+    let finished = work_all(rt, gate, &mut team, queues, spare);
+    let (workers, answers) = leave_all(team, back, answers);
     match finished {
         Ok(()) => Ok(Gathered { workers, answers }),
         Err(_) => Err(PoolFault { workers }),

@@ -1,28 +1,28 @@
-//! The steps at a desk.
+//! The steps at a queue.
 ghost use Rattle.std.specs.Prelude.{◌≡◌, ℕ, ◌+◌, ◌<◌, ◌≤◌, Bool, [], ◌∷◌, count_by, IfOk, OnOk, IfSome, IfNone};
 ghost use Rattle.crossbeam_deque.specs.Handles.{view, IsPassOf, stealer_deque, worker_deque, worker_view, worker_index, worker_capacity};
-ghost use Rattle.worker_pool.specs.inside.Desks.{took, Below, SameButOwn, SameDesk};
-ghost use Rattle.worker_pool.specs.inside.Parts.{seat as seat_of, owner_of, thief_of, joined, more_pushed, more_popped, more_stolen, AllTaken, IsAmong};
+ghost use Rattle.worker_pool.specs.inside.Queues.{took, Below, SameButOwn, SameQueue};
+ghost use Rattle.worker_pool.specs.inside.Parts.{view_of, owner_of, thief_of, joined, more_pushed, more_popped, more_stolen, AllTaken, IsAmong};
 ghost use Rattle.worker_pool.specs.inside.Ring.{IsSettled, TakenIn};
 
-use crate::desk::{Desk, Next};
-use crate::rule::{Owner, Pops, Puts, SeatPass, Shared, Steals, Thief, Total};
+use crate::queue::{LocalQueue, Next};
+use crate::rule::{Owner, Pops, Puts, Shared, StealPass, Steals, Thief, Total};
 use crate::ticket::Ticket;
 use crossbeam_deque::Steal;
 use std::alloc::{AllocError, Global};
 use std::sync::Wait;
 use std::thread;
 
-impl Desk {
-    /// A desk with an empty deque that has room for this many tickets.
-    pub fn new(alloc: Global, room: usize) -> Result<Desk, AllocError>
-        ensures view { IfOk result (λ d. worker_view d.own ≡ seat_of 1 1 [] [] []) }
+impl LocalQueue {
+    /// A queue with an empty deque that has room for this many tickets.
+    pub fn new(alloc: Global, room: usize) -> Result<LocalQueue, AllocError>
+        ensures view { IfOk result (λ d. worker_view d.own ≡ view_of 1 1 [] [] []) }
         ensures next { IfOk result (λ d. d.next ≡ None) }
         ensures kept { IfOk result (λ d. d.kept ≡ None) }
         ensures room { IfOk result (λ d. (room ≤ worker_capacity d.own) × (worker_index d.own ≡ 0)) }
     {
         let own = Owner::fifo_as(alloc, room)?;
-        Ok(Desk {
+        Ok(LocalQueue {
             own,
             next: None,
             kept: None,
@@ -42,31 +42,31 @@ impl Desk {
         };
     }
 
-    /// Makes the thief's seat at this desk's deque.
+    /// Makes the thief's pass at this queue's deque.
     pub fn share(&mut self) -> Result<Next, AllocError>
         requires { 0 < (worker_view self.old.own).steal_right }
         ensures same { SameButOwn self.old self.new }
         ensures own { OnOk result (worker_view self.new.own ≡ owner_of (worker_view self.old.own)) }
-        ensures next { IfOk result (λ n. view n.seat ≡ thief_of (worker_view self.old.own)) }
+        ensures next { IfOk result (λ n. view n.pass ≡ thief_of (worker_view self.old.own)) }
         ensures from { IfOk result (λ n. stealer_deque n.from ≡ worker_deque self.old.own) }
     {
         let from = self.own.stealer()?;
-        let seat = self.own.another::<Shared>();
-        Ok(Next { from, seat })
+        let pass = self.own.another::<Shared>();
+        Ok(Next { from, pass })
     }
 
-    /// Takes back the thief's seat.
+    /// Takes back the thief's pass.
     pub fn take_in(&mut self, next: Next)
         requires { stealer_deque next.from ≡ worker_deque self.old.own }
         ensures same { SameButOwn self.old self.new }
-        ensures view { worker_view self.new.own ≡ joined (worker_view self.old.own) (view next.seat) }
+        ensures view { worker_view self.new.own ≡ joined (worker_view self.old.own) (view next.pass) }
     {
-        let Next { from, seat } = next;
-        self.own.absorb::<Shared>(seat);
+        let Next { from, pass } = next;
+        self.own.absorb::<Shared>(pass);
         drop(from);
     }
 
-    /// Learns what the deque holds: some moves lead to that, and to everything that the desk knows.
+    /// Learns what the deque holds: some moves lead to that, and to everything that the queue knows.
     pub fn settle(&mut self)
         requires { TakenIn self.old }
         ensures { IsSettled self.old }
@@ -74,9 +74,9 @@ impl Desk {
         let _held = self.own.len_as::<Total>();
     }
 
-    /// Takes the front of the desk's own deque.
+    /// Takes the front of the queue's own deque.
     pub fn pop(&mut self) -> Option<Ticket>
-        ensures same { SameDesk self.old self.new × (self.new.next ≡ self.old.next) × (self.new.kept ≡ self.old.kept) }
+        ensures same { SameQueue self.old self.new × (self.new.next ≡ self.old.next) × (self.new.kept ≡ self.old.kept) }
         ensures some { IfSome result (λ x. worker_view self.new.own ≡ more_popped (x ∷ []) (worker_view self.old.own)) }
         ensures among { IfSome result (λ x. IsAmong (x ∷ []) (worker_view self.old.own)) }
         ensures same_view { IfNone result (worker_view self.new.own ≡ worker_view self.old.own) }
@@ -85,9 +85,9 @@ impl Desk {
         self.own.pop_as::<Pops>()
     }
 
-    /// Takes a ticket from the desk's own deque, or else from the next one.
+    /// Takes a ticket from the queue's own deque, or else from the next one.
     pub fn find<R: Wait>(&mut self, rt: &R) -> Option<Ticket>
-        ensures same { SameDesk self.old self.new × (self.new.kept ≡ self.old.kept) }
+        ensures same { SameQueue self.old self.new × (self.new.kept ≡ self.old.kept) }
         ensures some { IfSome result (λ x. (test : ℕ → Bool) → took test self.new ≡ took test self.old + count_by test (x ∷ [])) }
         ensures none { IfNone result ((test : ℕ → Bool) → took test self.new ≡ took test self.old) }
         ensures below { (count : ℕ) → Below count self.old → IfSome result (λ x. x < count) }
@@ -99,24 +99,24 @@ impl Desk {
         let Some(next) = self.next.take() else {
             return None;
         };
-        let Next { from, mut seat } = next;
-        let found = steal(rt, &from, &mut seat);
-        self.next = Some(Next { from, seat });
+        let Next { from, mut pass } = next;
+        let found = steal(rt, &from, &mut pass);
+        self.next = Some(Next { from, pass });
         found
     }
 }
 
 /// Takes the front of the deque, and tries again if another was first.
-fn steal<R: Wait>(rt: &R, from: &Thief, seat: &mut SeatPass) -> Option<Ticket>
-    requires table { IsPassOf (stealer_deque from.now) seat.old }
-    requires right { 0 < (view seat.old).steal_right }
-    ensures table { IsPassOf (stealer_deque from.now) seat.new }
-    ensures some { IfSome result (λ x. view seat.new ≡ more_stolen (x ∷ []) (view seat.old)) }
-    ensures among { IfSome result (λ x. IsAmong (x ∷ []) (view seat.old)) }
-    ensures none { IfNone result (view seat.new ≡ view seat.old) }
+fn steal<R: Wait>(rt: &R, from: &Thief, pass: &mut StealPass) -> Option<Ticket>
+    requires table { IsPassOf (stealer_deque from.now) pass.old }
+    requires right { 0 < (view pass.old).steal_right }
+    ensures table { IsPassOf (stealer_deque from.now) pass.new }
+    ensures some { IfSome result (λ x. view pass.new ≡ more_stolen (x ∷ []) (view pass.old)) }
+    ensures among { IfSome result (λ x. IsAmong (x ∷ []) (view pass.old)) }
+    ensures none { IfNone result (view pass.new ≡ view pass.old) }
 {
     for _ in rt.forever() {
-        match from.steal_as::<Steals>(seat) {
+        match from.steal_as::<Steals>(pass) {
             Steal::Success(x) => return Some(x),
             Steal::Empty => return None,
             Steal::Retry => thread::yield_now(),

@@ -10,8 +10,8 @@ HasPlaces n v = (v.items ≡ []) × (n ≤ vec_capacity v)
 
 -- What n workers need for the tickets below the count.
 pub record AreBuffers {J A S : Type 0} (n count : ℕ) (buffers : Buffers J A S) : Type 0 where
-  pub desks : AreDealt n count buffers.desks
+  pub queues : AreDealt n count buffers.queues
   pub spare : HasPlaces n buffers.spare
-  pub stations : HasPlaces n buffers.stations
+  pub team : HasPlaces n buffers.team
   pub workers : HasPlaces n buffers.workers
   pub answers : HasPlaces n buffers.answers

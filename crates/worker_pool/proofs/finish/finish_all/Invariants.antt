@@ -1,15 +1,15 @@
 use Rattle.std.proofs.Common.{◌≡◌, ℕ, ◌<◌, ◌≤◌, vec_len, slice_index_or}
-use Rattle.worker_pool.specs.declared.desk.Desk.{Desk}
+use Rattle.worker_pool.specs.declared.queue.LocalQueue.{LocalQueue}
 use Rattle.worker_pool.specs.inside.Ring.{IsDone}
-use Rattle.worker_pool.specs.inside.Stations.{EachFinishes}
+use Rattle.worker_pool.specs.inside.ActiveWorkers.{EachFinishes}
 use Rattle.worker_pool.proofs.finish.finish_all.Given as goal
 
 abbrev pub invariant-loop-k : goal.invariant-loop-k
 invariant-loop-k g l = record {
-  len : vec_len l.stations ≡ vec_len l.initial.stations;
-  many : vec_len l.desks ≡ vec_len l.initial.desks;
-  finishes : EachFinishes g.J.Job.setup g.J.Job.answers l.k l.initial.stations.items l.stations.items l.initial.desks.items l.desks.items;
-  others : (j : ℕ) (s : _) → l.k ≤ j → slice_index_or l.stations.items j s ≡ slice_index_or l.initial.stations.items j s;
-  still : (j : ℕ) (d : Desk) → l.k ≤ j → slice_index_or l.desks.items j d ≡ slice_index_or l.initial.desks.items j d;
-  done : (j : ℕ) (d : Desk) → j < l.k → IsDone (slice_index_or l.desks.items j d);
+  len : vec_len l.team ≡ vec_len l.initial.team;
+  many : vec_len l.queues ≡ vec_len l.initial.queues;
+  finishes : EachFinishes g.J.Job.setup g.J.Job.answers l.k l.initial.team.items l.team.items l.initial.queues.items l.queues.items;
+  others : (j : ℕ) (s : _) → l.k ≤ j → slice_index_or l.team.items j s ≡ slice_index_or l.initial.team.items j s;
+  still : (j : ℕ) (d : LocalQueue) → l.k ≤ j → slice_index_or l.queues.items j d ≡ slice_index_or l.initial.queues.items j d;
+  done : (j : ℕ) (d : LocalQueue) → j < l.k → IsDone (slice_index_or l.queues.items j d);
 }

@@ -2,28 +2,28 @@ use Rattle.std.proofs.Common.{◌≡◌, ◌≢◌, ◌∙◌, ℕ, ◌<◌, ◌
 use mathlib.Core.Logic.{dite}
 use native.Mathlib.Decide.{ℕ_discrete}
 use Rattle.crossbeam_deque.specs.Handles.{worker_view}
-use Rattle.worker_pool.specs.declared.desk.Desk.{Desk}
+use Rattle.worker_pool.specs.declared.queue.LocalQueue.{LocalQueue}
 use Rattle.worker_pool.specs.inside.Ring.{next_of, KnowsStolen, KnowStolen, SameNextBut, SameOwn}
 use Rattle.worker_pool.proofs.Rings.{next_of-apart, ring_whole, stolen_along}
 use Rattle.worker_pool.proofs.ring.absorb_all.Goals as goal
 
-SameOwn-trans : (d e f : Desk) → SameOwn d e → SameOwn e f → SameOwn d f
+SameOwn-trans : (d e f : LocalQueue) → SameOwn d e → SameOwn e f → SameOwn d f
 SameOwn-trans d e f same then =
     record { pushed = then.pushed ∙ same.pushed; popped = then.popped ∙ same.popped; kept = then.kept ∙ same.kept }
 
-none_next : (ds es : List Desk) (k : ℕ) → ((j : ℕ) (d : Desk) → j < k → (get_or ds j d).next ≡ None)
-    → SameNextBut k ds es → ((d : Desk) → (get_or es k d).next ≡ None)
-    → (j : ℕ) (d : Desk) → j < k + 1 → (get_or es j d).next ≡ None
+none_next : (ds es : List LocalQueue) (k : ℕ) → ((j : ℕ) (d : LocalQueue) → j < k → (get_or ds j d).next ≡ None)
+    → SameNextBut k ds es → ((d : LocalQueue) → (get_or es k d).next ≡ None)
+    → (j : ℕ) (d : LocalQueue) → j < k + 1 → (get_or es j d).next ≡ None
 none_next ds es k was others here j d lt = dite (ℕ_discrete j k)
     (λ (e : j ≡ k). subst (λ (i : ℕ). (get_or es i d).next ≡ None) (sym e) (here d))
     (λ (ne : j ≢ k). others j d ne ∙ was j d (omega arith))
 
--- what was stolen up to desk k, once its seat is taken in
-stolen_next : (n : ℕ) (init ds es : List Desk) (k next : ℕ) → next ≡ next_of n k → k < n → KnowStolen n k init ds
-    → ((d : Desk) → (get_or ds k d).next ≡ (get_or init k d).next) → ((d : Desk)
+-- what was stolen up to queue k, once its pass is taken in
+stolen_next : (n : ℕ) (init ds es : List LocalQueue) (k next : ℕ) → next ≡ next_of n k → k < n → KnowStolen n k init ds
+    → ((d : LocalQueue) → (get_or ds k d).next ≡ (get_or init k d).next) → ((d : LocalQueue)
     → (worker_view (get_or ds next d).own).stolen ≡ (worker_view (get_or init next d).own).stolen)
-    → ((j : ℕ) (d : Desk) → j ≢ next → (worker_view (get_or es j d).own).stolen ≡ (worker_view (get_or ds j d).own).stolen)
-    → ((test : ℕ → Bool) (d : Desk) → KnowsStolen test ds es k next d)
+    → ((j : ℕ) (d : LocalQueue) → j ≢ next → (worker_view (get_or es j d).own).stolen ≡ (worker_view (get_or ds j d).own).stolen)
+    → ((test : ℕ → Bool) (d : LocalQueue) → KnowsStolen test ds es k next d)
     → KnowStolen n (k + 1) init es
 stolen_next n init ds es k next is in_k was same same' still now test j d lt = dite (ℕ_discrete j k)
     (λ (e : j ≡ k).
@@ -35,7 +35,7 @@ stolen_next n init ds es k next is in_k was same same' still now test j d lt = d
     let apart : next_of n j ≢ next = (λ e. next_of-apart n j k (omega arith) in_k ne (e ∙ is)) in
     ap (count_by test) (still (next_of n j) d apart) ∙ was test j d (omega arith))
 
-stolen_here : (ds init : List Desk) (next i : ℕ) (d : Desk) → next ≡ i
+stolen_here : (ds init : List LocalQueue) (next i : ℕ) (d : LocalQueue) → next ≡ i
     → (worker_view (get_or ds i d).own).stolen ≡ (worker_view (get_or init i d).own).stolen
     → (worker_view (get_or ds next d).own).stolen ≡ (worker_view (get_or init next d).own).stolen
 stolen_here ds init next i d is same =
@@ -48,9 +48,9 @@ loop-k-preserved c =
     let n = c.len-n.result in
     let k = c.loop-k.k in
     let next = c.place_after.result in
-    let init : List Desk = c.args.desks.now.items in
-    let ds : List Desk = c.loop-k.desks.items in
-    let es : List Desk = c.absorb_one.new.desks.items in
+    let init : List LocalQueue = c.args.queues.now.items in
+    let ds : List LocalQueue = c.loop-k.queues.items in
+    let es : List LocalQueue = c.absorb_one.new.queues.items in
     record {
       len = omega arith;
       ring = now.ring;
@@ -71,5 +71,5 @@ returns-clause-whole c = λ k d within.
     let was = c.loop-k.invariant in
     record {
       next = was.none k d (omega arith);
-      right = ring_whole c.loop-k.desks.items was.ring (λ j e lt. was.none j e (omega arith)) k d within;
+      right = ring_whole c.loop-k.queues.items was.ring (λ j e lt. was.none j e (omega arith)) k d within;
     }

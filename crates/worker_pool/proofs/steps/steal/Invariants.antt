@@ -3,4 +3,4 @@ use Rattle.crossbeam_deque.specs.Handles.{view, IsPassOf, stealer_deque}
 use Rattle.worker_pool.proofs.steps.steal.Given as goal
 
 abbrev pub invariant-loop : goal.invariant-loop
-invariant-loop g l = IsPassOf (stealer_deque l.from) l.seat × (view l.seat ≡ view l.initial.seat)
+invariant-loop g l = IsPassOf (stealer_deque l.from) l.pass × (view l.pass ≡ view l.initial.pass)

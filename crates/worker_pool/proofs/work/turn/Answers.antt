@@ -27,5 +27,5 @@ returns-in-Err-clause-worked g c =
         ap (count_by (λ p. test p.0)) c.make_room.ensures.same.0.1,
       );
       same = record { deque = found.deque; right = found.right; pushed = found.pushed; stolen = found.stolen; next = found.next };
-      kept = subst (λ (n : ℕ). n < g.J.Job.limit (g.J.Job.setup c.args.station.now.worker.job)) (sym back.0) (c.in-Some.ensures.below _ c.requires.0);
+      kept = subst (λ (n : ℕ). n < g.J.Job.limit (g.J.Job.setup c.args.active.now.worker.job)) (sym back.0) (c.in-Some.ensures.below _ c.requires.0);
     }

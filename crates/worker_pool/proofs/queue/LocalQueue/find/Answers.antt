@@ -1,7 +1,7 @@
 use Rattle.std.proofs.Common.{◌≡◌, ◌∙◌, Some, sym, subst}
 use Rattle.worker_pool.proofs.Below.{below_found}
-use Rattle.worker_pool.specs.inside.Desks.{NextBelow}
-use Rattle.worker_pool.proofs.desk.Desk.find.Goals as goal
+use Rattle.worker_pool.specs.inside.Queues.{NextBelow}
+use Rattle.worker_pool.proofs.queue.LocalQueue.find.Goals as goal
 
 pub returns-then-is_some-clause-below : goal.returns-then-is_some-clause-below
 returns-then-is_some-clause-below g c = λ count below. below_found _ _ count below.0 c.pop-own.ensures.among

@@ -1,38 +1,38 @@
 //! A worker at work.
 ghost use Rattle.std.specs.Prelude.{◌≡◌, ℕ, ◌+◌, ◌<◌, Bool, [], ◌∷◌, None, IfErr, OnOk, count_by, vec_len, vec_capacity};
 ghost use Rattle.worker_pool.specs.Workers.{worker_job};
-ghost use Rattle.worker_pool.specs.inside.Stations.{answered_by, GoesOn, SameWork};
+ghost use Rattle.worker_pool.specs.inside.ActiveWorkers.{answered_by, GoesOn, SameWork};
 
-use crate::desk::Desk;
 use crate::job::Job;
+use crate::queue::LocalQueue;
 use crate::ticket::Ticket;
 use crate::worker::Worker;
 use std::alloc::{AllocError, Global};
 
-/// A worker, the desk at which it works, and the answers that it gave in this run.
+/// A worker, the queue that it works on, and the answers that it gave in this run.
 #[derive(Drop)]
-pub struct Station<J: Job> {
+pub struct ActiveWorker<J: Job> {
     pub worker: Worker<J>,
     pub answers: Vec<(u32, J::Answer)>,
-    pub desk: Option<Desk>,
+    pub queue: Option<LocalQueue>,
 }
 
-impl<J: Job> Station<J> {
-    /// A station for this worker, without a desk and without an answer. It takes no memory.
-    pub fn new(alloc: Global, worker: Worker<J>) -> Station<J>
+impl<J: Job> ActiveWorker<J> {
+    /// This worker, without a queue and without an answer. It takes no memory.
+    pub fn new(alloc: Global, worker: Worker<J>) -> ActiveWorker<J>
         ensures worker { result.worker ≡ worker }
-        ensures rest { (result.answers.items ≡ []) × (result.desk ≡ None) }
+        ensures rest { (result.answers.items ≡ []) × (result.queue ≡ None) }
     {
-        Station {
+        ActiveWorker {
             worker,
             answers: Vec::new(alloc),
-            desk: None,
+            queue: None,
         }
     }
 
     /// Makes room for one answer.
     pub fn make_room(&mut self) -> Result<(), AllocError>
-        ensures same { SameWork self.old self.new × (self.new.desk ≡ self.old.desk) }
+        ensures same { SameWork self.old self.new × (self.new.queue ≡ self.old.queue) }
         ensures room { OnOk result (vec_len self.new.answers < vec_capacity self.new.answers) }
     {
         self.answers.reserve(1)
@@ -43,7 +43,7 @@ impl<J: Job> Station<J> {
         requires limit { ticket < J.limit (J.setup (worker_job self.old.worker)) }
         requires room { vec_len self.old.answers < vec_capacity self.old.answers }
         ensures on { GoesOn J.setup J.answers self.old self.new }
-        ensures desk { self.new.desk ≡ self.old.desk }
+        ensures queue { self.new.queue ≡ self.old.queue }
         ensures done { OnOk result ((test : ℕ → Bool) → answered_by test self.new ≡ answered_by test self.old + count_by test (ticket ∷ [])) }
         ensures refused { IfErr result (λ back. (back ≡ ticket) × (self.new.answers.items ≡ self.old.answers.items)) }
     {
