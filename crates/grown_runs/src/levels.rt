@@ -154,6 +154,8 @@ where
     let onward = growth.onward.as_slice();
     let list = levels.end(onward, growth.child_count, on.limits.most_plans as usize)?;
     outcomes.absorb(&growth.outcomes)?;
+    // (what it holds stands in the list and the outcomes now, and would stand there twice while the last plans run)
+    drop(growth);
     let growth = run_behind(on, &list.plans, end)?;
     outcomes.absorb(&growth.outcomes)?;
     Ok(Grown { list, outcomes })

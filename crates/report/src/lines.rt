@@ -59,7 +59,7 @@ pub(crate) fn write_points<N: Names>(
     Ok(())
 }
 
-/// The line of a plan.
+/// The line of a plan. Most plans pass, so what such a line ends with is written at once.
 fn write_numbered<N: Names>(
     out: &mut String,
     names: &N,
@@ -71,6 +71,9 @@ fn write_numbered<N: Names>(
     let mut digits = Buffer::new();
     out.push_str("verdict ")?;
     out.push_str(digits.format(number))?;
+    if matches!(verdict, Verdict::Pass) {
+        return out.push_str(" pass\n");
+    }
     out.push_str(" ")?;
     write_verdict(out, names, verdict)?;
     out.push_str("\n")
