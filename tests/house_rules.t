@@ -5,7 +5,7 @@ toolchain is a stand-in, and so are the tools that hold pages.
   $ toolchain() { printf '#!/bin/sh\necho %s\n' "$1" > "$TMPDIR/bin/rt"; }
   $ TMPDIR=$PWD PATH=$PWD/bin:$PATH && toolchain 'kit-1b logic 0a' && chmod +x bin/rt
   $ cp "$TESTDIR/../tools/house_rules" "$TESTDIR/../tools/logic" repo/tools && cd repo
-  $ for tool in page_rules layers believe frame; do printf '#!/bin/sh\n' > tools/$tool && chmod +x tools/$tool; done
+  $ for tool in page_rules layers believe frame uncited; do printf '#!/bin/sh\n' > tools/$tool && chmod +x tools/$tool; done
   $ touch crates.txt examples/own_target/main.rt.txt examples/own_target/commands.rt.txt
   $ echo 'It is proved with logic 0a.' > README.md && git init -q . && git add .
   $ tools/house_rules
@@ -48,9 +48,19 @@ Files of crates are in the toolchain's layout, which a stand-in for `rt fmt` tel
   crates/small/src/lib.rt
   [1]
 
-One that can't be read is told too.
+A lemma that nothing cites is told, though it cites itself; one that its own file or another one cites isn't.
 
-  $ echo laid > crates/small/src/lib.rt && echo '[ "$1" != fmt ] || { echo src/lib.rt:1: error; exit 1; }' >> ../bin/rt && tools/house_rules
+  $ echo laid > crates/small/src/lib.rt && cp "$TESTDIR/../tools/uncited" tools && mkdir -p crates/small/proofs/double
+  $ printf 'pub twice : A → A\ntwice a = once (once a)\n\nonce : A → A\nonce a = a\n\npub over : A → A\nover a = over a\n' > crates/small/proofs/Lemmas.antt
+  $ printf 'use Rattle.small.proofs.Lemmas.{twice}\n\npub returns : goal.returns\nreturns c = twice c\n' > crates/small/proofs/double/Answers.antt
+  $ git add . && tools/house_rules
+  definitions and lemmas that nothing cites:
+  crates/small/proofs/Lemmas.antt:7: over
+  [1]
+
+A file that `rt fmt` can't read is told too.
+
+  $ rm -r crates/small/proofs && git add . && echo '[ "$1" != fmt ] || { echo src/lib.rt:1: error; exit 1; }' >> ../bin/rt && tools/house_rules
   files that aren't in the layout of rt fmt:
   rt fmt fails: src/lib.rt:1: error
   [1]

@@ -1,5 +1,5 @@
 -- A text, kept in 32 bytes.
-use Rattle.std.proofs.Common.{◌≡◌, ℕ, zero, suc, ◌-◌, ◌≤◌, true, List, ◌++◌, length, length-append, take, drop, replicate, ap, sym, subst, ◌∙◌, arith}
+use Rattle.std.proofs.Common.{◌≡◌, ℕ, zero, suc, ◌-◌, ◌≤◌, true, List, ◌++◌, length, length-append, take, drop, ap, sym, subst, ◌∙◌, arith}
 use Rattle.std.specs.Prelude.{IsUtf8}
 use Rattle.std.proofs.lemmas.List.{length-replicate, take_at}
 use Rattle.scenario_values.specs.Scenario.{is_argument}

@@ -15,7 +15,7 @@ use Rattle.scenario_values.specs.Origins.{number_of, left_numbers}
 use Rattle.action_eval.proofs.Shut.{first_flag, other_flags, shut_term, shut, tidied_chain_with, tidied_from}
 use Rattle.action_eval.proofs.Chains.{same_self, same_back, same_then, same_by, under, without, endless, idle, off}
 use Rattle.action_eval.proofs.Tidied.{and_first, and_second, uncounted_is, off_is, idle_pair, one_less}
-use Rattle.action_eval.proofs.TidiedEntries.{flipped, put_found, put_other, tidied_nothing}
+use Rattle.action_eval.proofs.TidiedEntries.{flipped, put_found, put_other}
 
 abbrev flags : List ℕ → ℕ → List Term → List Bool
 flags set n ts = map (holds set) (left_numbers n ts)

@@ -104,10 +104,6 @@ tidied_count n c = ends_count (joined (clipped c)) ∙ joined_count (clipped c) 
 
 -- ---- by their own numbers
 
--- the flags by the numbers of one set are those by the numbers from m on of another
-abbrev Fits : List ℕ → List ℕ → ℕ → List ℕ → Type 0
-Fits set own m ns = SameFaults set own m ns
-
 shut_case : (own : List ℕ) (m : ℕ) (t : Term) (ts : List Term) (set : List ℕ) (ns : List ℕ) (b : Bool)
     → ((m : ℕ) (ns : List ℕ) → SameFaults set own m ns → faults_in ts ≡ length ns → shut (map (holds set) ns) ts ≡ kept_chain own m ts)
     → SameFaults set own m ns → cond b (faults_in ts) (suc (faults_in ts)) ≡ length ns

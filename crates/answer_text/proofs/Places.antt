@@ -38,12 +38,5 @@ put_before names entries after number n name h e is updates =
           ∙ ap (position_from (bytes_eq key) n) (sym cons);
     }
 
-none_left : (names : List (List ℕ)) → drop (length names) names ≡ []
-none_left [] = refl
-none_left (name ∷ names) = none_left names
-
-pub none_put : (names : List (List ℕ)) (entries : List (Bor (List ℕ) × ℕ)) → entries ≡ [] → Places names entries (length names)
-none_put names entries e = record { within = omega arith; found = λ key. rw (e, none_left names) refl }
-
 pub all_put : (names : List (List ℕ)) (entries : List (Bor (List ℕ) × ℕ)) → Places names entries 0 → IsIndexOf entries names
 all_put names entries h name = h.found name ∙ sym (position_from-zero (bytes_eq name) names)

@@ -29,22 +29,9 @@ count_of hits = sum (map (λ s. s.count) hits)
 abbrev pub most_hits : ℕ
 most_hits = 65536
 
--- ---- the text of hits
-
-abbrev pub count_text : ℕ → List ℕ
-count_text count = if count == 1 then [] else decimal count ++ codes "*"
-
 -- The name of the point at a place.
 abbrev pub name_of : List (List ℕ) → ℕ → List ℕ
 name_of points point = slice_index_or points point []
-
-abbrev pub stretch_text : List (List ℕ) → Stretch → List ℕ
-stretch_text points s = count_text s.count ++ name_of points s.point
-
-abbrev pub hits_text : List (List ℕ) → List Stretch → List ℕ
-hits_text points [] = []
-hits_text points (s ∷ []) = stretch_text points s
-hits_text points (s ∷ t ∷ more) = stretch_text points s ++ (59 ∷ hits_text points (t ∷ more))
 
 -- ---- a text of hits, read
 

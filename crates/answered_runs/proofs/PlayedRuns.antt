@@ -2,7 +2,7 @@
 use Rattle.std.proofs.Common.{◌≡◌, ◌⊎◌, inl, inr, ℕ, zero, suc, ◌+◌, ◌<◌, ◌≤◌, ◌==◌, ◌&&◌, ◌||◌, nat_le, Bool, true, false, cond, Option, Some, None, List, [], ◌∷◌, ◌++◌, length, take, get_or, refl, ap, sym, ◌∙◌, subst, arith}
 use Rattle.std.specs.Prelude.{Contains, ◌^◌, IfSome, option_and_then, slice_get, slice_index_or}
 use Rattle.std.specs.List.{AllByRecursion, list_all}
-use Rattle.std.proofs.lemmas.Bool.{cases_lt, leb-true}
+use Rattle.std.proofs.lemmas.Bool.{cases_lt}
 use Rattle.std.proofs.lemmas.Bool.Decides.{Decides-eqb}
 use Rattle.std.proofs.lemmas.List.{take_all, take_more}
 use Rattle.std.proofs.lemmas.List.Folds.{list_all_at}
@@ -38,7 +38,7 @@ use Rattle.answered_runs.specs.inside.Played.{Adds, AddsLine, AreDone, AreMarked
 use Rattle.answered_runs.specs.declared.tree.Next.TheVariants.{End}
 use Rattle.answered_runs.specs.declared.tree.Said.{Said}
 use Rattle.answered_runs.specs.inside.Steps.{is_certain, is_sure}
-use Rattle.answered_runs.specs.inside.Trees.{AreKept, Grows, HaveKnownPoints, IsKept, IsPut, IsSeen, IsSound, IsTold, IsUnseen, Leads, StaysApart, Tree, line_seen, move_of}
+use Rattle.answered_runs.specs.inside.Trees.{AreKept, Grows, HaveKnownPoints, IsKept, IsSeen, IsSound, IsTold, IsUnseen, Leads, StaysApart, Tree, move_of}
 use Rattle.answered_runs.proofs.LineReading.{At, all_before, begins, line_of as line_on, next_line, reads_here, same_line, scenario_here}
 use Rattle.answered_runs.proofs.Places.{grows_same, kept_grow}
 use Rattle.answered_runs.proofs.ReadHits.{HasFew, ToldFew, known_run_few, points_below}
@@ -110,17 +110,6 @@ pub certain_not : (s : Entries) (i : ℕ) → i < length s → list_all is_sure 
 certain_not s i less here = sym (list_all_at chain_sure s i none_named less (ap (list_all is_sure) (sym (chain_here s i less)) ∙ here))
 
 -- ---- the hits of what is recorded
-
-hits_few : (o : Option (List Stretch)) (hits : List ℕ) → option_and_then hits_by o ≡ Some hits → length hits ≤ 65536
-hits_few None hits e = absurd cc
-hits_few (Some stretches) hits e = by_test (list_all is_low stretches && nat_le (length (points_of stretches)) most_hits) refl e
-  where
-    by_test : (b : Bool) → list_all is_low stretches && nat_le (length (points_of stretches)) most_hits ≡ b → cond b (Some (points_of stretches)) None ≡ Some hits → length hits ≤ 65536
-    by_test true f g =
-        let same : points_of stretches ≡ hits = cc in
-        let few : length (points_of stretches) ≤ 65536 = leb-true (length (points_of stretches)) most_hits (and_true (list_all is_low stretches) (nat_le (length (points_of stretches)) most_hits) f).1 in
-        subst (λ (l : List ℕ). length l ≤ 65536) same few
-    by_test false f g = absurd cc
 
 hits_known : (n : ℕ) (o : Option (List Stretch)) → HasFew n o → IfSome (option_and_then hits_by o) (λ hits. AllByRecursion (λ p. p < n) hits)
 hits_known n None few = tt
@@ -247,13 +236,6 @@ module _ (codes points : List (List ℕ)) (a : Answered) (x : Played) (line : Li
     state = state;
     goes = goes_same x;
     done = λ s r t is run e same. marked s r t (ap (λ (n : ℕ). slice_index_or x.own.items n false) is ∙ own);
-  }
-
-  pub unread_line : (o : Option Entries) → o ≡ None → IsScenarioOn codes points line o → IsLineAdded codes points a x x line number None
-  unread_line o none h = record {
-    state = state;
-    goes = goes_same x;
-    done = λ s r t is run e same. absurd (subst (IsScenarioOn codes points line) none h run e);
   }
 
   -- another line is the first one with this scenario

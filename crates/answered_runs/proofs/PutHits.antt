@@ -265,11 +265,6 @@ module _ (a : Answered) (s : Entries) (run : SeenRun) where
         let short : length (take i run.hits.now) ≤ length run.hits.now = (let l = length-take-le i run.hits.now p.within in let w = p.within in omega (arith, l, w)) in
         ap is_cut_short p.now_is ∙ short_over a.points s (length run.hits.now) (take i run.hits.now) short ∙ p.goes i (omega arith)
 
-    pub next_run : (i < length run.hits.now) → hit now (get_or run.hits.now i 0) ≡ run_of s a.points 0 0 (length run.hits.now) (take (i + 1) run.hits.now)
-    next_run less =
-        ap (λ (r : Run). hit r (get_or run.hits.now i 0)) p.now_is
-        ∙ ap (run_of s a.points 0 0 (length run.hits.now)) (sym (take_more run.hits.now i 0 less))
-
   module _ (t0 u : Tree) (i m : ℕ) (g : Through a s run t0 u i m) where
     few : i < length run.hits.now → length (take (i + 1) run.hits.now) ≤ length run.hits.now
     few less = let l = length-take-le (i + 1) run.hits.now (omega (arith, less)) in omega (arith, l, less)

@@ -1,5 +1,5 @@
 -- The plans with which a list begins, and those behind them.
-use Rattle.std.proofs.Common.{◌≡◌, ℕ, zero, suc, ◌+◌, ◌<◌, ◌≤◌, Option, None, Some, List, [], ◌∷◌, ◌++◌, map, length, refl, ap, sym, ◌∙◌, arith, append_assoc, length-append, subst}
+use Rattle.std.proofs.Common.{◌≡◌, ℕ, zero, suc, ◌+◌, ◌<◌, ◌≤◌, Option, None, Some, List, [], ◌∷◌, ◌++◌, map, length, refl, ap, sym, ◌∙◌, arith, append_assoc, subst}
 use Rattle.std.specs.Prelude.{slice_get, Result, Ok, Err, IfOk, OnOk}
 use Rattle.std.specs.List.{AllByRecursion}
 use Rattle.std.proofs.lemmas.List.{length-map, map-append}
@@ -12,11 +12,10 @@ use Rattle.grown_plans.proofs.Members.{all_left}
 use Rattle.grown_plans.specs.numbered.GrownScenarios.{grown_among, grown_scenario, grown_scenarios}
 use Rattle.grown_runs.specs.Grown.{begun}
 use Rattle.grown_runs.proofs.Begun.{begun_front, begun_most, begun_all}
-use Rattle.campaign_core.specs.CommandTexts.{counted_to, with_rest}
+use Rattle.campaign_core.specs.CommandTexts.{counted_to}
 use Rattle.campaign_core.specs.Headline.{Campaign, census, grower, plans_to}
-use Rattle.campaign_core.specs.Planned.{AreBegun, AreGrown, listed_to}
+use Rattle.campaign_core.specs.Planned.{AreBegun, AreGrown}
 use Rattle.plan_gen.specs.Census.{sites_of}
-use Rattle.plan_gen.specs.PlanList.{Asked, plan_list}
 use Rattle.grown_plans.specs.Promises.{IsLawful}
 use Rattle.campaign_core.proofs.FirstLevel.{few_sites_of}
 use Rattle.campaign_core.proofs.Grown.{list_is, plans_counted, plans_some}

@@ -1,5 +1,5 @@
 -- What is known of plans that grew: their verdicts, and which are causes.
-use Rattle.std.proofs.Common.{◌≡◌, ℕ, zero, suc, ◌+◌, ◌<◌, ◌≤◌, Bool, true, false, cond, Option, None, Some, IfSome, option_map, List, [], ◌∷◌, ◌++◌, map, length, get_or, refl, ap, sym, ◌∙◌, arith, append_assoc, length-append, add-zero, subst, All}
+use Rattle.std.proofs.Common.{◌≡◌, ℕ, zero, suc, ◌+◌, ◌<◌, ◌≤◌, Bool, true, false, cond, Option, None, Some, IfSome, List, [], ◌∷◌, ◌++◌, map, length, get_or, refl, ap, sym, ◌∙◌, arith, append_assoc, length-append, add-zero, subst, All}
 use Rattle.std.specs.List.{AllByRecursion}
 use Rattle.std.proofs.lemmas.List.{get_or_append_left, get_or-map, length-map, length-append}
 use Rattle.std.proofs.lemmas.List.Elements.{All-from_recursion}
@@ -11,18 +11,17 @@ use Rattle.target_trait.specs.Outcomes.{verdict_with}
 use Rattle.target_trait.specs.declared.judgement.Verdict.{Verdict}
 use Rattle.target_trait.specs.declared.judgement.Verdict.TheVariants as verdict
 use Rattle.plan_gen.specs.Census.{sites_of}
-use Rattle.action_eval.specs.RiggedScenario.{CanBeRigged}
 use Rattle.plan_gen.specs.PlanList.{Asked, storm_part, further_list}
 use Rattle.plan_gen.proofs.Counting.{further_judged}
 use Rattle.grown_plans.specs.GrownPlans.{Subject, rigs_of, scenario_of, level, levels, levels_to, onward, grown, grown_list, reached}
 use Rattle.grown_plans.proofs.Members.{all_append}
 use Rattle.grown_runs.specs.GrownRuns.{over, verdict_at, cause_at, cause_by, is_least}
-use Rattle.grown_plans.specs.numbered.GrownScenarios.{grown_among, grown_scenario, grown_scenarios}
+use Rattle.grown_plans.specs.numbered.GrownScenarios.{grown_scenarios}
 use Rattle.grown_runs.specs.declared.levels.Grown.{Grown}
 use Rattle.campaign_core.specs.Headline.{Campaign, census, grower, plans, plans_to, say}
 use Rattle.report.specs.Reports.{GrowthFacts}
 use Rattle.campaign_core.specs.Findings.{growth_of}
-use Rattle.campaign_core.specs.Planned.{IsGrownTo, listed_to, AreKnown}
+use Rattle.campaign_core.specs.Planned.{IsGrownTo, AreKnown}
 use Rattle.result_book.specs.Ranges.{AreSaid}
 
 over_length : {A : Type 0} (f : ℕ → List Rig → A) (plans : List (List Rig)) (first count : ℕ) → length (over (λ n p. f n p ∷ []) plans first count) ≡ count
@@ -111,16 +110,6 @@ causes_listed t seed d m causes are few =
     (causes_below t seed (grown t d) 0 (length (grown t d)) m (omega (arith, few))))
 
 -- ---- what a campaign's plans are kept in
-
--- the plans in their places
-pub plans_are : (k : Campaign) (depth : Option ℕ) (g : Option Grown) (listed : List Entries) → IsGrownTo k depth g → listed ≡ listed_to k depth
-    → grown_scenarios k.points (grown_among (option_map (λ (r : Grown). r.list.plans) g)) ++ listed ≡ plans_to k depth
-plans_are k None None listed is e = e
-plans_are k None (Some g) listed is e = absurd is
-plans_are k (Some d) None listed is e = absurd is
-plans_are k (Some d) (Some g) listed is e =
-    ap (λ ps. grown_scenarios k.points ps ++ listed) is.has_grown.plans ∙ ap (λ l. grown_scenarios k.points (grown (grower k) d) ++ l) e
-    ∙ list_is (grower k) d k.given.plans (census k)
 
 -- what is known of those that grew
 pub plans_known : (k : Campaign) (depth : Option ℕ) (g : Grown) (verdicts : List Verdict) → IsGrownTo k depth (Some g) → verdicts ≡ g.outcomes.verdicts.items

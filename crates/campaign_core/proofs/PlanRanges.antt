@@ -8,6 +8,7 @@ use Rattle.result_book.specs.Ranges.{AreSaid}
 use Rattle.result_book.proofs.RangeLemmas.{range_length, range_said}
 use Rattle.grown_runs.specs.ranges.Ranges.{range_count, range_start}
 use Rattle.campaign_core.specs.inside.Ranges.{range_from, range_of}
+use Rattle.grown_runs.proofs.RangeParts.{range_within}
 
 -- The number stands in one of the ranges, which have one size.
 abbrev InRange : (plans size m : ℕ) → Type 0
@@ -21,16 +22,6 @@ in_sized false false plans m lt = (m / 64, (omega arith, omega arith, omega arit
 -- each plan stands in a range
 in_range : (plans m : ℕ) → m < plans → (range : ℕ) × ((range < range_count plans) × (range_start plans range ≤ m) × (m < range_start plans (range + 1)))
 in_range plans m lt = in_sized (nat_le plans 1024) (nat_le plans 16384) plans m lt
-
-sized_within : (few some : Bool) (plans range : ℕ)
-    → min (range * cond few 1 (cond some 16 64)) plans ≤ min ((range + 1) * cond few 1 (cond some 16 64)) plans
-sized_within true some plans range = omega arith
-sized_within false true plans range = omega arith
-sized_within false false plans range = omega arith
-
--- a range ends within the plans
-range_within : (plans range : ℕ) → (range_start plans range ≤ range_start plans (range + 1)) × (range_start plans (range + 1) ≤ plans)
-range_within plans range = (sized_within (nat_le plans 1024) (nat_le plans 16384) plans range, omega arith)
 
 -- the same of the plans from a number on
 pub from_within : (plans first range : ℕ) → first ≤ plans

@@ -11,12 +11,10 @@ use Rattle.scenario_values.specs.Scenario.{Entries}
 use Rattle.action_eval.specs.declared.rig.Rig.{Rig}
 use Rattle.action_eval.specs.Answers.{given_of}
 use Rattle.target_trait.specs.Outcomes.{Told, outcome}
-use Rattle.plan_gen.specs.Census.{counts_of}
 use Rattle.plan_gen.specs.LoopRuns.{times}
 use Rattle.plan_gen.specs.PlanList.{Asked, plan_list, further_list}
 use Rattle.grown_plans.specs.GrownPlans.{Subject, grown, most, reached, scenario_of}
 use Rattle.grown_plans.specs.Promises.{IsLawful}
-use Rattle.grown_runs.specs.Grown.{reached_each}
 use Rattle.grown_runs.specs.GrownRuns.{over, hits_at, told}
 use Rattle.grown_runs.specs.declared.levels.Grown.{Grown}
 use Rattle.grown_runs.proofs.LevelRuns.{reached_is}

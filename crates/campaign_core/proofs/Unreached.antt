@@ -1,7 +1,6 @@
 -- Which points no run asks, by what ranges leave that workers ran in whatever order.
-use Rattle.std.proofs.Common.{◌≡◌, ℕ, zero, suc, ◌+◌, ◌-◌, ◌*◌, ◌<◌, ◌≤◌, ◌==◌, ◌||◌, ◌&&◌, Bool, true, false, not, cond, nat_eq, nat_le, min, List, [], ◌∷◌, ◌++◌, filter, length, drop, Vec, Global, count_by, refl, sym, ap, ◌∙◌, arith, zero-add, add-one, eq-eqb}
-use Rattle.std.specs.Int.{div_ceil}
-use Rattle.std.specs.List.{list_all, list_any, range_with_len, slice_range, sum_by}
+use Rattle.std.proofs.Common.{◌≡◌, ℕ, zero, suc, ◌+◌, ◌-◌, ◌<◌, ◌≤◌, ◌==◌, ◌||◌, ◌&&◌, Bool, true, false, not, cond, nat_eq, List, [], ◌∷◌, ◌++◌, filter, length, drop, Vec, Global, count_by, refl, sym, ap, ◌∙◌, arith, zero-add, add-one, eq-eqb}
+use Rattle.std.specs.List.{list_all, range_with_len, slice_range, sum_by}
 use Rattle.std.proofs.lemmas.Bool.{ne_eqb}
 use Rattle.std.proofs.lemmas.List.{drop_all}
 use Rattle.std.proofs.lemmas.List.Elements.{filter-append}
@@ -21,6 +20,7 @@ use Rattle.result_book.proofs.RangeLemmas.{length_range}
 use Rattle.result_book.proofs.Reached.{runs_append}
 use Rattle.campaign_core.specs.inside.Ranges.{AreRanges, is_left_in, part_of, range_from, range_of}
 use Rattle.campaign_core.proofs.PlanRanges.{from_within}
+use Rattle.grown_runs.proofs.RangeParts.{range_begin, range_end}
 
 -- ---- truth and counts
 
@@ -81,21 +81,11 @@ kept_more f n =
 
 -- ---- ranges, one after another
 
-begins_sized : (few some : Bool) (plans : ℕ) → min (0 * cond few 1 (cond some 16 64)) plans ≡ 0
-begins_sized true some plans = omega arith
-begins_sized false true plans = omega arith
-begins_sized false false plans = omega arith
-
 begins : (plans first : ℕ) → first ≡ first + range_start (plans - first) 0
-begins plans first = let none = begins_sized (nat_le (plans - first) 1024) (nat_le (plans - first) 16384) (plans - first) in omega (arith, none)
-
-ends_sized : (few some : Bool) (plans : ℕ) → min (div_ceil plans (cond few 1 (cond some 16 64)) * cond few 1 (cond some 16 64)) plans ≡ plans
-ends_sized true some plans = omega arith
-ends_sized false true plans = omega arith
-ends_sized false false plans = omega arith
+begins plans first = let none = range_begin (plans - first) in omega (arith, none)
 
 ends : (plans first : ℕ) → first ≤ plans → first + range_start (plans - first) (range_count (plans - first)) ≡ plans
-ends plans first fit = let all = ends_sized (nat_le (plans - first) 1024) (nat_le (plans - first) 16384) (plans - first) in omega (arith, all, fit)
+ends plans first fit = let all = range_end (plans - first) in omega (arith, all, fit)
 
 reached_split : (run : ℕ → Entries → Told) (plans : List Entries) (p at end : ℕ) → at ≤ end → end ≤ length plans
     → is_reached (runs_from run at (drop at plans)) p

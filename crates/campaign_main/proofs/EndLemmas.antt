@@ -1,5 +1,5 @@
 -- Ends, by what a command came to and by what was read.
-use Rattle.std.proofs.Common.{◌≡◌, ◌≤◌, ◌<◌, ◌∙◌, ℕ, Bool, true, false, List, Option, Some, None, IfSome, IfOk, OnOk, Result, Ok, Err, length, refl, string_bytes, sym, ap, inl, inr, subst, if◌then◌else◌}
+use Rattle.std.proofs.Common.{◌≡◌, ◌≤◌, ◌<◌, ◌∙◌, ℕ, Bool, true, false, List, Option, Some, None, IfSome, OnOk, Result, Ok, Err, length, refl, string_bytes, sym, ap, inl, inr, subst, if◌then◌else◌}
 use Rattle.std.proofs.lemmas.Bool.{false_from_ne_true, le-ltb, lt-ltb, true≢false}
 use Rattle.std.proofs.lemmas.Str.{IsUtf8-from_is_utf8, is_utf8-from_IsUtf8}
 use Rattle.std.specs.Str.{IsUtf8, is_utf8}
@@ -18,12 +18,11 @@ use Rattle.campaign_main.specs.declared.exit.Exit.{Exit}
 use Rattle.campaign_main.specs.declared.exit.Exit.TheVariants as exit
 use Rattle.campaign_main.specs.declared.input.ReadFault.{ReadFault}
 use Rattle.campaign_main.specs.declared.input.ReadFault.TheVariants as read
-use Rattle.campaign_main.specs.Commands.{Answer, Refusal, bad_scenario, bad_settings, campaign_for, choice_answer, given_answer, no_plan, not_text, of_text, text_answer}
-use Rattle.campaign_main.specs.Ends.{ComesTo, EndsAs, EndsBy, FallsShort, HasNotes, IsCutOff, IsEndOf, IsEndOfCommand, IsNoted, IsRefused, IsWritten, Leaves, OnWhole, RefusesWith, Tells, TellsANote, TellsARefusal, TellsAs, TellsBy, TellsNotes, TellsOf, TellsRefusal}
+use Rattle.campaign_main.specs.Commands.{Answer, Refusal, bad_scenario, bad_settings, choice_answer, given_answer, no_plan, not_text, of_text, text_answer}
+use Rattle.campaign_main.specs.Ends.{ComesTo, EndsAs, EndsBy, FallsShort, HasNotes, IsEndOf, IsEndOfCommand, IsNoted, IsRefused, IsWritten, Leaves, OnWhole, RefusesWith, Tells, TellsANote, TellsARefusal, TellsAs, TellsNotes, TellsOf, TellsRefusal}
 use Rattle.campaign_main.specs.declared.exit.Conclusion.{Conclusion}
 use Rattle.campaign_main.specs.declared.exit.Conclusion.TheVariants.{Clean, Failed, Doubtful}
 use Rattle.campaign_main.specs.Exit.{exit_of}
-use Rattle.campaign_main.specs.Promises.{KeepsPromises, TextKeepsPromises}
 use Rattle.campaign_main.proofs.NoteLemmas.{found-notes}
 use Rattle.campaign_main.specs.FaultLines.{refusal_line, scenario_line, settings_line, read_fault_line, unreadable_line}
 
@@ -88,23 +87,6 @@ refuses-whole line (exit.Write n) w claim told = absurd told
 -- ---- by what a command over a target came to
 
 module _ (answer : Answer) (w : Change) where
-  written-sound : (a : Answer) (found : Conclusion) → IsWritten a w found → w.failed ≡ false
-  written-sound (Ok text) found h = h.0.1
-  written-sound (Err refusal) found h = absurd h
-
-  cut-broken : (a : Answer) (n : ℕ) → IsCutOff a w n → w.failed ≡ true
-  cut-broken (Ok text) n h = h.2
-  cut-broken (Err refusal) n h = absurd h
-
-  -- what an end says of its answer, it says of the output
-  pub leaves : (end : Exit) → EndsAs end answer w → Leaves end w
-  leaves exit.Kept h = written-sound answer Clean h
-  leaves exit.Found h = written-sound answer Failed h
-  leaves exit.Doubted h = written-sound answer Doubtful h
-  leaves exit.Refused h = h
-  leaves exit.Memory h = h
-  leaves (exit.Write n) h = cut-broken answer n h
-
   pub found-ends : (found : Conclusion) → IsWritten answer w found → EndsAs (exit_of found) answer w
   found-ends Clean h = h
   found-ends Failed h = h
@@ -236,11 +218,6 @@ module _ (order : Order) (text : List ℕ) where
     pub answer-chosen : text_answer order text ≡ choice_answer order s.campaign s.choice
     unfolding text_answer
     answer-chosen = let f : Read Settings → Answer = given_answer order in ap f is
-
-    pub text-promises : IfSome (campaign_for s.campaign s.choice) (KeepsPromises order) → TextKeepsPromises order text
-    text-promises kept =
-        let P : Read Settings → Type 0 = λ r. IfOk r (λ s. IfSome (campaign_for s.campaign s.choice) (KeepsPromises order)) in
-        subst P (sym is) kept
 
 -- ---- by the bytes
 

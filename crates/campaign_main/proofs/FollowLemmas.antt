@@ -1,5 +1,5 @@
 -- Looks at answers that grow, what they write, and how following them ends.
-use Rattle.std.proofs.Common.{◌≡◌, ◌≤◌, ◌<◌, ◌+◌, ◌∙◌, ℕ, Bool, true, false, List, [], ◌∷◌, ◌++◌, Option, Some, None, IfErr, IfSome, IsErrAnd, OnOk, Result, Ok, Err, length, take, drop, fold, cond, refl, ap, sym, subst, inl, inr, ◌⊎◌, arith, append_assoc, length-append, string_bytes}
+use Rattle.std.proofs.Common.{◌≡◌, ◌≤◌, ◌<◌, ◌+◌, ◌∙◌, ℕ, Bool, true, false, List, [], ◌∷◌, ◌++◌, Option, Some, None, IfErr, IfSome, IsErrAnd, Result, Ok, Err, length, take, drop, fold, cond, refl, ap, sym, subst, inl, inr, ◌⊎◌, arith, append_assoc, length-append}
 use Rattle.std.specs.Prelude.{String}
 use Rattle.std.specs.List.{concat, list_any}
 use Rattle.std.specs.Str.{bytes_eq}
@@ -10,7 +10,7 @@ use Rattle.std.proofs.lemmas.Bool.{false≢true}
 use Rattle.std.proofs.Math.Seq.{take-append-add}
 use Rattle.std.proofs.lemmas.List.{append-nil}
 use Rattle.indexmap.specs.IndexSet.{insert_key}
-use Rattle.campaign_core.specs.Writes.{Change, IsUntouched, WritesPart, WritesWhole}
+use Rattle.campaign_core.specs.Writes.{Change, IsUntouched, WritesPart}
 use Rattle.campaign_core.specs.declared.ending.CampaignFault.TheVariants as campaign
 use Rattle.command_words.specs.declared.words.Question.{Question}
 use Rattle.outside_campaign.specs.declared.refusal.OutsideFault.TheVariants as outside
@@ -20,12 +20,11 @@ use Rattle.campaign_main.specs.declared.exit.Exit.{Exit}
 use Rattle.campaign_main.specs.declared.exit.Exit.TheVariants as exit
 use Rattle.campaign_main.specs.Commands.{Refusal}
 use Rattle.campaign_main.specs.Ends.{IsNoted, TellsOf}
-use Rattle.campaign_main.specs.Following.{AreDone, AreLooks, EndsFollow, EndsFollowed, GrewTo, IsLastLook, IsLookedAt, IsNotFollowed, IsOfLines, LeavesFollow, Look, NotesFollow, TellsSome, WereLooks, asks_all, lines_in, lines_with, told_by, told_text}
-use Rattle.campaign_main.specs.QuestionNotes.{question_notes}
+use Rattle.campaign_main.specs.Following.{AreLooks, EndsFollowed, GrewTo, IsLookedAt, IsNotFollowed, IsOfLines, Look, TellsSome, asks_all, lines_in, lines_with, told_by, told_text}
 use Rattle.campaign_main.specs.Questions.{EndsAnswered, IsAnswer, IsEndOfQuestion, IsNotAnswered, IsUnanswered, Subject, TellsOfQuestion, TellsWhy, subject_of}
 use Rattle.campaign_main.specs.declared.following.FollowFault.{FollowFault}
 use Rattle.campaign_main.specs.declared.following.FollowFault.TheVariants as follow
-use Rattle.campaign_main.specs.inside.Looks.{ComesToFollow, FailsAt, FailsFollow, HaveTold, LookFails, TellFails, since}
+use Rattle.campaign_main.specs.inside.Looks.{ComesToFollow, FailsAt, FailsFollow, HaveTold, LookFails, TellFails}
 use Rattle.campaign_main.proofs.LineLemmas.{added}
 use Rattle.campaign_main.proofs.QuestionLemmas.{fault-ends, fault-tells, refused-why, some-why}
 

@@ -1,5 +1,5 @@
 -- What is noted beside a text, by the order.
-use Rattle.std.proofs.Common.{◌≡◌, [], ◌∷◌, ℕ, Bool, true, false, List, Option, None, Some, Result, Ok, Err, IfOk, length, refl, inl, if◌then◌else◌}
+use Rattle.std.proofs.Common.{ℕ, Bool, true, false, List, Option, None, Some, Result, Ok, Err, IfOk, length, refl, inl, if◌then◌else◌}
 use Rattle.std.specs.Prelude.{nat_lt}
 use Rattle.scenario_values.specs.Scenario.{Entries}
 use Rattle.plan_gen.specs.PlanList.{most_plans}
@@ -26,7 +26,7 @@ use Rattle.command_words.specs.declared.words.Which.{Which}
 use Rattle.campaign_main.specs.declared.exit.Exit.{Exit}
 use Rattle.campaign_main.specs.declared.exit.Exit.TheVariants as exit
 use Rattle.campaign_main.specs.Commands.{Answer, Refusal, answer_with, bundled_answer, choice_answer, committing_in, cut_answer, cut_end, delivering_in, explain_answer, given_answer, of_few_plans, order_answer, outside_answer, plans_answer, reduce_answer, replacing_in, run_answer, taken, taken_answer, text_answer, too_many_plans, try_answer}
-use Rattle.campaign_main.specs.Ends.{IsNoted, IsTold, OnWhole, TellsANote, TellsARefusal, TellsAs, TellsNotes, TellsRefusal, Tells}
+use Rattle.campaign_main.specs.Ends.{OnWhole, TellsANote, TellsARefusal, TellsAs, TellsNotes, TellsRefusal, Tells}
 use Rattle.campaign_main.specs.declared.exit.Conclusion.{Conclusion}
 use Rattle.campaign_main.specs.declared.exit.Conclusion.TheVariants.{Clean, Failed, Doubtful}
 use Rattle.campaign_main.specs.Exit.{exit_of}

@@ -1,20 +1,16 @@
 -- What is noted of a campaign with a depth, by the runs that answers tell: the places of counts that are 0, and what notes come to.
-use Rattle.std.proofs.Common.{◌≡◌, ◌∙◌, ◌++◌, ◌+◌, ◌<◌, ◌≤◌, ℕ, zero, suc, Bool, true, false, List, Some, [], ◌∷◌, All, length, ap, arith, refl, sym, filter, if◌then◌else◌, subst}
+use Rattle.std.proofs.Common.{◌≡◌, ◌∙◌, ◌++◌, ◌+◌, ◌<◌, ◌≤◌, ℕ, zero, suc, Bool, true, false, List, Some, [], ◌∷◌, All, ap, arith, refl, sym, filter, if◌then◌else◌, subst}
 use Rattle.std.proofs.lemmas.List.Elements.{All-filter}
 use Rattle.std.proofs.lemmas.List.FromFn.{get_or-range_with_len, length-range_with_len}
 use Rattle.std.specs.List.{range_with_len}
 use Rattle.action_eval.specs.declared.rig.Kind.{Kind}
 use Rattle.answer_text.specs.Runs.{KnownRuns, known_runs, told_in}
-use Rattle.plan_gen.specs.declared.list.PlanFault.{PlanFault}
 use Rattle.plan_gen.specs.declared.list.PlanFault.TheVariants as planning
-use Rattle.answered_runs.specs.Answered.{Answered, known_plans}
+use Rattle.answered_runs.specs.Answered.{Answered}
 use Rattle.campaign_given.specs.Description.{Description}
 use Rattle.campaign_given.specs.Given.{Given}
 use Rattle.outside_campaign.specs.declared.refusal.OutsideFault.TheVariants as outside
-use Rattle.answered_runs.specs.grown.Further.{AreTooMany}
-use Rattle.campaign_core.specs.CommandTexts.{plan_fault}
 use Rattle.outside_campaign.specs.with_depth.Kinds.{listed_kinds}
-use Rattle.outside_campaign.specs.with_depth.Questions.{RefusesYet, Tells}
 use Rattle.outside_campaign.specs.declared.with_depth.fault.QuestionFault.TheVariants as fault
 use Rattle.campaign_main.specs.QuestionNotes.{run_doubts, strict_doubts}
 
@@ -85,9 +81,3 @@ module _ (d : Description) (given : Given) (depth : ℕ) (text : List ℕ) where
       is ∙ ap (λ (names : List (List ℕ)). run_doubts names a.listed (told_in a.book) depth given) points
       ∙ ap (λ (kinds : List (List Kind)). run_doubts d.points kinds (told_in a.book) depth given) listed
       ∙ ap (λ (runs : KnownRuns). run_doubts d.points (listed_kinds d) runs depth given) told
-
-  -- too many plans, or want of memory, by the runs that answers record
-  pub many_yet : (a : Answered) → Tells d text a → (cause : PlanFault) → (cause ≡ planning.TooManyPlans → AreTooMany a given.plans (length (known_plans a depth)))
-      → RefusesYet (Some depth) d given text (fault.Outside (outside.Campaign (plan_fault cause)))
-  many_yet a tells planning.TooManyPlans many = (a, tells, many refl)
-  many_yet a tells planning.Memory many = tt

@@ -1,5 +1,5 @@
 -- What stands on a sink after writes, by what each write left.
-use Rattle.std.proofs.Common.{◌≡◌, ◌<◌, ◌+◌, ◌++◌, ℕ, Bool, true, false, List, Option, Result, Ok, Err, OnOk, OnErr, IfErr, length, take, arith, inl, inr, subst, sym, length-append}
+use Rattle.std.proofs.Common.{◌≡◌, ◌<◌, ◌+◌, ◌++◌, ℕ, true, false, List, Option, Result, Ok, Err, OnOk, OnErr, IfErr, length, take, arith, inl, inr, subst, sym, length-append}
 use Rattle.std.proofs.Math.Seq.{take-append-add}
 use Rattle.std.proofs.lemmas.List.{take-append-le}
 use Rattle.std.proofs.KnownBytes.{Appends-trans}

@@ -1,6 +1,5 @@
-use Rattle.std.proofs.Common.{◌≡◌, ◌≢◌, ◌≤◌, ◌&&◌, ◌∙◌, ◌++◌, ℕ, ap, Bool, List, [], ◌∷◌, Option, Some, None, Ok, Err, codes, is_some, length, lit≤, nat_le, nat_lt, option_and_then, refl, replicate, subst, sym, true, false, if◌then◌else◌}
+use Rattle.std.proofs.Common.{◌≡◌, ◌≢◌, ◌≤◌, ◌&&◌, ◌∙◌, ◌++◌, ap, Bool, List, [], ◌∷◌, Option, Some, None, Ok, Err, codes, is_some, length, lit≤, nat_le, nat_lt, option_and_then, refl, subst, sym, true, false, if◌then◌else◌}
 use Rattle.std.proofs.lemmas.Bool.{and_parts, leb-true, true≢false}
-use Rattle.std.proofs.lemmas.List.Elements.{All-replicate, recursion_from_All}
 use Rattle.std.proofs.lemmas.Option.{same_Some}
 use Rattle.std.proofs.lemmas.Slice.Eq.{bytes_eq-Decides}
 use Rattle.std.specs.List.{AllByRecursion}

@@ -1,5 +1,5 @@
-use Rattle.std.proofs.Common.{◌≡◌, ◌<◌, ◌≤◌, ◌+◌, ℕ, suc, List, [], ◌∷◌, ◌++◌, Option, Some, None, Result, Ok, Err, All, ◌∙◌, ap, subst, sym, false, if◌then◌else◌, drop, get_or, is_some, length, map, nat_le, option_and_then, option_map, refl, true, ◌==◌, ◌&&◌}
-use Rattle.std.proofs.lemmas.List.{append_assoc, drop_more, length-map}
+use Rattle.std.proofs.Common.{◌≡◌, ◌<◌, ◌≤◌, ◌+◌, ℕ, suc, List, [], ◌∷◌, ◌++◌, Option, Some, None, Result, Ok, Err, All, ◌∙◌, ap, subst, sym, false, if◌then◌else◌, is_some, length, map, nat_le, option_and_then, option_map, refl, true, ◌==◌, ◌&&◌}
+use Rattle.std.proofs.lemmas.List.{length-map}
 use Rattle.std.proofs.lemmas.Bool.{and_parts, eqb-true, leb-true, le-leb, lt-leb}
 use Rattle.std.proofs.lemmas.List.Elements.{All-from_recursion}
 use Rattle.std.proofs.lemmas.Option.{same_Some}
@@ -10,7 +10,6 @@ use Rattle.std.specs.Option.{option_map_or}
 use Rattle.toml.specs.Data.{Data, Items, item, no_items}
 use Rattle.toml.specs.View.{items_view, view}
 use Rattle.toml.specs.declared.value.Value.{Value}
-use Rattle.toml.proofs.Views.{items_view-drop}
 use Rattle.campaign_settings.specs.Keys.{Text}
 use Rattle.campaign_settings.specs.Lists.{all_in, before, each, is_chunk, is_chunk_list, is_wish, is_wish_list, list_in, lists_in, wish_of, wishes_of}
 use Rattle.campaign_settings.specs.Values.{at_most, in_ranges, typed}
@@ -21,20 +20,6 @@ module _ {X : Type 0} where
   -- some, and then the others
   abbrev pub joined : List X → Option (List X) → Option (List X)
   joined xs o = option_map (λ rest. xs ++ rest) o
-
-  pub joined-before : (xs : List X) (x : X) (o : Option (List X)) → joined xs (before (Some x) o) ≡ joined (xs ++ x ∷ []) o
-  joined-before xs x None = refl
-  joined-before xs x (Some rest) = rw (append_assoc xs (x ∷ []) rest)
-
-  -- one more item
-  pub item-more : (f : Data → Option X) (vs : List Value) (i : ℕ) (d : Value) (xs : List X) (x : X) → i < length vs → Some x ≡ f (view (get_or vs i d))
-      → joined xs (all_in f (items_view (drop i vs))) ≡ joined (xs ++ x ∷ []) (all_in f (items_view (drop (i + 1) vs)))
-  item-more f vs i d xs x h e = rw (items_view-drop vs i d h, ← e) (joined-before xs x _)
-
-  -- an item that is none
-  pub item-none : (f : Data → Option X) (vs : List Value) (i : ℕ) (d : Value) (xs : List X) → i < length vs → None ≡ f (view (get_or vs i d))
-      → joined xs (all_in f (items_view (drop i vs))) ≡ None
-  item-none f vs i d xs h e = rw (items_view-drop vs i d h, ← e)
 
   -- all items are something if each is
   some-before : (a : Option X) (o : Option (List X)) → is_some (before a o) ≡ (is_some a && is_some o)
@@ -59,15 +44,6 @@ module _ {X : Type 0} where
 -- ---- what each of a list gives
 
 module _ {X Y : Type 0} (f : Y → Option X) where
-  -- one more
-  pub each-more : (ys : List Y) (i : ℕ) (d : Y) (xs : List X) (x : X) → i < length ys → Some x ≡ f (get_or ys i d)
-      → joined xs (each f (drop i ys)) ≡ joined (xs ++ x ∷ []) (each f (drop (i + 1) ys))
-  each-more ys i d xs x h e = rw (drop_more ys i d h, ← e) (joined-before xs x _)
-
-  -- one that gives none
-  pub each-none : (ys : List Y) (i : ℕ) (d : Y) (xs : List X) → i < length ys → None ≡ f (get_or ys i d) → joined xs (each f (drop i ys)) ≡ None
-  each-none ys i d xs h e = rw (drop_more ys i d h, ← e)
-
   -- all give something if each does
   pub each-some : (ys : List Y) → list_all (λ y. is_some (f y)) ys ≡ is_some (each f ys)
   each-some [] = refl

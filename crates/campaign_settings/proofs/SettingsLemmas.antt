@@ -1,5 +1,4 @@
-use Rattle.std.proofs.Common.{◌≡◌, ◌<◌, ◌+◌, ◌++◌, ℕ, drop, get_or, length, subst, List, [], ◌∷◌, Option, Some, None, Bool, Bor, String, Global, Ok, Err, IfErr, IsErrAnd, Result, ap, ◌∙◌, cond, find, not, option_map, refl, string_bytes, sym, true, false, if◌then◌else◌}
-use Rattle.std.proofs.lemmas.List.{append_assoc, drop_more}
+use Rattle.std.proofs.Common.{◌≡◌, ◌+◌, ◌++◌, List, [], ◌∷◌, Option, Some, None, Bool, Bor, String, Global, Ok, Err, ap, ◌∙◌, cond, find, not, option_map, refl, string_bytes, sym, true, false, if◌then◌else◌}
 use Rattle.std.specs.Cmp.Lexicographic.{slice_cmp}
 use Rattle.std.specs.List.{AllByRecursion}
 use Rattle.std.specs.List.Sorted.{IsStrictlySortedBy}
@@ -11,11 +10,8 @@ use Rattle.std.specs.declared.cmp.Ordering.TheVariants.{Less, Equal, Greater}
 use Rattle.toml.specs.View.{members_view}
 use Rattle.toml.specs.declared.value.Value.{Value}
 use Rattle.campaign_settings.specs.Keys.{Text}
-use Rattle.scenario_grammar.specs.FirstFault.{reading}
 use Rattle.scenario_values.specs.Scenario.{Entries}
-use Rattle.campaign_settings.specs.Settings.{Read, RefusedBy, after, listed_as, spelled_from, least_unknown, lesser}
-use Rattle.campaign_settings.specs.declared.fault.SettingsFault.{SettingsFault}
-use Rattle.campaign_settings.specs.declared.fault.SettingsFault.TheVariants.{TooLong, NotToml, UnknownKey, Missing, WrongType, OutOfRange, Scenario, Memory}
+use Rattle.campaign_settings.specs.Settings.{Read, least_unknown, lesser}
 
 -- a key below another and below the rest is below the lesser of them
 below_lesser : (name other : Text) (rest : Option Text) → slice_cmp nat_cmp name other ≡ Less → lesser name rest ≡ name → lesser name (Some (lesser other rest)) ≡ name
@@ -58,28 +54,6 @@ first-unknown known es first sorted found = copied first ∙ ap (option_map stri
     copied : (o : Option (Bor (String Global))) → option_map (λ n. string_bytes n.now) o ≡ option_map string_bytes (option_copied o)
     copied None = refl
     copied (Some n) = refl
-
-module _ {X Y : Type 0} where
-  -- a step that went well
-  pub after-ok : (r : Read X) (x : X) (next : X → Read Y) → r ≡ Ok x → after r next ≡ next x
-  after-ok r x next e = ap (λ (o : Read X). after o next) e
-
-  -- a step that was refused
-  pub refused-after : (r : Read X) (next : X → Read Y) (fault : SettingsFault) → RefusedBy r fault → RefusedBy (after r next) fault
-  refused-after r next TooLong h = ap (λ (o : Read X). after o next) h
-  refused-after r next NotToml h = ap (λ (o : Read X). after o next) h
-  refused-after r next (UnknownKey place name) h = ap (λ (o : Read X). after o next) h
-  refused-after r next (Missing k) h = ap (λ (o : Read X). after o next) h
-  refused-after r next (WrongType k) h = ap (λ (o : Read X). after o next) h
-  refused-after r next (OutOfRange k) h = ap (λ (o : Read X). after o next) h
-  refused-after r next (Scenario number kind entry term) h = ap (λ (o : Read X). after o next) h
-  refused-after r next Memory h = tt
-
-  -- a refusal after a step that went well
-  pub refused-at : (r : Read X) (x : X) (next : X → Read Y) (fault : SettingsFault) → r ≡ Ok x → RefusedBy (next x) fault → RefusedBy (after r next) fault
-  refused-at r x next fault e h =
-      let P : Read Y → Type 0 = λ o. RefusedBy o fault in
-      subst P (sym (after-ok r x next e)) h
 
 -- ---- listed scenarios
 

@@ -11,7 +11,7 @@ use Rattle.std.specs.Str.{bytes_eq}
 use Rattle.std.specs.Prelude.{is_some, not, ◌||◌, if◌then◌else◌}
 use Rattle.std.proofs.lemmas.Bool.{false≢true}
 use Rattle.clap.specs.Faults.{check_fault, defaults_fault, entered_fault, fault_of, is_simple_and_free, level_fault, settle_fault, walk_fault}
-use Rattle.clap.specs.Kinds.{HasKind, IsAmong, Kinds, or_else, value_kinds}
+use Rattle.clap.specs.Kinds.{HasKind, IsAmong, Kinds, or_else}
 use Rattle.clap.specs.Values.{IsUnsignedIn, kind_of}
 use Rattle.clap.specs.ValueTests.{accepts}
 use Rattle.clap.specs.declared.builder.value_parser.ValueParser.TheVariants.{Unsigned}
@@ -24,7 +24,7 @@ use Rattle.clap.specs.declared.builder.command.Command.{Command}
 use Rattle.clap.specs.declared.parser.matches.Found.{Found}
 use Rattle.clap.proofs.WalkLemmas.{first_value-rows}
 use Rattle.command_words.specs.declared.words.Line.{Line}
-use Rattle.clap.specs.Words.{App, HasMatchesOf, Row, Shape, Text, app_of, first_value, is_simple, takes, rows_of, first_of, subcommand_name_of, subcommand_of}
+use Rattle.clap.specs.Words.{App, HasMatchesOf, Row, Shape, Text, app_of, first_value, is_simple, rows_of, first_of, subcommand_name_of, subcommand_of}
 use Rattle.clap.specs.declared.parser.matches.ArgMatches.{ArgMatches}
 use Rattle.clap.specs.declared.parser.matches.ArgMatches.TheViews.{out-ArgMatches, out-SubCommand}
 use Rattle.clap.specs.declared.parser.matches.SubCommand.{SubCommand}
@@ -222,9 +222,6 @@ needed-given words name f none e =
     let after_walk = no_faults (walk_fault top.top (names_of top) (walk_from nothing_held) given) _ none in
     rw (first_value-rows f (codes "file"))
     (needed-at (stop_after top.top.rules (names_of top) given) name (rows_of f) e (no_faults (entered_fault top (stop_after top.top.rules (names_of top) given)) _ after_walk.1).0)
-
-pub taken : (command : Command) (words : List Text) → app_of command ≡ paklour → takes paklour words ≡ true → takes (app_of command) words ≡ true
-taken command words a t = ap (λ (x : App). takes x words) a ∙ t
 
 -- ---- which words are taken, and which kind a refusal has
 

@@ -15,5 +15,4 @@ pub mod Fronts
 pub mod Noting
 pub mod Cutting
 pub mod Kept
-pub mod Survives
 mod CutAlike

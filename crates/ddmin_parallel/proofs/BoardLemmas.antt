@@ -6,7 +6,7 @@ use Rattle.std.specs.Ordering.{nat_cmp}
 use Rattle.std.proofs.lemmas.Cmp.{nat_list_cmp_total}
 use Rattle.ddmin_parallel.specs.Ddmin.{Reduced, ddmin}
 use Rattle.ddmin_parallel.specs.CoreEvents as core
-use Rattle.ddmin_parallel.specs.CoreEvents.{Known, State, begin, apply, replay, position, Agrees, Position, End, same_set, start, furthest}
+use Rattle.ddmin_parallel.specs.CoreEvents.{Known, State, begin, apply, replay, position, Agrees, End, same_set, start, furthest}
 use Rattle.ddmin_parallel.specs.Logs.{AreOwn, Tells, says, is_told, is_event_backed, is_backed, AreAnswers, AllAnswers, Log, state_of}
 use Rattle.std.proofs.lemmas.Bool.Decides.{nat_tests}
 use Rattle.std.proofs.Common.{arith, eqb, length, ℕ}

@@ -1,4 +1,4 @@
-use Rattle.std.proofs.Common.{◌≡◌, ℕ, zero, suc, ◌+◌, ◌*◌, ◌<◌, ◌≤◌, Bool, true, false, ◌||◌, List, [], ◌∷◌, ◌++◌, length, refl, sym, ◌∙◌, ap, subst, arith}
+use Rattle.std.proofs.Common.{◌≡◌, ℕ, zero, suc, ◌+◌, ◌*◌, ◌<◌, ◌≤◌, Bool, true, false, ◌||◌, List, [], length, refl, sym, ◌∙◌, ap, subst, arith}
 use Rattle.std.proofs.Common.{ltb, leb, min, Option, None, Some, inl, inr, not, unwrap_or}
 use Rattle.std.specs.Prelude.{◌⊎◌}
 use Rattle.std.proofs.lemmas.Cmp.{nat_list_cmp_total}
@@ -7,11 +7,9 @@ use Rattle.ddmin_parallel.specs.Rounds.{Candidate, round}
 use Rattle.ddmin_parallel.specs.Ddmin.{Fails, counted, kept_after, Reduced}
 use Rattle.ddmin_parallel.specs.inside.Candidates.{candidate, candidates, found}
 use Rattle.ddmin_parallel.specs.CoreEvents.{Answers, decided, Position, Empty, Round, End, after_empty, after_decision, option_then, step, same_set, first_open}
-use Rattle.ddmin_parallel.specs.CoreEvents.{round_at, hoping, next_round, or_else}
+use Rattle.ddmin_parallel.specs.CoreEvents.{round_at, hoping, next_round}
 use Rattle.ddmin_parallel.specs.inside.CoreStates.{IsLawful, IsSmall}
-use Rattle.ddmin_parallel.specs.inside.Cursors.{is_shut, IsShutBelow, IsCounted, onward, follow, Leads, is_among, with_set, out_after, next_at, IsReached}
-use Rattle.ddmin_parallel.specs.inside.Cursors.{IsFurther, IsOpened}
-use Rattle.ddmin_parallel.specs.declared.stage.Cursor.{Cursor}
+use Rattle.ddmin_parallel.specs.inside.Cursors.{is_shut, IsShutBelow, IsCounted, onward, follow, Leads, with_set, IsReached}
 use Rattle.ddmin_parallel.proofs.Steps.{from, from_all}
 use Rattle.ddmin_parallel.proofs.KnownSteps.{open_pass, open_out, open_fails, open_here, open_end, decided_fail, decided_end}
 use Rattle.ddmin_parallel.proofs.Counted.{extended, counted_times, decided_moved}

@@ -7,5 +7,4 @@ pub mod Flawed
 mod Kept
 mod Cutting
 mod Sturdy
-mod Survives
 mod CutAlike

@@ -49,15 +49,15 @@ run_sites asks g =
     let r : Run = play (suc g.limit) asks (start g) in
     sites_met [] (history_of r) ∙ ap (sites_from []) (history_points r.given [] (asked r))
 
-after_case : (s : Site) (m : Met) (ms : List Met) (b : Bool) → sites_of (hits_after s ms) ≡ sites_after s (sites_of ms) → sites_of (cond b ms (hits_after s ms)) ≡ cond b (sites_of ms) (sites_after s (sites_of ms))
+pub after_case : (s : Site) (m : Met) (ms : List Met) (b : Bool) → sites_of (hits_after s ms) ≡ sites_after s (sites_of ms) → sites_of (cond b ms (hits_after s ms)) ≡ cond b (sites_of ms) (sites_after s (sites_of ms))
 after_case s m ms true e = refl
 after_case s m ms false e = e
 
-after_sites : (s : Site) (ms : List Met) → sites_of (hits_after s ms) ≡ sites_after s (sites_of ms)
+pub after_sites : (s : Site) (ms : List Met) → sites_of (hits_after s ms) ≡ sites_after s (sites_of ms)
 after_sites s [] = refl
 after_sites s (m ∷ ms) = after_case s m ms (is_at s m) (after_sites s ms)
 
-past_sites : (plan : List Rig) (ms : List Met) → sites_of (hits_past plan ms) ≡ sites_past plan (sites_of ms)
+pub past_sites : (plan : List Rig) (ms : List Met) → sites_of (hits_past plan ms) ≡ sites_past plan (sites_of ms)
 past_sites [] ms = refl
 past_sites (r ∷ rs) ms = after_sites r.site ms
 

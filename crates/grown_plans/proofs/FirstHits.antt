@@ -6,7 +6,7 @@ use Rattle.std.specs.Prelude.{min}
 use Rattle.std.proofs.lemmas.List.{append-nil, take_more, take_all, get_or_past, take-append-drop, take-append-le, length-append, length-map, drop_all}
 use Rattle.std.proofs.Math.Nat.{zero-add, min-eq_left, min-eq_right}
 use Rattle.std.proofs.Math.Seq.{take-append-add}
-use Rattle.std.proofs.lemmas.List.Sums.{sum_by-append, sum_by-cons, count_by-le-length}
+use Rattle.std.proofs.lemmas.List.Sums.{sum_by-append, sum_by-cons}
 use Rattle.action_eval.specs.declared.rig.Site.{Site}
 use Rattle.action_eval.specs.declared.rig.Rig.{Rig}
 use Rattle.action_eval.specs.declared.rig.Kind.{Kind}
@@ -15,7 +15,7 @@ use Rattle.plan_gen.specs.LoopRuns.{times}
 use Rattle.grown_plans.specs.AskedPoints.{AreCounts, AskAlike, sites_from, sites_after, is_point_of, is_asked_again}
 use Rattle.grown_plans.specs.Kept.{grew, kept_at, kept_children}
 use Rattle.grown_plans.specs.inside.Counted.{next_site}
-use Rattle.grown_plans.specs.Begun.{AreOrdinals, CountsFirst, IsBegun, Serves}
+use Rattle.grown_plans.specs.Begun.{CountsFirst, IsBegun, Serves}
 use Rattle.grown_plans.specs.declared.begun.Begun.{Begun}
 use Rattle.grown_plans.specs.inside.Ends.{EndsAt, EndsPlan, last_site}
 use Rattle.grown_plans.proofs.HitByHit.{sites_ahead}

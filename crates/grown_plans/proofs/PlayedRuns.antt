@@ -11,7 +11,6 @@ use Rattle.scenario_values.specs.declared.term.Task.TheVariants as task
 use Rattle.action_eval.specs.Answers.{Given, Run, Hit, Reply, Halt, given_of, start, replies, history_of, and_then, next, is_over, stopped, stopped_by, stop_of, cuts_short, is_cut_short, reply_of, reply_to}
 use Rattle.target_trait.specs.Play.{Move, Ask, Done, Unknown}
 use Rattle.target_trait.specs.Outcomes.{play, moved, judged, verdict_of, verdict_with}
-use Rattle.target_trait.specs.declared.judgement.Judgement.{Judgement}
 use Rattle.target_trait.specs.declared.judgement.Judgement.TheVariants.{Kept}
 use Rattle.grown_plans.specs.Runs.{Met, met, site_after, met_after, run, IsUnpaused}
 use Rattle.grown_plans.proofs.Paths.{replies_of, next_by, next_of, IsPath}

@@ -30,7 +30,7 @@ sized_end false true plans = omega arith
 sized_end false false plans = omega arith
 
 -- the ranges end where the plans do
-range_end : (plans : ℕ) → range_start plans (range_count plans) ≡ plans
+pub range_end : (plans : ℕ) → range_start plans (range_count plans) ≡ plans
 range_end plans = sized_end (nat_le plans 1024) (nat_le plans 16384) plans
 
 sized_begin : (few some : Bool) (plans : ℕ) → min (0 * cond few 1 (cond some 16 64)) plans ≡ 0

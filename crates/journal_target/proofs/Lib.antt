@@ -1,5 +1,4 @@
 pub mod Scans
 pub mod Chunks
 pub mod Sturdy
-pub mod Survives
 pub mod Kept

@@ -6,7 +6,6 @@ pub mod Writing
 pub mod Readying
 pub mod Numbers
 mod Sturdy
-mod Survives
 mod Kept
 mod Cutting
 mod CutAlike

@@ -1,6 +1,6 @@
 -- Writes that go through together.
 use Rattle.std.proofs.Common.{◌≡◌, ℕ, zero, suc, ◌≤◌, ◌<◌, ◌+◌, ◌-◌, List, [], ◌∷◌, ◌++◌, length, take, drop, replicate, None, get_or, refl, ap, sym, ◌∙◌, subst, arith, add-one, drop-cons, Result, Ok, Err, OnOk}
-use Rattle.std.proofs.lemmas.List.{append-nil, drop-drop, drop_all, length-drop}
+use Rattle.std.proofs.lemmas.List.{append-nil, drop-drop, length-drop}
 use Rattle.sim_device.specs.FileEffects.{Effect, Append}
 use Rattle.sim_device.specs.Disk.{Disk, StandsFor, AddsEffect}
 use Rattle.sim_device.proofs.Appends.{appended, stands_appended}
@@ -11,7 +11,7 @@ use Rattle.target_trait.proofs.Running.{running_at}
 use Rattle.scenario_values.specs.chunked.Chunks.{joined}
 use Rattle.maildir_target.specs.declared.variant.Variant.{Variant}
 use Rattle.maildir_target.specs.Words.{write_point}
-use Rattle.maildir_target.specs.Steps.{Writing, Syncing, Tally, State, state, at_step, written_of, write_step, point_at, machine}
+use Rattle.maildir_target.specs.Steps.{Writing, Tally, State, state, at_step, written_of, write_step, point_at, machine}
 use Rattle.maildir_target.specs.inside.Devices.{Adds, with_chunks}
 use Rattle.maildir_target.specs.inside.Seen.{Played}
 

@@ -2,7 +2,7 @@
 use Rattle.std.proofs.Common.{◌≡◌, ℕ, ◌+◌, ◌<◌, ◌≤◌, List, [], ◌∷◌, ◌++◌, true, length, get_or, map, take, refl, ap, sym, ◌∙◌, arith, subst, append_assoc}
 use Rattle.std.specs.Prelude.{unwrap_or, flat_map}
 use Rattle.std.specs.List.{AllByRecursion}
-use Rattle.std.proofs.lemmas.List.{take_more, take_all, append-nil}
+use Rattle.std.proofs.lemmas.List.{take_more, append-nil}
 use Rattle.scenario_values.specs.Scenario.{Entries, IsScenario, all_faults}
 use Rattle.scenario_values.specs.Keep.{are_faults, ascend_from, kept}
 use Rattle.scenario_values.specs.Tidied.{tidied}
@@ -104,23 +104,6 @@ gathers known plans failures i d s findings after requests requests' (look.Open 
       ∙ sym (requests_more known plans failures i d s less plan);
   told = λ none. absurd (not_empty requests more.items opens.0 (sym h.1 ∙ none));
 }
-
-pub starts : (known : KnownVerdicts) (plans : List Entries) (failures : List (ℕ × ℕ)) → Gathering known plans failures 0 [] []
-starts known plans failures = record { requests_are = refl; told = λ none components agrees. refl }
-
-pub none_left : (requests : List Entries) → length requests ≡ 0 → requests ≡ []
-none_left [] h = refl
-none_left (c ∷ requests) h = absurd (omega arith)
-
-pub requests_all : (known : KnownVerdicts) (plans : List Entries) (failures : List (ℕ × ℕ)) (i : ℕ) (findings : List FindingFacts) (requests : List Entries) → Gathering known plans failures i findings requests → length failures ≤ i
-    → requests ≡ open_requests known plans failures
-requests_all known plans failures i findings requests g end = g.requests_are ∙ ap (open_requests known plans) (take_all i failures end)
-
-pub all_told : (known : KnownVerdicts) (plans : List Entries) (failures : List (ℕ × ℕ)) (i : ℕ) (findings : List FindingFacts) (requests : List Entries) → Gathering known plans failures i findings requests → length failures ≤ i → length requests ≡ 0
-    → (open_requests known plans failures ≡ []) × ((components : Components) → EachAgrees components known → findings ≡ map (finding (say_each components) plans) failures)
-all_told known plans failures i findings requests g end none =
-    let clear = none_left requests none in
-    (sym (requests_all known plans failures i findings requests g end) ∙ clear, λ components agrees. g.told clear components agrees ∙ ap (map (finding (say_each components) plans)) (take_all i failures end))
 
 -- ---- one failure
 

@@ -101,9 +101,6 @@ looked_up_all known plans i verdicts end r =
     let P : List Entries → Type 0 = λ ps. AllByRecursion (λ s. IsScenario s) ps in
     (r.are ∙ ap (plan_verdicts known) whole, subst P whole r.lawful)
 
-some_is : (v w : Verdict) → Some v ≡ Some w → v ≡ w
-some_is v w e = cc
-
 -- each plan is answered
 pub all_answered : (known : KnownVerdicts) (plans : List Entries) (all : List Verdict) (n : ℕ) → AllByRecursion (λ s. IsScenario s) plans → map (λ v. Some v) all ≡ plan_verdicts known plans
     → (open_plans known plans ≡ []) × ((components : Components) → EachAgrees components known → all ≡ verdicts_from (say_each components) n plans)

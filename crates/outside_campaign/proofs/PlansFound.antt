@@ -1,8 +1,7 @@
 -- What is found of plans that are looked at one after another.
-use Rattle.std.proofs.Common.{◌≡◌, ℕ, ◌+◌, ◌≤◌, cond, List, [], ◌∷◌, ◌++◌, Option, None, Some, length, refl, ap, sym, ◌∙◌, arith, subst, add-zero}
+use Rattle.std.proofs.Common.{◌≡◌, ℕ, ◌+◌, ◌≤◌, cond, List, [], ◌∷◌, ◌++◌, Option, None, Some, length, refl, ap, sym, ◌∙◌, arith, subst}
 use Rattle.std.specs.Prelude.{is_some, slice_get, string_bytes}
 use Rattle.std.specs.Option.{option_or}
-use Rattle.std.proofs.lemmas.List.{append_assoc, append-nil}
 use Rattle.std.proofs.lemmas.List.Concat.{flat_map-append}
 use Rattle.std.proofs.lemmas.List.Sums.{count_by-le-length, sum_by-cons}
 use Rattle.scenario_values.specs.Scenario.{Entries}
@@ -12,7 +11,7 @@ use Rattle.report.specs.ReportText.{ended, text_of}
 use Rattle.report.proofs.Written.{goes_on}
 use Rattle.answer_text.specs.Known.{KnownVerdicts}
 use Rattle.outside_campaign.specs.Partial.{answered_count, failure_of, first_so_far, known_line_of, known_lines, known_to_fail}
-use Rattle.outside_campaign.specs.inside.Found.{IsAdded, IsFound}
+use Rattle.outside_campaign.specs.inside.Found.{IsAdded}
 use Rattle.outside_campaign.specs.declared.partial.Found.{Found}
 
 -- ---- the loop
@@ -22,13 +21,6 @@ pub record IsLeft (code_name : ℕ → List ℕ) (known : KnownVerdicts) (plans 
   pub answered_is : found.answered + answered_count known rest ≡ answered_count known plans
   pub lines_are : string_bytes found.lines ++ text_of (known_lines code_name known rest) ≡ text_of (known_lines code_name known plans)
   pub first_is : option_or found.first (first_so_far known rest) ≡ first_so_far known plans
-
-pub begins : (code_name : ℕ → List ℕ) (known : KnownVerdicts) (plans : List Entries) (found : Found) → found.answered ≡ 0 → string_bytes found.lines ≡ [] → found.first ≡ None → IsLeft code_name known plans plans found
-begins code_name known plans found none empty no_first = record {
-  answered_is = omega arith;
-  lines_are = ap (λ (text : List ℕ). text ++ text_of (known_lines code_name known plans)) empty;
-  first_is = ap (λ (first : Option (ℕ × Entries)). option_or first (first_so_far known plans)) no_first;
-}
 
 -- there is room to count one more
 pub few_answered : (code_name : ℕ → List ℕ) (known : KnownVerdicts) (plans rest : List Entries) (found : Found) → IsLeft code_name known plans rest found → found.answered ≤ length plans
@@ -59,23 +51,3 @@ adds code_name known plans rest more plan old new is before added =
           ap (λ (first : Option (ℕ × Entries)). option_or first (first_so_far known more)) added.first_is
           ∙ first_of_both old.first (failure_of plan v) (known_to_fail known more) ∙ left.first_is;
     }
-
-or_none : (first : Option (ℕ × Entries)) → option_or first None ≡ first
-or_none None = refl
-or_none (Some f) = refl
-
--- ---- the text
-
-pieces : (head counted known last : List ℕ) → ((head ++ counted) ++ known) ++ last ≡ head ++ (counted ++ (known ++ (last ++ [])))
-pieces head counted known last = simp (append_assoc, append-nil)
-
-front : (label seed counted rest : List ℕ) → (label ++ (seed ++ [])) ++ (counted ++ rest) ≡ label ++ (seed ++ (counted ++ rest))
-front label seed counted rest = simp (append_assoc, append-nil)
-
--- the lines, written one after another
-pub written : (label seed counted last : List ℕ) (known : List (List ℕ)) (text : List ℕ) → text ≡ ((text_of (label ∷ seed ∷ []) ++ ended counted) ++ text_of known) ++ ended last
-    → text ≡ text_of (label ∷ seed ∷ counted ∷ [] ++ known ++ last ∷ [])
-written label seed counted last known text is =
-    is ∙ pieces (text_of (label ∷ seed ∷ [])) (ended counted) (text_of known) (ended last)
-    ∙ front (ended label) (ended seed) (ended counted) (text_of known ++ (ended last ++ []))
-    ∙ ap (λ (t : List ℕ). ended label ++ (ended seed ++ (ended counted ++ t))) (sym (flat_map-append ended known (last ∷ [])))

@@ -1,6 +1,7 @@
 pub mod Lists
 pub mod Rigged
 pub mod Counting
+pub mod HitCounts
 pub mod StormLemmas
 pub mod Limits
 pub mod Meeting

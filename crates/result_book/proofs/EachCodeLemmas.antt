@@ -1,5 +1,5 @@
 -- The first failure of each code: a loop that passes over codes that were found finds exactly these.
-use Rattle.std.proofs.Common.{◌≡◌, ℕ, zero, suc, ◌+◌, ◌<◌, ◌≤◌, Bool, true, false, not, ◌&&◌, ◌||◌, cond, eqb, ltb, List, [], ◌∷◌, ◌++◌, map, length, get_or, Option, Some, None, refl, arith, ap, sym, ◌∙◌, subst, append_assoc, drop, drop-cons, add-one, inl, inr}
+use Rattle.std.proofs.Common.{◌≡◌, ℕ, zero, suc, ◌+◌, ◌<◌, ◌≤◌, Bool, true, false, not, ◌&&◌, ◌||◌, cond, eqb, ltb, List, [], ◌∷◌, ◌++◌, map, length, get_or, Option, Some, None, refl, arith, ap, sym, ◌∙◌, subst, append_assoc, drop, inl, inr}
 use Rattle.std.specs.List.{All, Any, AllPairs, AllByRecursion, filter, filter_map, list_any, enumerate_from, slice_get}
 use Rattle.std.proofs.lemmas.Bool.{false≢true, lt-ltb, le-ltb, eq-eqb, eqb-true, not-true, and_from, cond_both, or_cases, or_left, or_right, both_ways}
 use Rattle.std.proofs.lemmas.List.{append-nil, drop_all}
@@ -10,7 +10,6 @@ use Rattle.result_book.specs.FirstFailure.{first_from, FailsAt, IsFirstFailure}
 use Rattle.result_book.specs.FirstFailures.{failures, is_earlier, first_failures, AreFirstFailures}
 use Rattle.result_book.specs.Slots.{first_in, with_number, in_book, FailsIn}
 use Rattle.result_book.specs.Verdicts.{numbered}
-use Rattle.result_book.specs.inside.Places.{with_first}
 use Rattle.result_book.proofs.SlotLemmas.{first_full}
 use Rattle.result_book.proofs.FailureLemmas.{least_slot}
 

@@ -1,5 +1,5 @@
 -- Edited scenarios keep what each scenario keeps.
-use Rattle.std.proofs.Common.{◌≡◌, ℕ, suc, ◌+◌, ◌*◌, ◌<◌, ◌≤◌, List, [], ◌∷◌, Bool, true, false, cond, length, take, filter, nat_lt, ◌&&◌, ◌-◌, zero, Option, Some, None, refl, ap, sym, ◌∙◌, arith, subst, ◌^◌}
+use Rattle.std.proofs.Common.{◌≡◌, ℕ, suc, ◌+◌, ◌*◌, ◌<◌, ◌≤◌, List, [], ◌∷◌, Bool, true, false, cond, length, take, filter, nat_lt, ◌&&◌, ◌-◌, zero, Option, Some, None, refl, ap, sym, ◌∙◌, arith, subst}
 use Rattle.std.specs.List.{AllByRecursion}
 use Rattle.std.specs.Str.{bytes_eq}
 use Rattle.std.proofs.lemmas.List.{length-take, append-nil}
@@ -16,7 +16,7 @@ use Rattle.scenario_values.specs.Scenario.{Entries, New, DistinctNames, IsScenar
 use Rattle.scenario_values.proofs.Weights.{kept_width, kept_faults, tidied_width, tidied_faults, printed_shorter}
 use Rattle.scenario_values.specs.Keep.{switched_off, holds, after_term, kept_chain, after_chain, kept_from, kept}
 use Rattle.scenario_values.specs.inside.Walks.{StandsAt}
-use Rattle.scenario_values.specs.Tidied.{is_live, is_idle, is_endless, joined_counts, joint, join_by, with_count, joined_onto, joined, without_used, up_to_endless, without_idle_end, tidied_chain, tidied, with_entry}
+use Rattle.scenario_values.specs.Tidied.{is_live, is_idle, is_endless, joined_counts, joint, join_by, with_count, joined_onto, joined, without_used, up_to_endless, without_idle_end, tidied_chain, tidied}
 use Rattle.scenario_values.proofs.Walking.{walk_starts}
 
 -- all terms of a chain are lawful

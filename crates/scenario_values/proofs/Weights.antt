@@ -75,11 +75,6 @@ tidied_light f l ts =
     let d : weight f (without_idle_end (joined (up_to_endless (without_used ts)))) ≤ weight f (joined (up_to_endless (without_used ts))) = take_light f _ (joined (up_to_endless (without_used ts))) in
     omega (arith, a, b, c, d)
 
--- ---- how many terms
-
-abbrev pub one : Term → ℕ
-one t = 1
-
 -- ---- how many faults
 
 pub weight-fault : (ts : List Term) → weight fault_of ts ≡ faults_in ts

@@ -16,12 +16,12 @@ use Rattle.target_trait.proofs.CutPlays.{asks_on, cut_follows}
 
 -- ---- the target's own run
 
-asks_more : (asks : List Reply → Move) (done rest : List Reply) (a : Reply) → AsksAll asks done rest → IsAsking (asks (done ++ rest)) → AsksAll asks done (rest ++ a ∷ [])
+pub asks_more : (asks : List Reply → Move) (done rest : List Reply) (a : Reply) → AsksAll asks done rest → IsAsking (asks (done ++ rest)) → AsksAll asks done (rest ++ a ∷ [])
 asks_more asks done [] a h k = (subst (λ (l : List Reply). IsAsking (asks l)) (append-nil done) k, tt)
 asks_more asks done (b ∷ rest) a h k =
     (h.0, asks_more asks (done ++ b ∷ []) rest a h.1 (subst (λ (l : List Reply). IsAsking (asks l)) (sym (append_assoc done (b ∷ []) rest)) k))
 
-asks_own : (asks : List Reply → Move) (cut : Cut) (keep : ℕ) (done rest : List Reply) → AsksAll asks done rest → IsAsking (asks (done ++ rest))
+pub asks_own : (asks : List Reply → Move) (cut : Cut) (keep : ℕ) (done rest : List Reply) → AsksAll asks done rest → IsAsking (asks (done ++ rest))
     → asks_from asks cut keep done rest ≡ asks (done ++ rest)
 asks_own asks cut keep done [] h k =
     asks_on (asks done) (asks done) (cut_asks cut keep done []) (subst (λ (l : List Reply). IsAsking (asks l)) (append-nil done) k) ∙ ap asks (sym (append-nil done))
@@ -30,7 +30,7 @@ asks_own asks cut keep done (a ∷ rest) h k =
     ∙ asks_own asks cut keep (done ++ a ∷ []) rest h.1 (subst (λ (l : List Reply). IsAsking (asks l)) (sym (append_assoc done (a ∷ []) rest)) k)
     ∙ ap asks (append_assoc done (a ∷ []) rest)
 
-within_limit : (b : Bool) (s : Option Stop) → cuts_short (cond b (Some stop.Limit) s) ≡ false → b ≡ false
+pub within_limit : (b : Bool) (s : Option Stop) → cuts_short (cond b (Some stop.Limit) s) ≡ false → b ≡ false
 within_limit true s e = cc
 within_limit false s e = refl
 

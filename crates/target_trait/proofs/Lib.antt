@@ -2,6 +2,7 @@ pub mod Moves
 pub mod Plays
 pub mod Verdicts
 pub mod Never
+pub mod Survives
 pub mod Running
 pub mod Machine
 pub mod Tables

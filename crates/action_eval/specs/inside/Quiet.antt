@@ -19,10 +19,6 @@ CountsWithin n head.Nothing = Unit {0}
 CountsWithin n (head.Off i) = i < n
 CountsWithin n head.Terms = Unit {0}
 
-abbrev pub AllCountWithin : ℕ → List Head → Type 0
-AllCountWithin n [] = Unit {0}
-AllCountWithin n (h ∷ hs) = CountsWithin n h × AllCountWithin n hs
-
 -- The head of a point's chain.
 abbrev pub head_at : List Head → ℕ → Head
 head_at heads p = slice_index_or heads p head.Nothing

@@ -1,5 +1,5 @@
 -- The run without faults, as answers record it, for each component that agrees with them.
-use Rattle.std.proofs.Common.{Bor, ◌≡◌, ℕ, ◌+◌, ◌<◌, ◌≤◌, ◌⊎◌, inl, inr, Bool, true, false, cond, List, [], ◌∷◌, length, refl, ap, sym, ◌∙◌, subst, arith}
+use Rattle.std.proofs.Common.{Bor, ◌≡◌, ℕ, ◌+◌, ◌<◌, ◌≤◌, ◌⊎◌, inl, inr, Bool, true, false, cond, List, [], length, refl, ap, sym, ◌∙◌, subst, arith}
 use Rattle.std.specs.Prelude.{Option, Some, None, IfSome, option_map, option_and_then, nat_le, ◌&&◌}
 use Rattle.std.specs.List.{list_all}
 use Rattle.std.specs.Option.{option_map_or}
@@ -10,7 +10,7 @@ use Rattle.scenario_values.proofs.Limits.{tidied_scenario}
 use Rattle.action_eval.specs.Answers.{given_of, texts}
 use Rattle.action_eval.specs.Catalogue.{IsCatalogue}
 use Rattle.action_eval.specs.SameMeaning.{MeansTheSame}
-use Rattle.action_eval.specs.RiggedScenario.{rigged_scenario, entries_from}
+use Rattle.action_eval.specs.RiggedScenario.{rigged_scenario}
 use Rattle.action_eval.proofs.Rigged.{rigged_scenario_keeps}
 use Rattle.action_eval.proofs.RunLaws.{tidied_means}
 use Rattle.target_trait.specs.Outcomes.{Told as Outcome, outcome}
@@ -29,14 +29,7 @@ use Rattle.answered_runs.specs.Answered.{Answered, hits_by, is_low, plan_runs, t
 use Rattle.action_eval.specs.declared.rig.Kind.{Kind}
 use Rattle.answered_runs.specs.Components.{AgreesWithRuns, IsComponent, IsTrueRun}
 use Rattle.answered_runs.specs.grown.Further.{AreTooMany, HasFewHits, clean_hits, clean_run, further_by, further_known, further_over, further_seen, further_told}
-
-no_entries : (p : ℕ) (names : List (List ℕ)) → entries_from p names [] ≡ []
-no_entries p [] = refl
-no_entries p (name ∷ names) = no_entries (p + 1) names
-
-no_rigs : (names : List (List ℕ)) → rigged_scenario names [] ≡ []
-unfolding rigged_scenario
-no_rigs names = no_entries 0 names
+use Rattle.plan_gen.proofs.Rigged.{rigged_scenario_nothing}
 
 some_is : (a b : List ℕ) → Some a ≡ Some b → a ≡ b
 some_is a b e = cc
@@ -58,7 +51,7 @@ clean_asked t points listed told seed hits is agrees e = by_told (told (tidied s
 
     given : asked_of t seed [] ≡ asked_of t seed (tidied s)
     given =
-        ap (asked_of t seed) (sym (no_rigs points))
+        ap (asked_of t seed) (sym (rigged_scenario_nothing points [] refl))
         ∙ ap (λ (x : Outcome). x.asked) (sym (outcome_same t.asks t.names seed 0 t.limit (tidied s) s (means.at t.names seed 0 t.limit)))
 
     by_test : (b : Bool) (hs : List Stretch) → asked_of t seed (tidied s) ≡ points_of hs → cond b (Some (points_of hs)) None ≡ Some hits → asked_of t seed [] ≡ hits

@@ -1,5 +1,5 @@
 -- The most hits of each point, raised by one run after another.
-use Rattle.std.proofs.Common.{◌≡◌, ℕ, zero, suc, ◌+◌, ◌<◌, ◌≤◌, ◌⊎◌, inl, inr, max, Bool, true, false, cond, List, [], ◌∷◌, ◌++◌, map, length, get_or, take, replicate, count_by, ◌==◌, refl, ap, sym, ◌∙◌, subst, arith}
+use Rattle.std.proofs.Common.{◌≡◌, ℕ, zero, suc, ◌+◌, ◌<◌, ◌≤◌, ◌⊎◌, inl, inr, max, Bool, true, false, cond, List, [], ◌∷◌, ◌++◌, map, length, get_or, take, count_by, ◌==◌, refl, ap, sym, ◌∙◌, subst, arith}
 use Rattle.std.specs.Prelude.{Contains, Option, Some, None, nat_lt}
 use Rattle.std.specs.List.{AllByRecursion, filter, range_with_len}
 use Rattle.std.proofs.lemmas.List.Elements.{Contains-append_left, Contains-append_right}
@@ -30,15 +30,6 @@ pub record AreMostOf (runs : KnownRuns) (plans : List (List Rig)) (points : ℕ)
   pub are : AreMostTold runs plans counts
 
 -- ---- one run after another
-
-zero_at : (n p : ℕ) → get_or {A = ℕ} (replicate n 0) p 0 ≡ 0
-zero_at zero p = refl
-zero_at (suc n) zero = refl
-zero_at (suc n) (suc p) = zero_at n p
-
-zero_length : (n : ℕ) → length {A = ℕ} (replicate n 0) ≡ n
-zero_length zero = refl
-zero_length (suc n) = let rest = zero_length n in omega (arith, rest)
 
 pub raised : (runs : KnownRuns) (plans : List (List Rig)) (i points : ℕ) (plan : List Rig) (old new : List ℕ) → i < length plans → plan ≡ get_or plans i [] → AreMostOf runs (take i plans) points old → length new ≡ length old
     → ((p : ℕ) → p < length old → get_or new p 0 ≡ max (get_or old p 0) (times_told p (hits_of runs plan))) → AreMostOf runs (take (i + 1) plans) points new

@@ -1,6 +1,6 @@
 -- Lists of rigged hits that are looked at one after another.
-use Rattle.std.proofs.Common.{◌≡◌, ℕ, ◌+◌, ◌<◌, ◌≤◌, arith, Bool, true, false, cond, ◌||◌, List, [], ◌∷◌, ◌++◌, length, map, take, get_or, refl, ap, sym, ◌∙◌, subst, append_assoc}
-use Rattle.std.specs.Prelude.{Option, None, Some, flat_map, is_none}
+use Rattle.std.proofs.Common.{◌≡◌, ℕ, ◌+◌, ◌<◌, ◌≤◌, arith, Bool, true, false, cond, ◌||◌, List, [], ◌∷◌, ◌++◌, length, map, take, get_or, ap, sym, ◌∙◌, subst, append_assoc}
+use Rattle.std.specs.Prelude.{Option, None, flat_map, is_none}
 use Rattle.std.specs.List.{list_any}
 use Rattle.std.proofs.Math.Seq.{take-append_seam}
 use Rattle.std.proofs.lemmas.Grind.{flat_map-append}
@@ -10,10 +10,8 @@ use Rattle.std.proofs.lemmas.List.Folds.{list_any_at, list_any_more}
 use Rattle.scenario_values.specs.Scenario.{Entries}
 use Rattle.action_eval.specs.declared.rig.Rig.{Rig}
 use Rattle.target_trait.specs.declared.judgement.Verdict.{Verdict}
-use Rattle.target_trait.specs.declared.judgement.Verdict.TheVariants.{Fail}
-use Rattle.grown_plans.specs.Promises.{lesser}
 use Rattle.answered_runs.specs.Answered.{Answered}
-use Rattle.answered_runs.specs.grown.Causes.{Verdicts, is_failure, known_by, one_fails, open_by, open_of, rigged_in, unknown, verdicts_in}
+use Rattle.answered_runs.specs.grown.Causes.{Verdicts, is_failure, one_fails, open_of, rigged_in, unknown, verdicts_in}
 
 -- the scenarios of those that aren't known
 abbrev pub waiting_of : Answered → ℕ → List (List Rig) → List Entries
@@ -23,12 +21,6 @@ waiting_parts : (a : Answered) (depth : ℕ) (xs ys : List (List Rig)) → waiti
 waiting_parts a depth xs ys =
     let test : List Rig → Bool = λ rigs. is_none (verdicts_in a depth rigs) in
     ap (map (rigged_in a)) (filter-append test xs ys) ∙ map-append (rigged_in a) (unknown (verdicts_in a depth) xs) (unknown (verdicts_in a depth) ys)
-
--- One more scenario, if its verdict isn't known, and if it is.
-pub waits : (a : Answered) (depth : ℕ) (rigs : List Rig) (o : Option Verdict) (s : Entries) (old new : List Entries) → o ≡ verdicts_in a depth rigs → is_none o ≡ true → s ≡ rigged_in a rigs → new ≡ old ++ s ∷ []
-    → new ≡ old ++ waiting_of a depth (rigs ∷ [])
-waits a depth rigs o s old new said none is added =
-    added ∙ ap (λ (x : Entries). old ++ x ∷ []) is ∙ sym (ap (λ (b : Bool). old ++ map (rigged_in a) (cond b (rigs ∷ []) [])) (ap is_none (sym said) ∙ none))
 
 -- ---- the lists with one left out
 
@@ -40,9 +32,6 @@ pub record SoFar (a : Answered) (depth code : ℕ) (lists : List (List Rig)) (ol
 neither : (a b : Bool) → a ≡ false → b ≡ false → (a || b) ≡ false
 neither true b e f = e
 neither false b e f = f
-
-pub begins : (a : Answered) (depth code : ℕ) (lists : List (List Rig)) (old : List Entries) → SoFar a depth code (take 0 lists) old old
-begins a depth code lists old = record { none = refl; waiting = sym (append-nil old) }
 
 pub goes_on : (a : Answered) (depth code i : ℕ) (lists : List (List Rig)) (less : List Rig) (v : Option Verdict) (old mid new : List Entries) → i < length lists → less ≡ get_or lists i [] → v ≡ verdicts_in a depth less → is_failure code v ≡ false
     → SoFar a depth code (take i lists) old mid → new ≡ mid ++ waiting_of a depth (less ∷ []) → SoFar a depth code (take (i + 1) lists) old new

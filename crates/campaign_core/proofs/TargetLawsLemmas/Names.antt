@@ -1,5 +1,5 @@
 -- What holds of each name of a catalogue.
-use Rattle.std.proofs.Common.{◌≡◌, ◌<◌, ◌≤◌, ◌==◌, ◌∙◌, ap, subst, sym, refl, arith, ℕ, zero, suc, List, [], ◌∷◌, true, false, Bool, not, Bor, length, slice_index_or}
+use Rattle.std.proofs.Common.{◌≡◌, ◌<◌, ◌≤◌, ◌==◌, ◌∙◌, ap, subst, sym, refl, arith, ℕ, zero, suc, List, [], ◌∷◌, true, false, Bor, length, slice_index_or}
 use Rattle.std.proofs.lemmas.Bool.Decides.{nat_tests}
 use Rattle.std.specs.List.{AllByRecursion}
 use Rattle.std.specs.Str.{bytes_eq}
@@ -32,10 +32,6 @@ short_at names p is less =
 pub lawful_at : (names : List (Bor (List ℕ))) (p : ℕ) → IsCatalogue (texts names) → p < length names → is_name (slice_index_or names p none).now ≡ true
 lawful_at names p is less =
     subst (λ (x : List ℕ). is_name x ≡ true) (text_at names p) (at_each (λ (x : List ℕ). is_name x ≡ true) (texts names) p is.lawful (omega (arith, less, length_texts names)))
-
-pub not_true : (b : Bool) → not b ≡ true → b ≡ false
-not_true true e = cc
-not_true false e = refl
 
 pub new_here : (names : List (Bor (List ℕ))) (p q : ℕ) → bytes_eq (slice_index_or names q none).now (slice_index_or names p none).now ≡ false
     → bytes_eq (slice_index_or (texts names) q []) (slice_index_or (texts names) p []) ≡ false

@@ -1,5 +1,5 @@
 -- Plans that fail and are run once more.
-use Rattle.std.proofs.Common.{◌≡◌, ℕ, zero, suc, ◌+◌, ◌<◌, Bool, true, false, List, [], ◌∷◌, ◌++◌, Option, None, Some, get_or, length, refl, ap, sym, ◌∙◌, subst, arith}
+use Rattle.std.proofs.Common.{◌≡◌, ℕ, zero, suc, ◌+◌, ◌<◌, true, false, List, [], ◌∷◌, ◌++◌, Option, None, Some, get_or, length, refl, ap, sym, ◌∙◌, subst, arith}
 use mathlib.Core.Logic.{dite}
 use native.Mathlib.Decide.{ℕ_discrete}
 use Rattle.std.specs.Prelude.{is_some, slice_get}
@@ -14,7 +14,7 @@ use Rattle.target_trait.proofs.Verdicts.{verdict_is}
 use Rattle.campaign_given.specs.Given.{Given, verdict_on}
 use Rattle.result_book.specs.Ranges.{AreSaid}
 use Rattle.campaign_core.specs.target_laws.Candidates.{Look}
-use Rattle.campaign_core.specs.target_laws.Rechecked.{AreSteady, IsChanged, IsRechecked, IsRecheckedIn, IsRerun, IsRunAgain}
+use Rattle.campaign_core.specs.target_laws.Rechecked.{AreSteady, IsRechecked, IsRecheckedIn, IsRerun, IsRunAgain}
 use Rattle.campaign_core.specs.declared.target_laws.recheck.ChangedVerdict.{ChangedVerdict}
 use Rattle.campaign_core.proofs.TargetLawsLemmas.Candidates.{MadeOf, all_made}
 

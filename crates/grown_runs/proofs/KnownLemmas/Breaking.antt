@@ -155,15 +155,6 @@ met_here s met n i parent hits lt less e f =
     ∙ ap (λ (b : Bool). cond b (cond ((get_or parent i 0 == s.point) && (met + 1 == s.hit)) None (break_from s (met_more s met (get_or parent i 0)) (n + 1) (drop (suc i) parent) (drop (suc i) hits))) (Some (Differs (n + 1)))) e
     ∙ ap (λ (b : Bool). cond b None (break_from s (met_more s met (get_or parent i 0)) (n + 1) (drop (suc i) parent) (drop (suc i) hits))) f
 
-pub goes_on : (s : Site) (met n i : ℕ) (parent hits : List ℕ) → i < length parent → i < length hits → (get_or parent i 0 == get_or hits i 0) ≡ true
-    → ((get_or parent i 0 == s.point) && (met + 1 == s.hit)) ≡ false
-    → break_from s met n (drop i parent) (drop i hits) ≡ break_from s (met_more s met (get_or parent i 0)) (n + 1) (drop (i + 1) parent) (drop (i + 1) hits)
-goes_on s met n i parent hits lt less e f =
-    both_dropped s met n i parent hits lt less
-    ∙ ap (λ (b : Bool). cond b (cond ((get_or parent i 0 == s.point) && (met + 1 == s.hit)) None (break_from s (met_more s met (get_or parent i 0)) (n + 1) (drop (suc i) parent) (drop (suc i) hits))) (Some (Differs (n + 1)))) e
-    ∙ ap (λ (b : Bool). cond b None (break_from s (met_more s met (get_or parent i 0)) (n + 1) (drop (suc i) parent) (drop (suc i) hits))) f
-    ∙ ap (λ (k : ℕ). break_from s (met_more s met (get_or parent i 0)) (n + 1) (drop k parent) (drop k hits)) (let one : suc i ≡ i + 1 = omega arith in one)
-
 -- ---- what is found
 
 not_same : (a b : ℕ) → (a ≡ b → ⊥) → (a == b) ≡ false

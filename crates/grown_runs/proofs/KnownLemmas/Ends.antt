@@ -83,9 +83,6 @@ of_leaf : (t : Subject) (known : KnownRuns) (plan : List Rig) → are_told (hits
 of_leaf t known [] told reached = tt
 of_leaf t known (r ∷ rs) told reached = by_kind r.kind refl (is_hit_again r.site (run_of_plan t (r ∷ rs)))
   where
-    P : List (List Rig) → Type 0
-    P ys = AllByRecursion (λ y. is_reached_onward known y ≡ true) ys
-
     by_again : (b : Bool) → is_reached_onward known (rig r.site (OnwardReturn (text_of r.kind)) ∷ rs) ≡ true → AllByRecursion (λ y. is_reached_onward known y ≡ true) (cond b ((rig r.site (OnwardReturn (text_of r.kind)) ∷ rs) ∷ []) [])
     by_again true e = (e, tt)
     by_again false e = tt

@@ -1,11 +1,11 @@
 -- Runs that were found of plans, by the plans' numbers.
-use Rattle.std.proofs.Common.{◌≡◌, ◌⊎◌, inl, inr, ℕ, ◌+◌, ◌<◌, ◌≤◌, Bool, false, List, [], ◌∷◌, ◌++◌, map, length, take, get_or, Option, Some, None, refl, ap, sym, ◌∙◌, arith}
+use Rattle.std.proofs.Common.{◌≡◌, ◌⊎◌, inl, inr, ℕ, ◌+◌, ◌<◌, false, List, [], ◌++◌, map, length, take, get_or, Option, Some, None, ap, sym, ◌∙◌, arith}
 use Rattle.std.proofs.lemmas.List.{get_or-map, length-map}
 use Rattle.std.proofs.Math.Seq.{take-append_seam}
 use Rattle.action_eval.specs.declared.rig.Kind.{Kind}
 use Rattle.action_eval.specs.declared.rig.Rig.{Rig}
 use Rattle.target_trait.specs.declared.judgement.Verdict.{Verdict}
-use Rattle.grown_runs.specs.known.Known.{KnownRuns, Told, hits_of, hits_told}
+use Rattle.grown_runs.specs.known.Known.{KnownRuns, Told, hits_told}
 use Rattle.grown_runs.specs.known.Looks.{IsLook}
 use Rattle.grown_runs.specs.declared.known.table.Look.{Look}
 use Rattle.grown_runs.specs.declared.known.table.Look.TheVariants as look

@@ -1,5 +1,5 @@
 -- The hits of a plan's run, by the points that are recorded of it.
-use Rattle.std.proofs.Common.{◌≡◌, ℕ, Bool, true, false, cond, List, [], ◌∷◌, ◌++◌, map, refl, ap, sym, ◌∙◌}
+use Rattle.std.proofs.Common.{◌≡◌, ℕ, List, [], ◌∷◌, ◌++◌, map, refl, ap, sym, ◌∙◌}
 use Rattle.std.specs.Prelude.{Contains, Option, Some, None, IfSome}
 use Rattle.action_eval.specs.declared.rig.Site.{Site}
 use Rattle.action_eval.specs.declared.rig.Rig.{Rig}
@@ -7,10 +7,10 @@ use Rattle.action_eval.specs.Answers.{Given, Reply}
 use Rattle.target_trait.specs.Play.{Move}
 use Rattle.target_trait.specs.Outcomes.{outcome}
 use Rattle.grown_plans.specs.Runs.{Met, run}
-use Rattle.grown_plans.specs.GrownPlans.{Subject, given_for, run_of_plan, is_at, hits_after, hits_past, grown}
-use Rattle.grown_plans.specs.AskedPoints.{sites_from, sites_after, sites_past}
+use Rattle.grown_plans.specs.GrownPlans.{Subject, given_for, run_of_plan, hits_past, grown}
+use Rattle.grown_plans.specs.AskedPoints.{sites_from, sites_past}
 use Rattle.grown_plans.proofs.Members.{all_contains}
-use Rattle.grown_plans.proofs.AskedSites.{sites_of, run_sites}
+use Rattle.grown_plans.proofs.AskedSites.{sites_of, run_sites, past_sites}
 use Rattle.grown_runs.specs.known.Known.{Agrees, KnownRuns, Told, IsTrueOf, hits_of, hits_told, points_met}
 
 points_of_sites : (ms : List Met) → points_met ms ≡ map (λ s. s.point) (sites_of ms)
@@ -38,18 +38,6 @@ asked_told t plan hits e = sym (asked_met t.asks (given_for t plan 0 0)) ∙ e
 pub sites_told : (t : Subject) (plan : List Rig) (hits : List ℕ) → points_met (run_of_plan t plan) ≡ hits → sites_of (run_of_plan t plan) ≡ sites_from [] hits
 unfolding run_of_plan
 sites_told t plan hits e = run_sites t.asks (given_for t plan 0 0) ∙ ap (sites_from []) (sym (asked_met t.asks (given_for t plan 0 0)) ∙ e)
-
-after_case : (s : Site) (m : Met) (ms : List Met) (b : Bool) → sites_of (hits_after s ms) ≡ sites_after s (sites_of ms) → sites_of (cond b ms (hits_after s ms)) ≡ cond b (sites_of ms) (sites_after s (sites_of ms))
-after_case s m ms true e = refl
-after_case s m ms false e = e
-
-after_sites : (s : Site) (ms : List Met) → sites_of (hits_after s ms) ≡ sites_after s (sites_of ms)
-after_sites s [] = refl
-after_sites s (m ∷ ms) = after_case s m ms (is_at s m) (after_sites s ms)
-
-past_sites : (plan : List Rig) (ms : List Met) → sites_of (hits_past plan ms) ≡ sites_past plan (sites_of ms)
-past_sites [] ms = refl
-past_sites (r ∷ rs) ms = after_sites r.site ms
 
 -- The hits past a plan's last fault, by what is recorded of its run.
 pub past_told : (t : Subject) (plan : List Rig) (hits : List ℕ) → points_met (run_of_plan t plan) ≡ hits → sites_past plan (sites_from [] hits) ≡ sites_of (hits_past plan (run_of_plan t plan))

@@ -7,12 +7,12 @@ use Rattle.action_eval.specs.declared.rig.Rig.{Rig}
 use Rattle.target_trait.specs.declared.judgement.Verdict.{Verdict}
 use Rattle.plan_gen.specs.RiggedAnswers.{AreInOrder, acts_at}
 use Rattle.grown_plans.specs.GrownPlans.{Subject, grown, usual_at}
-use Rattle.grown_plans.specs.AskedPoints.{from_then_on, is_last_return, onward_if, sites_from, sites_past}
+use Rattle.grown_plans.specs.AskedPoints.{is_last_return, onward_if, sites_from, sites_past}
 use Rattle.grown_plans.specs.Kept.{Grew, kept_at, kept_children}
 use Rattle.grown_plans.specs.Promises.{IsLawful, verdict_of_rigs}
 use Rattle.grown_plans.proofs.Members.{all_contains}
 use Rattle.grown_runs.specs.known.Known.{Agrees, KnownRuns, Told, IsTrueOf, hits_of, hits_told}
-use Rattle.grown_runs.specs.known.Walks.{Unknown, Nothing, Acts, acting_by, alike_of, do_alike, doing, first_acting, if_alike, is_alike, once, onward_walked, next_of, next_told, walk_on, walk_from, walk, verdict_told, verdict_at, verdict_walked}
+use Rattle.grown_runs.specs.known.Walks.{Unknown, Nothing, Acts, acting_by, do_alike, doing, first_acting, if_alike, is_alike, once, onward_walked, next_of, next_told, walk_on, walk_from, walk, verdict_told, verdict_at, verdict_walked}
 use Rattle.grown_runs.specs.known.inside.WalkSteps.{CameTo, IsStep, grew_at}
 use Rattle.grown_runs.specs.known.inside.Grown.{again_told}
 use Rattle.grown_runs.specs.known.ToldPart.{onward_told}

@@ -11,7 +11,6 @@ use Rattle.answer_text.specs.declared.runs.RunLine.{RunLine}
 use Rattle.grown_runs.specs.known.KnownPart.{are_told, known_part, to_run}
 use Rattle.grown_runs.specs.known.ToldPart.{part_known}
 use Rattle.grown_runs.proofs.KnownLemmas.Listed.{filter_all, part_is}
-use Rattle.answered_runs.specs.KnownLists.{KnownList}
 use Rattle.action_eval.specs.Catalogue.{IsCatalogue}
 use Rattle.answered_runs.specs.Answered.{Answered, CanBeListed, known_plans, runs_in}
 use Rattle.answered_runs.specs.Components.{AgreesWithRuns, IsComponent}

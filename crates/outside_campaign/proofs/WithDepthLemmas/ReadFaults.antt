@@ -5,24 +5,12 @@ use Rattle.campaign_given.specs.Description.{Description}
 use Rattle.campaign_given.specs.Given.{Given}
 use Rattle.campaign_core.specs.declared.ending.CampaignFault.TheVariants as campaign
 use Rattle.outside_campaign.specs.declared.refusal.OutsideFault.TheVariants as refusal
-use Rattle.outside_campaign.specs.with_depth.Questions.{RefusesAsks, RefusesBy, Refuses, RefusesGrown, RefusesYet, Tells}
+use Rattle.outside_campaign.specs.with_depth.Questions.{RefusesAsks, Refuses, RefusesYet, Tells}
 use Rattle.outside_campaign.specs.declared.with_depth.fault.QuestionFault.{QuestionFault}
 use Rattle.outside_campaign.specs.declared.with_depth.fault.QuestionFault.TheVariants as fault
 
 module _ (outside : Description) (text : List ℕ) where
-  -- why there is no report, by what a text that was read tells
-  pub refused_by : (given : Given) (depth : ℕ) (a : Answered) → Tells outside text a → (why : QuestionFault) → RefusesBy a depth given.plans why → RefusesGrown outside given depth text why
-  refused_by given depth a tells (fault.Outside (refusal.Answers f)) h = absurd h
-  refused_by given depth a tells (fault.Outside (refusal.Campaign campaign.Memory)) h = tt
-  refused_by given depth a tells (fault.Outside (refusal.Campaign campaign.TooManyPlans)) h = (a, tells, h)
-  refused_by given depth a tells (fault.Outside (refusal.Campaign (campaign.Write n))) h = absurd h
-  refused_by given depth a tells (fault.Outside (refusal.NotAnswered t)) h = (a, tells, h)
-  refused_by given depth a tells (fault.Outside (refusal.Census line)) h = absurd h
-  refused_by given depth a tells (fault.Broken b) h = (a, tells, h)
-  refused_by given depth a tells (fault.Scenario f) h = absurd h
-  refused_by given depth a tells (fault.Unseen line) h = absurd h
-
-  -- and why nothing is asked
+  -- why nothing is asked
   pub asked_refused : (given : Given) (depth : ℕ) (a : Answered) → Tells outside text a → (why : QuestionFault) → RefusesAsks a depth given.plans why → RefusesYet (Some depth) outside given text why
   asked_refused given depth a tells (fault.Outside (refusal.Answers f)) h = absurd h
   asked_refused given depth a tells (fault.Outside (refusal.Campaign campaign.Memory)) h = tt

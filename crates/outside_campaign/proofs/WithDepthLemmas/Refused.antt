@@ -1,19 +1,17 @@
 -- Why there is no report of a campaign with a depth, and that nothing is still to be tried where there is one.
-use Rattle.std.proofs.Common.{◌≡◌, ◌≤◌, ◌<◌, ◌++◌, ◌⊎◌, inl, inr, ℕ, zero, suc, Bool, true, false, cond, List, [], ◌∷◌, Some, None, Option, length, map, refl, ap, sym, ◌∙◌, subst, arith, is_none}
+use Rattle.std.proofs.Common.{◌≡◌, ◌<◌, ◌++◌, ◌⊎◌, inl, inr, ℕ, zero, suc, Bool, true, false, cond, List, [], ◌∷◌, Some, None, Option, length, map, refl, ap, sym, ◌∙◌, subst, arith, is_none}
 use Rattle.std.specs.Prelude.{Contains, filter, nat_le, option_map}
 use Rattle.std.specs.Option.{unwrap_or}
-use Rattle.std.specs.List.{AllByRecursion}
 use Rattle.scenario_values.specs.Scenario.{Entries}
 use Rattle.scenario_values.specs.Tidied.{tidied}
 use Rattle.action_eval.specs.declared.rig.Rig.{Rig}
 use Rattle.grown_plans.specs.numbered.GrownScenarios.{grown_scenario, grown_scenarios}
-use Rattle.grown_plans.proofs.Members.{all_weaker, contains_cases, contains_head, contains_none, contains_tail}
+use Rattle.grown_plans.proofs.Members.{contains_cases, contains_head, contains_none, contains_tail}
 use Rattle.grown_runs.specs.known.Known.{KnownRuns}
 use Rattle.grown_runs.specs.known.KnownPart.{are_told}
 use Rattle.action_eval.specs.declared.rig.Kind.{Kind}
 use Rattle.grown_plans.specs.GrownPlans.{levels_to}
 use Rattle.grown_runs.specs.known.ToldPart.{level_known, levels_known}
-use Rattle.grown_runs.proofs.KnownLemmas.Kept.{part_short}
 use Rattle.plan_gen.specs.PlanList.{Asked}
 use Rattle.answer_text.specs.Known.{KnownVerdicts}
 use Rattle.answer_text.specs.Runs.{told_in}
@@ -30,22 +28,16 @@ use Rattle.answered_runs.specs.grown.Asked.{to_try, undecided, unrun}
 use Rattle.answered_runs.specs.grown.Further.{further_told}
 use Rattle.outside_campaign.specs.with_depth.Grown.{candidates, known, listed, or_else, untried}
 use Rattle.answered_runs.specs.Broken.{AreBroken, IsFirstBreak}
-use Rattle.answered_runs.specs.Agreement.{AreContradicted, AreOfOne, IsContradiction}
+use Rattle.answered_runs.specs.Agreement.{AreOfOne, IsContradiction}
 use Rattle.answered_runs.specs.SomeComponent.{HasComponent}
 use Rattle.answered_runs.proofs.SomeComponent.{component_unbroken}
 use Rattle.answered_runs.specs.declared.broken.BrokenRun.{BrokenRun}
-use Rattle.outside_campaign.specs.with_depth.Questions.{AreUnbroken, RefusesAsks, RefusesBy}
+use Rattle.outside_campaign.specs.with_depth.Questions.{AreUnbroken, RefusesBy}
 use Rattle.outside_campaign.specs.declared.with_depth.fault.QuestionFault.{QuestionFault}
 use Rattle.outside_campaign.specs.declared.with_depth.fault.QuestionFault.TheVariants as fault
 use Rattle.outside_campaign.specs.with_depth.inside.Outcomes.{IsFirstOf, IsGapFault, IsOpenPlan}
 
 -- ---- known plans
-
-pub known_short : (a : Answered) (depth : ℕ) (plans : List (List Rig)) → plans ≡ known_plans a depth → depth ≤ 64 → AllByRecursion (λ plan. length plan ≤ 64) plans
-known_short a depth plans is low =
-    subst (AllByRecursion (λ (plan : List Rig). length plan ≤ 64)) (sym is)
-    (all_weaker (λ (plan : List Rig). length plan ≤ depth) (λ (plan : List Rig). length plan ≤ 64) (λ plan le. omega (arith, le, low)) (known_plans a depth)
-    (part_short (kinds_over a.points a.listed) (runs_in a) depth))
 
 -- two runs contradict each other, and perhaps a plan's run breaks
 pub contradicted : (a b : Answered) (d e : ℕ) (plans : List (List Rig)) (broken : Option BrokenRun) (found : BrokenRun) → a ≡ b → d ≡ e → plans ≡ known_plans a d → AreBroken a plans broken → IsContradiction a found
@@ -114,9 +106,6 @@ unrun_if a depth plan e =
     let s : Entries = tidied (grown_scenario a.points plan) in
     run_none (nat_le (length plan) 64) (told_in a.book s)
     (told_none (walked_by (runs_in a) depth (rigs_of_scenario a.points s)) (told_in a.book s) e)
-
-open_more : (k : KnownVerdicts) (p : Entries) (ps : List Entries) → open_plans k (p ∷ ps) ≡ cond (is_none (k (tidied p))) (tidied p ∷ open_plans k ps) (open_plans k ps)
-open_more k p ps = refl
 
 open_grown : (a : Answered) (depth : ℕ) (plans : List (List Rig)) (rest : List Entries) (t : Entries) → Contains (open_plans (known a depth) (grown_scenarios a.points plans ++ rest)) t
     → Contains (unrun a plans ++ open_plans (known a depth) rest) t

@@ -1,13 +1,10 @@
 -- Lines that are written one after the other.
 use Rattle.std.proofs.Common.{◌≡◌, ℕ, ◌+◌, ◌<◌, List, [], ◌∷◌, ◌++◌, take, drop, length, get_or, ap, sym, ◌∙◌, add-one}
 use Rattle.std.proofs.Math.Seq.{take-suc}
-use Rattle.scenario_values.specs.declared.term.Term.{Term}
-use Rattle.scenario_values.specs.Scenario.{Entries}
 use Rattle.action_eval.specs.Answers.{Hit}
 use Rattle.report.specs.ReportText.{ended, text_of}
 use Rattle.report.proofs.Written.{goes_on, next_of}
-use Rattle.report.proofs.ReportedLines.{lines_on}
-use Rattle.report.specs.explained.Explained.{hit_line, hit_lines, idle_of, idle_in, idle_lines}
+use Rattle.report.specs.explained.Explained.{hit_line, hit_lines}
 
 -- the element at i, and those after it
 element_of : {A : Type 0} (xs : List A) (i : ℕ) (x : A) → i < length xs → x ≡ get_or xs i x → drop i xs ≡ x ∷ drop (i + 1) xs

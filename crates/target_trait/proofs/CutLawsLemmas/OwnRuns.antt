@@ -1,18 +1,17 @@
 -- A case's run is the hits that were asked, up to its end or until it was cut short; and its hits are asked with the cut behind it too.
-use Rattle.std.proofs.Common.{◌≡◌, ℕ, zero, suc, ◌+◌, ◌<◌, ◌≤◌, nat_lt, Bool, true, false, cond, List, [], ◌∷◌, ◌++◌, length, Option, Some, refl, ap, sym, ◌∙◌, subst, arith, append_assoc}
+use Rattle.std.proofs.Common.{◌≡◌, ℕ, zero, suc, ◌+◌, ◌<◌, ◌≤◌, nat_lt, Bool, true, false, cond, List, [], ◌∷◌, ◌++◌, length, Some, refl, ap, sym, ◌∙◌, subst, arith, append_assoc}
 use Rattle.std.proofs.lemmas.Bool.Decides.{nat_tests}
 use Rattle.std.proofs.lemmas.List.{append-nil, length_push}
 use Rattle.scenario_values.specs.Scenario.{Entries}
-use Rattle.action_eval.specs.declared.answer.Stop.{Stop}
 use Rattle.action_eval.specs.declared.answer.Stop.TheVariants as stop
 use Rattle.action_eval.specs.Answers.{Given, Run, Reply, hit, replies, reply_to, stopped_by, history_of, is_over, cuts_short, is_cut_short}
 use Rattle.action_eval.proofs.CallerLemmas.{replies_open}
 use Rattle.target_trait.specs.declared.judgement.Judgement.TheVariants.{Kept}
 use Rattle.target_trait.specs.Play.{Move, Ask, Done, Unknown, FollowsOn, IsDone, IsWithin, move_in}
 use Rattle.target_trait.specs.Outcomes.{play, moved}
-use Rattle.target_trait.specs.Cuts.{Cut, IsAsking, AsksAll, asks_with, asks_from, cut_asks}
-use Rattle.target_trait.proofs.CutPlays.{asks_on}
+use Rattle.target_trait.specs.Cuts.{Cut, IsAsking, AsksAll, asks_with}
 use Rattle.target_trait.proofs.CutLawsLemmas.Names.{AreBelow, HaveChains, at, below_more, own_given, longer_given, short_same, replies_same}
+use Rattle.target_trait.proofs.CutRuns.{asks_more, asks_own, within_limit}
 
 -- ---- a play, by its hits
 
@@ -56,27 +55,9 @@ played asks points within g (suc n) done h =
 
 -- ---- with the cut behind
 
-asks_more : (asks : List Reply → Move) (done rest : List Reply) (a : Reply) → AsksAll asks done rest → IsAsking (asks (done ++ rest)) → AsksAll asks done (rest ++ a ∷ [])
-asks_more asks done [] a h k = (subst (λ (l : List Reply). IsAsking (asks l)) (append-nil done) k, tt)
-asks_more asks done (b ∷ rest) a h k =
-    (h.0, asks_more asks (done ++ b ∷ []) rest a h.1 (subst (λ (l : List Reply). IsAsking (asks l)) (sym (append_assoc done (b ∷ []) rest)) k))
-
-asks_own : (asks : List Reply → Move) (cut : Cut) (keep : ℕ) (done rest : List Reply) → AsksAll asks done rest → IsAsking (asks (done ++ rest))
-    → asks_from asks cut keep done rest ≡ asks (done ++ rest)
-asks_own asks cut keep done [] h k =
-    asks_on (asks done) (asks done) (cut_asks cut keep done []) (subst (λ (l : List Reply). IsAsking (asks l)) (append-nil done) k) ∙ ap asks (sym (append-nil done))
-asks_own asks cut keep done (a ∷ rest) h k =
-    asks_on (asks done) (asks_from asks cut keep (done ++ a ∷ []) rest) (cut_asks cut keep done (a ∷ rest)) h.0
-    ∙ asks_own asks cut keep (done ++ a ∷ []) rest h.1 (subst (λ (l : List Reply). IsAsking (asks l)) (sym (append_assoc done (a ∷ []) rest)) k)
-    ∙ ap asks (append_assoc done (a ∷ []) rest)
-
 asked_by : (b : Bool) (move : Move) (p : ℕ) → cond b (Done Kept) move ≡ Ask p → (b ≡ false) × (move ≡ Ask p)
 asked_by true move p e = absurd cc
 asked_by false move p e = (refl, e)
-
-within_limit : (b : Bool) (s : Option Stop) → cuts_short (cond b (Some stop.Limit) s) ≡ false → b ≡ false
-within_limit true s e = cc
-within_limit false s e = refl
 
 -- the same hits of the target are hits of the longer run
 pub record Own (asks all : List Reply → Move) (names : List (List ℕ)) (own longer : Given) (done hits : List ℕ) : Type 0 where

@@ -1,4 +1,4 @@
-use Rattle.std.proofs.Common.{◌≡◌, ◌∙◌, Err, List, ap, drop, true}
+use Rattle.std.proofs.Common.{◌∙◌, Err, List, ap, drop}
 use Rattle.target_trait.specs.Outcomes.{Told}
 use Rattle.result_book.specs.Runs.{runs_from, unreached_of}
 use Rattle.campaign_core.specs.CommandTexts.{tried, IsUnlisted}

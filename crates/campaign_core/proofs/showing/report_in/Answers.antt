@@ -3,8 +3,7 @@ use Rattle.std.proofs.lemmas.Result.{IfOk-weaker}
 use Rattle.report.specs.Reports.{GrowthFacts, ReportFacts}
 use Rattle.campaign_given.specs.Given.{Given}
 use Rattle.grown_plans.specs.numbered.GrownScenarios.{grown_among}
-use Rattle.report.specs.json_form.About.{shown_of}
-use Rattle.campaign_core.specs.Forms.{report_in, shown}
+use Rattle.campaign_core.specs.Forms.{report_in}
 use Rattle.campaign_core.specs.Headline.{Campaign, campaign_in}
 use Rattle.campaign_core.proofs.EachVerdict.{verdicts_each}
 use Rattle.campaign_core.proofs.Grown.{reached_counts}

@@ -1,8 +1,7 @@
-use Rattle.std.proofs.Common.{◌≡◌, ◌∙◌, ◌+◌, ◌<◌, List, Option, ap, drop, length, subst, sym, take, ℕ}
+use Rattle.std.proofs.Common.{◌≡◌, ◌∙◌, ◌+◌, ◌<◌, List, ap, drop, length, subst, sym, take, ℕ}
 use Rattle.std.specs.List.{concat}
 use Rattle.std.specs.Io.KnownBytes.{Appends}
-use Rattle.campaign_core.specs.Writes.{Change, WritesPart, change}
-use Rattle.outside_campaign.specs.declared.with_depth.fault.QuestionFault.{QuestionFault}
+use Rattle.campaign_core.specs.Writes.{WritesPart, change}
 use Rattle.campaign_main.specs.inside.Looks.{TellFails, since}
 use Rattle.campaign_main.proofs.FollowLemmas.{not-shorter, part-written, rest-written, text-grows}
 use Rattle.campaign_main.proofs.following.tell.Goals as goal

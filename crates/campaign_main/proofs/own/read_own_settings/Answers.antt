@@ -1,10 +1,7 @@
-use Rattle.std.proofs.Common.{◌≡◌, List, ℕ, Result, Ok, Err, Option, IfOk, IfErr, IfSome, ap, inl}
-use Rattle.std.specs.Str.{IsUtf8}
-use Rattle.campaign_settings.specs.declared.own.OwnSettings.{OwnSettings}
-use Rattle.campaign_main.specs.declared.exit.Exit.{Exit}
+use Rattle.std.proofs.Common.{◌≡◌, Result, Ok, Err, IfOk, IfErr, ap, inl}
 use Rattle.campaign_main.specs.declared.exit.Exit.TheVariants as exit
 use Rattle.campaign_main.specs.Commands.{Answer}
-use Rattle.campaign_main.specs.Ends.{IsRefused, TellsRefusal}
+use Rattle.campaign_main.specs.Ends.{IsRefused}
 use Rattle.campaign_main.specs.OwnTarget.{worded_answer, worded_text_answer}
 use Rattle.campaign_main.proofs.EndLemmas.{read-fault-cause, read-answer}
 use Rattle.campaign_core.specs.Writes.{change}

@@ -1,4 +1,4 @@
-use Rattle.std.proofs.Common.{◌≡◌, ◌<◌, ◌==◌, ◌∙◌, Bool, List, ap, filter, length, slice_index_or, subst, ℕ}
+use Rattle.std.proofs.Common.{◌==◌, ◌∙◌, List, ap, filter, length, slice_index_or, subst, ℕ}
 use Rattle.std.specs.List.{range_with_len}
 use Rattle.action_eval.specs.declared.rig.Rig.{Rig}
 use Rattle.answered_runs.specs.Answered.{known_plans, runs_in}

@@ -1,4 +1,4 @@
-use Rattle.std.proofs.Common.{◌≡◌, ◌∙◌, List, ap, arith, length, subst, sym}
+use Rattle.std.proofs.Common.{◌∙◌, List, ap, arith, length, subst, sym}
 use Rattle.scenario_values.specs.Scenario.{Entries}
 use Rattle.result_book.specs.Ranges.{AreSaid}
 use Rattle.result_book.proofs.SlotLemmas.{length_verdicts}

@@ -1,4 +1,4 @@
-use Rattle.std.proofs.Common.{◌≡◌, ◌∙◌, IfErr, Ok, Result, subst, sym}
+use Rattle.std.proofs.Common.{◌∙◌, IfErr, Result, subst, sym}
 use Rattle.std.proofs.lemmas.Result.{IfOk-weaker}
 use Rattle.campaign_core.specs.Writes.{change}
 use Rattle.campaign_main.specs.Commands.{Refusal}

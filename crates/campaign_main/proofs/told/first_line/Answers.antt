@@ -1,5 +1,3 @@
-use Rattle.std.proofs.Common.{◌∙◌, ap₂, sym, ◌∷◌, List, ℕ}
-use Rattle.campaign_main.specs.Following.{lines_in}
 use Rattle.campaign_main.proofs.LineLemmas.{cut-at, cut-none}
 use Rattle.campaign_main.proofs.told.first_line.Goals as goal
 

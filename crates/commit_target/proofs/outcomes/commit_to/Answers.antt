@@ -6,7 +6,7 @@ use Rattle.commit_target.specs.Steps.{Tally, SendCommit, ForceOutcome, SendAck, 
 use Rattle.commit_target.specs.inside.Seen.{Stands, Ended}
 use Rattle.commit_target.proofs.Playing.{cut_off, goes_on, written, acknowledged}
 use Rattle.commit_target.proofs.outcomes.commit_to.Goals as goal
-use Rattle.commit_target.proofs.outcomes.commit_to.Goals.{In_ok-ask, In_ok-write}
+use Rattle.commit_target.proofs.outcomes.commit_to.Goals.{In_ok-write}
 
 pub returns-in_err-ask-clause-led : goal.returns-in_err-ask-clause-led
 returns-in_err-ask-clause-led c = cut_off _ _ _ _ c.from_residual.ensures.1 (c.in_err-ask.ensures.answered _ _ _ _ c.requires refl)

@@ -1,4 +1,4 @@
-use Rattle.std.specs.Prelude.{◌≡◌, ℕ, List, length}
+use Rattle.std.specs.Prelude.{◌≡◌, length}
 use Rattle.std.proofs.Common.{refl}
 use Rattle.action_eval.specs.Answers.{Reply, Go, Return, Halt}
 use Rattle.sim_device.specs.FileEffects.{pending}

@@ -1,4 +1,4 @@
-use Rattle.std.proofs.Common.{◌≡◌, ◌∷◌, ◌++◌, ◌∙◌, ap, sym, refl, subst, true, false, true≢false, Bool, List, ℕ, []}
+use Rattle.std.proofs.Common.{◌≡◌, ◌∷◌, ◌++◌, ◌∙◌, sym, refl, subst, true, false, true≢false, Bool, []}
 use Rattle.plan_gen.proofs.Rigged.{nothing_keeps}
 use Rattle.action_eval.specs.Catalogue.{IsCatalogue}
 use Rattle.campaign_core.specs.target_laws.Candidates.{AreTried, IsUnder, Look, look}

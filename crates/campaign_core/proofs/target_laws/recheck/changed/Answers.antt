@@ -1,4 +1,4 @@
-use Rattle.std.proofs.Common.{rules, ap, sym, refl, ◌∙◌, ◌∷◌, [], arith}
+use Rattle.std.proofs.Common.{rules, ap, sym, refl, ◌∙◌, ◌∷◌, []}
 use Rattle.target_trait.specs.declared.case.Case.{Case}
 use Rattle.campaign_core.specs.target_laws.Candidates.{Look, look}
 use Rattle.campaign_core.proofs.TargetLawsLemmas.Candidates.{here, lead_one}

@@ -1,7 +1,6 @@
-use Rattle.std.proofs.Common.{◌≡◌, ◌++◌, ◌∙◌, ap, sym, subst, refl}
+use Rattle.std.proofs.Common.{◌++◌, ◌∙◌, sym, subst}
 use Rattle.target_trait.specs.declared.judgement.Verdict.TheVariants.{Fail}
 use Rattle.campaign_core.specs.target_laws.Candidates.{Lead}
-use Rattle.campaign_core.specs.target_laws.Rechecked.{AreSteady}
 use Rattle.campaign_core.proofs.TargetLawsLemmas.Candidates.{lead_more}
 use Rattle.campaign_core.proofs.TargetLawsLemmas.Rechecked.{at_place, rerun_changed, rerun_steady, steady_on, steady_past}
 use Rattle.campaign_core.proofs.target_laws.recheck.first_changed_verdict.Goals.{in-Fail+in_ok-changed+else-is_some, in_default}

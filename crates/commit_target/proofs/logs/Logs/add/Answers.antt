@@ -1,4 +1,4 @@
-use Rattle.std.proofs.Common.{◌≡◌, true, false, List, refl, sym, ◌∙◌, subst, cond, Bool}
+use Rattle.std.proofs.Common.{false, refl, subst}
 use Rattle.commit_target.specs.Writes.{Written, AllLogs, AddsEvent, pending}
 use Rattle.commit_target.specs.inside.Batches.{write_of}
 use Rattle.commit_target.proofs.Noting.{not_noted}

@@ -1,4 +1,4 @@
-use Rattle.std.proofs.Common.{◌⊎◌, Option, Some, None, subst, sym}
+use Rattle.std.proofs.Common.{◌⊎◌, Option, None, subst, sym}
 use Rattle.answered_runs.specs.Agreement.{AreContradicted, IsContradiction}
 use Rattle.answered_runs.specs.Answered.{known_plans}
 use Rattle.answered_runs.specs.Broken.{AreBroken, IsFirstBreak}

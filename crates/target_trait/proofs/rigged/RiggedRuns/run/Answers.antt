@@ -1,6 +1,6 @@
 use Rattle.std.proofs.Common.{ap, sym, ◌∙◌}
-use Rattle.action_eval.specs.Answers.{Run, given_of, start}
-use Rattle.target_trait.specs.Outcomes.{outcome, verdict_with}
+use Rattle.action_eval.specs.Answers.{Run, start}
+use Rattle.target_trait.specs.Outcomes.{verdict_with}
 use Rattle.target_trait.proofs.rigged.RiggedRuns.run.Goals as goal
 
 pub run_session-requires-clause-new : goal.run_session-requires-clause-new
