@@ -58,6 +58,20 @@ A lemma that nothing cites is told, though it cites itself; one that its own fil
   crates/small/proofs/Lemmas.antt:7: over
   [1]
 
+So is a record that nothing cites; one is cited through the name that a file gives its module, too. If the tool itself fails, that is told.
+
+  $ printf 'pub record Pair : Type 0 where\n  pub one : A\n\npub data Two : Type 0 where\n  two : Two\n' > crates/small/proofs/Lemmas.antt
+  $ printf 'use Rattle.small.proofs.Lemmas as lemmas\n\npub returns : goal.returns\nreturns c = lemmas.Pair\n' > crates/small/proofs/double/Answers.antt
+  $ git add . && tools/house_rules
+  definitions and lemmas that nothing cites:
+  crates/small/proofs/Lemmas.antt:4: Two
+  [1]
+  $ printf '#!/bin/sh\nexit 2\n' > tools/uncited && git add . && tools/house_rules
+  definitions and lemmas that nothing cites:
+  tools/uncited fails
+  [1]
+  $ printf '#!/bin/sh\n' > tools/uncited
+
 A file that `rt fmt` can't read is told too.
 
   $ rm -r crates/small/proofs && git add . && echo '[ "$1" != fmt ] || { echo src/lib.rt:1: error; exit 1; }' >> ../bin/rt && tools/house_rules

@@ -54,8 +54,8 @@ The list has where each was refused, and a digest of what that rests on.
   $ cut -f 2 must-fail.tsv | grep -cE '^[0-9a-f]{20}$'
   3
 
-Without a word those are tried that the list doesn't have as they are now, those of a promise, and up to 20 that are drawn, five of a crate: here all. One that is refused elsewhere than
-the list says fails, and so does a line without an edit.
+Without a word those are tried that the list doesn't have as they are now, those of a promise, and up to 20 that are drawn, at most five of a crate: here all. One
+that is refused elsewhere than the list says fails, and so does a line without an edit.
 
   $ bodies
   toy/answered: refused: toy::other at sums
