@@ -24,12 +24,8 @@ hits() {
 rows=$(grep -c '^scenario ' points/table)
 is 'the C client and the table' "$rows rows, 0 differ" "$(points/held out/driver)"
 is 'the Python client and the table' "$rows rows, 0 differ" "$(PYTHONPATH=points/python/src points/held python3 -S -B points/driver.py)"
-if command -v g++ > "$here/said"; then
-    g++ -std=c++17 -Wall -Wextra -Werror -x c++ points/driver.c -x none out/points.o -o "$here/driver" -pthread
-    is 'the C client in C++, and the table' "$rows rows, 0 differ" "$(points/held "$here/driver")"
-else
-    echo 'skipped the client in C++: no g++'
-fi
+g++ -std=c++17 -Wall -Wextra -Werror -x c++ points/driver.c -x none out/points.o -o "$here/driver" -pthread
+is 'the C client in C++, and the table' "$rows rows, 0 differ" "$(points/held "$here/driver")"
 is 'no program to hold to it' '1 held: No such file or directory: out/no driver' "$(points/held 'out/no driver' 2> "$here/said"; echo "$? $(cat "$here/said")")"
 is 'a program sees one name of the C client' points_hit "$(nm -g --defined-only out/points.o | cut -d ' ' -f 3)"
 
