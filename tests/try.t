@@ -130,3 +130,13 @@ What a return says beside that a call fails changes nothing in a bundled target:
         9 alike
         9 alike
         9 alike
+
+Notes have the text of their term without a copy of it: here 5,000 notes have 60,000 bytes each, where 50 megabytes are all that there is.
+
+  $ { printf 'target = "replace"\nmax_hits = 6000\n[replace]\nold = ""\nreplacements = [["a"'; printf ', "a"%.0s' $(seq 4999); echo ']]'; } > many.toml
+  $ (ulimit -v 50000; paklour try --scenario "replace::write=print($(printf '%060000d' 0))" many.toml)
+  verdict pass
+  asked 5004
+  words 0
+  millis 0
+  notes 5000

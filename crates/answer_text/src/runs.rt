@@ -146,7 +146,7 @@ impl Runs {
     ) -> Result<(), LineError>
         ensures { Gives (λ _. self.new) result (noted points.now self.old line run) }
     {
-        let key = Text::from_string(print(alloc, &run.scenario)?);
+        let key = Text::from_string(print(alloc, &run.scenario)?)?;
         push_strangers(&mut self.strangers, points, line, &run.scenario)?;
         match self.told.get(&key) {
             None => {

@@ -89,8 +89,8 @@ pub(crate) fn tidied_text(alloc: Global, scenario: &Scenario) -> Result<Text, Al
     ensures { IfOk result (λ text. text ≡ printed (tidied scenario.now)) }
 {
     if is_tidy(scenario) {
-        return Ok(Text::from_string(print(alloc, scenario)?));
+        return Text::from_string(print(alloc, scenario)?);
     }
     let tidied = tidy(alloc, scenario)?;
-    Ok(Text::from_string(print(alloc, &tidied)?))
+    Text::from_string(print(alloc, &tidied)?)
 }

@@ -1,10 +1,10 @@
 //! The settings of a campaign.
-ghost use Rattle.std.specs.Prelude.{◌≡◌, ◌≤◌, ◌<◌, IfSome, false, length};
+ghost use Rattle.std.specs.Prelude.{◌≡◌, ◌≤◌, ◌<◌, IfSome, false, length, string_bytes};
 ghost use Rattle.std.proofs.Props.{props};
 ghost use Rattle.campaign_given.specs.Given.{defaults, read_from, IsGiven};
 
 use plan_gen::PlanSettings;
-use scenario_values::{Scenario, Text};
+use scenario_values::Scenario;
 use std::alloc::Global;
 use std::marker::Model;
 use target_trait::Case;
@@ -54,7 +54,7 @@ pub struct CampaignSettings {
     /// The listed scenarios, up to 1000, which are tried too.
     pub scenarios: Vec<Scenario>,
     /// The text from which the settings were read, which a page shows. It is empty if a program made them.
-    pub source: Text,
+    pub source: String,
     ghost seed_high: { seed ≤ 9223372036854775807 },
     ghost workers_low: { 1 ≤ workers },
     ghost workers_high: { workers ≤ 64 },
@@ -69,6 +69,7 @@ pub struct CampaignSettings {
 }
 
 impl Model for CampaignSettings {
+    ghost use Rattle.std.specs.String.{string_bytes};
     ghost use Rattle.campaign_given.specs.Given.{Given};
 
     ghost Value = { Given };
@@ -79,7 +80,7 @@ impl Model for CampaignSettings {
       depth = s.depth;
       crash_states = s.crash_states;
       plans = record { pairs = s.pairs; storms = s.storms; rate = s.rate; listed = s.scenarios.items; seed = s.seed };
-      source = s.source;
+      source = string_bytes s.source;
     } };
 }
 
@@ -99,13 +100,13 @@ impl CampaignSettings {
             depth: None,
             crash_states: CRASH_STATES_IF_MISSING,
             scenarios: Vec::new(alloc),
-            source: Text::from_string(String::new(alloc)),
+            source: String::new(alloc),
         }
     }
 
     /// The same settings, as read from this text.
-    pub fn read_from(mut self, source: Text) -> Self
-        ensures { result ≡ read_from source self }
+    pub fn read_from(mut self, source: String) -> Self
+        ensures { result ≡ read_from (string_bytes source) self }
     {
         self.source = source;
         self

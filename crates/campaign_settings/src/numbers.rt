@@ -11,7 +11,7 @@ use campaign_given::{
     CRASH_STATES_IF_MISSING, CampaignSettings, MAX_HITS_IF_MISSING, PAIRS_IF_MISSING,
     RATE_IF_MISSING, SEED_IF_MISSING, STORMS_IF_MISSING, WORKERS_IF_MISSING,
 };
-use scenario_grammar::{Scenario, Text};
+use scenario_grammar::Scenario;
 use std::alloc::Global;
 use toml::Table;
 
@@ -145,6 +145,6 @@ pub fn campaign_of(
         depth: planning.depth,
         crash_states: planning.crash_states,
         scenarios,
-        source: Text::from_string(String::new(alloc)),
+        source: String::new(alloc),
     }
 }

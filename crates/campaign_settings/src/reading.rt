@@ -13,7 +13,6 @@ use crate::settings::Settings;
 use crate::tables::{keyed, read_choice, refuse_unknown};
 use crate::values::{read_setup, read_target, value_at};
 use campaign_given::CampaignSettings;
-use scenario_grammar::Text;
 use std::alloc::Global;
 use toml::Table;
 
@@ -35,7 +34,7 @@ impl Settings {
     {
         let table = read_toml(alloc, text)?;
         let Settings { choice, campaign } = read_members(alloc, &table)?;
-        let campaign = campaign.read_from(Text::copy_of(alloc, text)?);
+        let campaign = campaign.read_from(String::from_str(alloc, text)?);
         Ok(Settings { choice, campaign })
     }
 
@@ -50,7 +49,7 @@ impl Settings {
     {
         let table = read_toml(alloc, text)?;
         let campaign = read_own_members(alloc, &table)?;
-        Ok(campaign.read_from(Text::copy_of(alloc, text)?))
+        Ok(campaign.read_from(String::from_str(alloc, text)?))
     }
 
     /// The same for a program whose target takes words. Beside the keys of `read_own` there may be a `variant`, a text, and a table `own` of texts,
@@ -62,7 +61,7 @@ impl Settings {
     {
         let table = read_toml(alloc, text)?;
         let OwnSettings { words, campaign } = read_worded_members(alloc, &table)?;
-        let campaign = campaign.read_from(Text::copy_of(alloc, text)?);
+        let campaign = campaign.read_from(String::from_str(alloc, text)?);
         Ok(OwnSettings { words, campaign })
     }
 }

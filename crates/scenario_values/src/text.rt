@@ -9,44 +9,41 @@ ghost use Rattle.std.specs.Hash as fed;
 use std::alloc::{AllocError, Global};
 use std::hash::{Hash, Hasher};
 use std::marker::Model;
+use std::sync::ArcStr;
 
-/// A name of a point, or a task's argument. Two texts are equal if their bytes are.
+/// A name of a point, or a task's argument. Two texts are equal if their bytes are. Copies share the bytes, so a copy of any length takes no memory.
+// A `print` leaves its argument at each hit at which it acts, and a scenario's reduction has each name in each of its candidates.
 #[derive(Debug, Drop)]
 pub struct Text {
-    text: String,
+    text: ArcStr,
 }
 
 impl Model for Text {
     ghost use Rattle.std.specs.Prelude.{List, ℕ};
-    ghost use Rattle.std.specs.String.{string_bytes};
+    ghost use Rattle.std.specs.Arc.{arc_str_bytes};
 
     ghost Value = { List ℕ };
 
-    ghost view = { λ t. string_bytes t.text };
+    ghost view = { λ t. arc_str_bytes t.text };
 }
 
 impl Text {
-    /// A copy of the text.
+    /// A text with the same bytes.
     pub fn copy_of(alloc: Global, text: &str) -> Result<Text, AllocError>
         ensures { IfOk result (λ t. t ≡ text.now) }
     {
         Ok(Text {
-            text: String::from_str(alloc, text)?,
+            text: ArcStr::from_str(alloc, text)?,
         })
     }
 
-    /// The text itself.
-    pub fn from_string(text: String) -> Text
-        ensures { result ≡ string_bytes text }
+    /// The text of this string, which isn't copied.
+    pub fn from_string(text: String) -> Result<Text, AllocError>
+        ensures { IfOk result (λ t. t ≡ string_bytes text) }
     {
-        Text { text }
-    }
-
-    /// The text, given back.
-    pub fn into_string(self) -> String
-        ensures { string_bytes result ≡ self }
-    {
-        self.text
+        Ok(Text {
+            text: ArcStr::from_string(text)?,
+        })
     }
 
     /// The text, borrowed.
@@ -56,7 +53,7 @@ impl Text {
         self.text.as_str()
     }
 
-    /// A copy.
+    /// A copy, which shares the bytes.
     pub fn try_clone(&self) -> Result<Text, AllocError>
         ensures { IfOk result (λ t. t ≡ self.now) }
     {
@@ -72,7 +69,7 @@ impl PartialEq for Text {
     ghost laws = { Prim.search (comparing, rules) };
 
     fn eq(&self, other: &Text) -> bool {
-        self.text == other.text
+        self.as_str() == other.as_str()
     }
 }
 
@@ -86,7 +83,7 @@ impl Hash for Text {
     ghost respects_eq = { Prim.search (hashing, rules) };
 
     fn hash<H: Hasher>(&self, state: &mut H) {
-        self.text.hash(state);
+        self.as_str().hash(state);
     }
 }
 

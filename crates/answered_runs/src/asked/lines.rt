@@ -45,7 +45,7 @@ impl AskedLines {
     {
         let mut text = String::new(alloc);
         write_scenario(alloc, &mut text, scenario)?;
-        self.lines.insert(Text::from_string(text))?;
+        self.lines.insert(Text::from_string(text)?)?;
         Ok(())
     }
 
