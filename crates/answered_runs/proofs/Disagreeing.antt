@@ -40,8 +40,8 @@ said_hits : (o : Option (List Stretch)) (P : List ℕ → Type 0) (hits : List �
 said_hits None P hits h e = absurd cc
 said_hits (Some stretches) P hits h e = subst P (same_points stretches hits e) h
 
-true_run : (t : Subject) (told : KnownRuns) → AgreesWithRuns t told → (s : Entries) → IsScenario s → (r : ToldRun) → told s ≡ Some r → IsTrueRun t s r
-true_run t told agrees s lawful r e = subst (λ (o : Option ToldRun). IfSome o (IsTrueRun t s)) e (agrees s lawful)
+true_run : (t : Subject) (told : KnownRuns) → AgreesWithRuns t told → (s : Entries) → IsScenario s → IsCertain s → (r : ToldRun) → told s ≡ Some r → IsTrueRun t s r
+true_run t told agrees s lawful certain r e = subst (λ (o : Option ToldRun). IfSome o (IsTrueRun t s)) e (agrees s lawful certain)
 
 -- the component's run goes as the line says
 goes_line : (t : Subject) (points : List (List ℕ)) (s : Entries) (r : ToldRun) (hits : List ℕ) → t.names ≡ points → IsCertain s → IsTrueRun t s r → (told_of r).hits ≡ Some hits → Goes t.asks points t.limit s hits r.verdict
@@ -107,10 +107,10 @@ contradicted_by_none a b is t component agrees = by_how b.how is.contradicts
     u = is.other
 
     run_true : IsTrueRun t s is.run
-    run_true = true_run t (told_in a.book) agrees s is.lawful is.run is.recorded
+    run_true = true_run t (told_in a.book) agrees s is.lawful is.certain is.run is.recorded
 
     told_true : IsTrueRun t u is.told
-    told_true = true_run t (told_in a.book) agrees u is.other_lawful is.told is.other_recorded
+    told_true = true_run t (told_in a.book) agrees u is.other_lawful is.other_certain is.told is.other_recorded
 
     by_how : (how : Conflict) → ContradictsBy a.points (line_of s (told_of is.run)) (line_of u (told_of is.told)) how → ⊥
     by_how (conflict.Hits (Differs hit)) h = other_hits t a.points s u is.run is.told hit component.names is.certain is.other_certain run_true told_true h

@@ -72,7 +72,7 @@ return_scenario =
 
 pub agrees : AgreesWithRuns ended_component ended_told
 unfolding first_told
-agrees s is = first_line (bytes_eq (printed s) (printed [])) refl
+agrees s is certain = first_line (bytes_eq (printed s) (printed [])) refl
   where
     second_line : (b : Bool) → bytes_eq (printed s) (printed one_return) ≡ b → IfSome (cond b (Some return_told) None) (IsTrueRun ended_component s)
     second_line true e =

@@ -26,12 +26,14 @@ use Rattle.grown_plans.specs.Promises.{IsLawful, verdict_of_rigs}
 use Rattle.grown_plans.proofs.Members.{all_map, all_weaker}
 use Rattle.grown_runs.specs.known.Walks.{once}
 use Rattle.grown_runs.proofs.KnownLemmas.Steps.{same_verdict}
+use Rattle.answered_runs.specs.Agreement.{is_certain}
 use Rattle.answered_runs.specs.Answered.{plan_runs}
 use Rattle.answered_runs.specs.Components.{AgreesWithRuns, IsComponent, IsTrueRun}
 use Rattle.answered_runs.specs.Rigged.{are_in_order, are_lawful, are_short, are_small, is_short, if_made, make, most_hit, points_into, rigs_of_scenario}
 use Rattle.answered_runs.specs.Verdicts.{AreVerdictsOf, told_or, verdict_by, walked_by}
 use Rattle.answered_runs.proofs.AnyKinds.{any_kinds, any_in, any_once, any_texts, distinct_apart}
 use Rattle.answered_runs.proofs.Runs.{agree_lawful}
+use Rattle.answered_runs.proofs.Tests.{scenario_certain}
 
 -- ---- tests that hold
 
@@ -89,7 +91,7 @@ true_any t rigs s None h = tt
 true_any t rigs s (Some r) h = record { verdict = h.verdict; hits = h.hits }
 
 pub agrees_any : (t : Subject) (rigs : List Rig) (told : KnownRuns) → AgreesWithRuns t told → AgreesWithRuns (with_any t rigs) told
-agrees_any t rigs told agrees = λ s lawful. true_any t rigs s (told s) (agrees s lawful)
+agrees_any t rigs told agrees = λ s lawful certain. true_any t rigs s (told s) (agrees s lawful certain)
 
 -- ---- the rigged hits of a scenario
 
@@ -152,7 +154,7 @@ verdict_some v w e = cc
 -- ---- the verdicts
 
 pub true_of : (t : Subject) (points : List (List ℕ)) (listed : List (List Kind)) (told : KnownRuns) (depth : ℕ) → IsComponent points listed t → depth ≤ 64 → AgreesWithRuns t told → AreVerdictsOf t (verdict_by points told depth)
-true_of t points listed told depth is low agrees s v ok known seed stream = by_told (told s) (agrees s ok) known
+true_of t points listed told depth is low agrees s v ok known seed stream = by_test (is_certain s) refl known
   where
     catalogue : IsCatalogue points
     catalogue = subst IsCatalogue is.names is.lawful.catalogue
@@ -170,3 +172,8 @@ true_of t points listed told depth is low agrees s v ok known seed stream = by_t
     by_told : (o : Option ToldRun) → IfSome o (IsTrueRun t s) → told_or (walked_by (plan_runs points told) depth (rigs_of_scenario points s)) o ≡ Some v → (outcome t.asks (given_of s t.names seed stream t.limit)).verdict ≡ v
     by_told (Some r) h k = h.verdict seed stream ∙ verdict_some r.verdict v k
     by_told None h k = by_rigs (rigs_of_scenario points s) refl k
+
+    by_test : (b : Bool) → is_certain s ≡ b → told_or (walked_by (plan_runs points told) depth (rigs_of_scenario points s)) (cond b (told s) None) ≡ Some v
+        → (outcome t.asks (given_of s t.names seed stream t.limit)).verdict ≡ v
+    by_test true e k = by_told (told s) (agrees s ok (scenario_certain s e)) k
+    by_test false e k = by_rigs (rigs_of_scenario points s) refl k

@@ -9,11 +9,11 @@ use Rattle.action_eval.specs.Answers.{Reply}
 use Rattle.target_trait.specs.declared.judgement.Verdict.{Verdict}
 use Rattle.target_trait.specs.Play.{Move}
 use Rattle.grown_runs.specs.known.Looks.{told}
-use Rattle.answered_runs.specs.Agreement.{IsCertain, Says, line_of, move_said}
+use Rattle.answered_runs.specs.Agreement.{IsCertain, Says, is_certain, line_of, move_said}
 use Rattle.answered_runs.proofs.CertainAnswers.{answers_over}
 use Rattle.answered_runs.proofs.Disagreeing.{answers_reached, cut_reached}
 use Rattle.answered_runs.proofs.LineRuns.{cut_over}
-use Rattle.answered_runs.proofs.Tests.{both_true, certain_scenario, is_certain, replies_are, replies_same, same_replies, scenario_certain, true_both}
+use Rattle.answered_runs.proofs.Tests.{both_true, certain_scenario, replies_are, replies_same, same_replies, scenario_certain, true_both}
 
 abbrev does_say : List (List ℕ) → Entries → List ℕ → List Reply → Bool
 does_say points s hits answers =

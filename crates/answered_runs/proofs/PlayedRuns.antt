@@ -1,9 +1,8 @@
 -- The recorded runs, gone through one by one: what stands of each, and what follows once all stand.
-use Rattle.std.proofs.Common.{◌≡◌, ◌⊎◌, inl, inr, ℕ, zero, suc, ◌+◌, ◌<◌, ◌≤◌, ◌==◌, ◌&&◌, ◌||◌, nat_le, Bool, true, false, cond, Option, Some, None, List, [], ◌∷◌, ◌++◌, length, take, get_or, refl, ap, sym, ◌∙◌, subst, arith}
+use Rattle.std.proofs.Common.{◌≡◌, ◌⊎◌, inl, inr, ℕ, zero, suc, ◌+◌, ◌<◌, ◌≤◌, ◌&&◌, nat_le, Bool, true, false, cond, Option, Some, None, List, [], ◌∷◌, ◌++◌, length, take, get_or, refl, ap, sym, ◌∙◌, subst, arith}
 use Rattle.std.specs.Prelude.{Contains, ◌^◌, IfSome, option_and_then, slice_get, slice_index_or}
 use Rattle.std.specs.List.{AllByRecursion, list_all}
 use Rattle.std.proofs.lemmas.Bool.{cases_lt}
-use Rattle.std.proofs.lemmas.Bool.Decides.{Decides-eqb}
 use Rattle.std.proofs.lemmas.List.{take_all, take_more}
 use Rattle.std.proofs.lemmas.List.Folds.{list_all_at}
 use Rattle.std.proofs.lemmas.Option.{slice_get-get_or}
@@ -26,7 +25,7 @@ use Rattle.grown_runs.specs.known.Looks.{told}
 use Rattle.target_trait.specs.Play.{Move}
 use Rattle.target_trait.specs.declared.judgement.Verdict.{Verdict}
 use Rattle.target_trait.specs.declared.judgement.Verdict.TheVariants.{Unresolved}
-use Rattle.answered_runs.specs.Agreement.{AreOfOne, EndsAtPause, HasItsRun, IsCertain, SayTheSame, KeepsVerdict, line_of}
+use Rattle.answered_runs.specs.Agreement.{AreOfOne, EndsAtPause, HasItsRun, IsCertain, SayTheSame, KeepsVerdict, is_certain, is_sure, line_of}
 use Rattle.answered_runs.specs.Answered.{Answered, hits_by, is_low, plan_told, told_of}
 use Rattle.answered_runs.specs.Lines.{AreLinesOf}
 use Rattle.answered_runs.specs.declared.broken.BrokenRun.{BrokenRun}
@@ -37,53 +36,13 @@ use Rattle.answered_runs.specs.inside.LineSteps.{IsScenarioOn}
 use Rattle.answered_runs.specs.inside.Played.{Adds, AddsLine, AreDone, AreMarked, Goes, IsAdded, IsBegun, IsDone, IsLineAdded, IsListed, IsState, Stands}
 use Rattle.answered_runs.specs.declared.tree.Next.TheVariants.{End}
 use Rattle.answered_runs.specs.declared.tree.Said.{Said}
-use Rattle.answered_runs.specs.inside.Steps.{is_certain, is_sure}
 use Rattle.answered_runs.specs.inside.Trees.{AreKept, Grows, HaveKnownPoints, IsKept, IsSeen, IsSound, IsTold, IsUnseen, Leads, StaysApart, Tree, move_of}
 use Rattle.answered_runs.proofs.LineReading.{At, all_before, begins, line_of as line_on, next_line, reads_here, same_line, scenario_here}
 use Rattle.answered_runs.proofs.Places.{grows_same, kept_grow}
 use Rattle.answered_runs.proofs.ReadHits.{HasFew, ToldFew, known_run_few, points_below}
+use Rattle.answered_runs.proofs.Tests.{both_true, certain_scenario}
 
 -- ---- certain scenarios
-
-or_true : (a b : Bool) → a || b ≡ true → (a ≡ true) ⊎ (b ≡ true)
-or_true true b e = inl refl
-or_true false b e = inr e
-
-and_true : (a b : Bool) → a && b ≡ true → (a ≡ true) × (b ≡ true)
-and_true true b e = (refl, e)
-and_true false b e = absurd cc
-
-true_if : (a b : Bool) → (a ≡ true) ⊎ (b ≡ true) → a || b ≡ true
-true_if true b h = refl
-true_if false b (inl e) = absurd cc
-true_if false b (inr e) = e
-
-sure_is : (t : Term) → (t.share ≡ 0) ⊎ (t.share ≡ 1000000) → is_sure t ≡ true
-sure_is t (inl e) = true_if (t.share == 0) (t.share == 1000000) (inl ((Decides-eqb t.share 0).1 e))
-sure_is t (inr e) = true_if (t.share == 0) (t.share == 1000000) (inr ((Decides-eqb t.share 1000000).1 e))
-
-is_sure_of : (t : Term) → is_sure t ≡ true → (t.share ≡ 0) ⊎ (t.share ≡ 1000000)
-is_sure_of t e = elim (or_true (t.share == 0) (t.share == 1000000) e) [
-  | inl h ↦ inl ((Decides-eqb t.share 0).0 h)
-  | inr h ↦ inr ((Decides-eqb t.share 1000000).0 h)
-]
-
-all_are : {X : Type 0} (P : X → Type 0) (p : X → Bool) → ((x : X) → P x → p x ≡ true) → (xs : List X) → AllByRecursion P xs → list_all p xs ≡ true
-all_are P p h [] all = refl
-all_are P p h (x ∷ xs) all = ap (λ (b : Bool). b && list_all p xs) (h x all.0) ∙ all_are P p h xs all.1
-
-are_all : {X : Type 0} (P : X → Type 0) (p : X → Bool) → ((x : X) → p x ≡ true → P x) → (xs : List X) → list_all p xs ≡ true → AllByRecursion P xs
-are_all P p h [] e = tt
-are_all P p h (x ∷ xs) e = let both = and_true (p x) (list_all p xs) e in (h x both.0, are_all P p h xs both.1)
-
-abbrev Sure : Term → Type 0
-Sure t = (t.share ≡ 0) ⊎ (t.share ≡ 1000000)
-
-pub certain_is : (s : Entries) → IsCertain s → is_certain s ≡ true
-certain_is s c = all_are (λ (e : List ℕ × List Term). AllByRecursion Sure e.1) (λ (e : List ℕ × List Term). list_all is_sure e.1) (λ e h. all_are Sure is_sure sure_is e.1 h) s c
-
-pub is_certain_of : (s : Entries) → is_certain s ≡ true → IsCertain s
-is_certain_of s e = are_all (λ (e : List ℕ × List Term). AllByRecursion Sure e.1) (λ (e : List ℕ × List Term). list_all is_sure e.1) (λ e h. are_all Sure is_sure is_sure_of e.1 h) s e
 
 abbrev chain_sure : List ℕ × List Term → Bool
 chain_sure e = list_all is_sure e.1
@@ -96,7 +55,7 @@ chain_here s i less = ap (λ (o : Option (List ℕ × List Term)). option_map_or
 
 all_one : {X : Type 0} (p : X → Bool) (xs : List X) (x : X) → list_all p xs ≡ true → p x ≡ true → list_all p (xs ++ x ∷ []) ≡ true
 all_one p [] x e f = ap (λ (b : Bool). b && true) f
-all_one p (y ∷ xs) x e f = let both = and_true (p y) (list_all p xs) e in ap (λ (b : Bool). b && list_all p (xs ++ x ∷ [])) both.0 ∙ all_one p xs x both.1 f
+all_one p (y ∷ xs) x e f = let both = both_true (p y) (list_all p xs) e in ap (λ (b : Bool). b && list_all p (xs ++ x ∷ [])) both.0 ∙ all_one p xs x both.1 f
 
 pub certain_more : (s : Entries) (i : ℕ) → i < length s → list_all (λ (e : List ℕ × List Term). list_all is_sure e.1) (take i s) ≡ true → list_all is_sure (chain_at s i) ≡ true
     → list_all (λ (e : List ℕ × List Term). list_all is_sure e.1) (take (i + 1) s) ≡ true
@@ -194,7 +153,7 @@ pub passed_over : (a : Answered) (x : Played) (s : Entries) (r : ToldRun) → Is
 passed_over a x s r state not = record {
   state = state;
   goes = goes_same x;
-  done = λ certain. absurd (let w : true ≡ false = sym (certain_is s certain) ∙ not in cc);
+  done = λ certain. absurd (let w : true ≡ false = sym (certain_scenario s certain) ∙ not in cc);
 }
 
 -- ---- the run of a plan

@@ -1,13 +1,12 @@
 -- Some component agrees with lines of which no two contradict each other. It does what the lines say, and where they say nothing, nobody knows what
 -- it does.
-use Rattle.std.proofs.Common.{◌≡◌, ℕ, ◌<◌, ◌≤◌, nat_le, Bool, true, false, cond, Option, None, Some, List, [], ◌∷◌, length, take, refl, ap, sym, ◌∙◌, subst, arith, ◌⊎◌, inl, inr, zero, suc, get_or}
-use Rattle.std.specs.Prelude.{IfSome, option_and_then, option_map, slice_get}
+use Rattle.std.proofs.Common.{◌≡◌, ℕ, ◌<◌, ◌≤◌, Bool, true, false, Option, None, Some, List, [], ◌∷◌, length, take, refl, ap, sym, ◌∙◌, subst, arith, ◌⊎◌, inl, inr, zero, suc, get_or}
+use Rattle.std.specs.Prelude.{IfSome, option_and_then, slice_get}
 use Rattle.std.specs.List.{AllByRecursion}
 use Rattle.std.proofs.lemmas.Bool.{cases_lt}
 use Rattle.std.proofs.lemmas.List.{length-take, take_all}
 use Rattle.std.proofs.lemmas.Option.{same_Some, slice_get-get_or, slice_get_past, slice_get_within}
 use Rattle.scenario_values.specs.Scenario.{Entries, IsScenario}
-use Rattle.scenario_values.specs.Tidied.{tidied}
 use Rattle.action_eval.specs.Answers.{Reply, given_of, is_cut_short}
 use Rattle.action_eval.specs.declared.rig.Kind.{Kind}
 use Rattle.action_eval.specs.declared.rig.Rig.{Rig}
@@ -17,27 +16,26 @@ use Rattle.target_trait.specs.declared.judgement.Verdict.TheVariants as verdict
 use Rattle.target_trait.specs.Play.{AsksWithin, Done, Move, Unknown}
 use Rattle.target_trait.specs.Outcomes.{outcome}
 use Rattle.answer_text.specs.Hits.{most_hits, points_of}
-use Rattle.answer_text.specs.Runs.{KnownRuns as Answers, told_in}
+use Rattle.answer_text.specs.Runs.{told_in}
 use Rattle.answer_text.specs.declared.hits.Stretch.{Stretch}
 use Rattle.answer_text.specs.declared.runs.RunLine.{RunLine}
 use Rattle.answer_text.specs.declared.runs.ToldRun.{ToldRun}
 use Rattle.answer_text.proofs.Members.{AreLawful, Has, lawful_has}
-use Rattle.grown_plans.specs.numbered.GrownScenarios.{grown_scenario}
-use Rattle.grown_plans.specs.GrownPlans.{Subject, grown, rigs_of}
+use Rattle.grown_plans.specs.GrownPlans.{Subject}
 use Rattle.grown_plans.specs.Promises.{CanBeTried, IsLawful}
 use Rattle.grown_plans.proofs.ListedKinds.{listed_can}
 use Rattle.grown_plans.proofs.Members.{all_weaker}
-use Rattle.grown_runs.specs.known.Known.{Agrees, IsTrueOf, Told}
+use Rattle.grown_runs.specs.known.Known.{Agrees, Told}
 use Rattle.grown_runs.specs.known.KnownPart.{known_part}
 use Rattle.grown_runs.specs.known.ToldPart.{part_known}
 use Rattle.grown_runs.proofs.KnownLemmas.Listed.{part_is}
 use Rattle.answered_runs.specs.Agreement.{AreOfOne, EndsAtPause, HasItsRun, IsCertain, KeepsVerdict, Says, SayTheSame, end_by, line_of, move_said, run_over}
-use Rattle.answered_runs.specs.Answered.{Answered, CanBeListed, hits_by, kinds_over, known_plans, plan_runs, runs_in, told_of}
+use Rattle.answered_runs.specs.Answered.{Answered, CanBeListed, hits_by, kinds_over, known_plans, runs_in, told_of}
 use Rattle.answered_runs.specs.Broken.{AreBroken, IsUnbroken}
-use Rattle.answered_runs.specs.Components.{IsComponent, IsTrueRun}
+use Rattle.answered_runs.specs.Components.{AgreesWithRuns, IsComponent, IsTrueRun}
 use Rattle.answered_runs.specs.SomeComponent.{HasComponent, WereRead}
 use Rattle.answered_runs.proofs.Breaks.{part_whole}
-use Rattle.answered_runs.proofs.CertainAnswers.{answers_many, answers_over, answers_take, rigs_certain}
+use Rattle.answered_runs.proofs.CertainAnswers.{answers_many, answers_over, answers_take}
 use Rattle.answered_runs.proofs.Compared.{Runs, hits_alike, runs_so, unresolved_unless}
 use Rattle.answered_runs.proofs.Disagreeing.{answers_reached, cut_reached}
 use Rattle.answered_runs.proofs.LineRuns.{AsksAt, cut_over, no_more}
@@ -45,7 +43,6 @@ use Rattle.answered_runs.proofs.ReadHits.{AreFew, HasFew, ToldFew, points_many}
 use Rattle.answered_runs.proofs.Runs.{agree}
 use Rattle.answered_runs.proofs.LinesRead.{AreSome, Reading, kept_hits, read_few, reading, some_hits}
 use Rattle.answered_runs.proofs.LineWords.{own_said, said_by, said_so}
-use Rattle.answered_runs.proofs.Tests.{certain_scenario, is_certain, scenario_certain}
 
 -- ---- what the component does
 
@@ -351,30 +348,6 @@ is_true a w r one s lawful certain = by_told (told_in a.book s) refl (read_few a
     by_told None e few = tt
     by_told (Some run) e few = by_hits run e run.hits refl few
 
--- ---- plans
-
--- what is recorded of certain scenarios
-abbrev certain_runs : Answers → Answers
-certain_runs known s = cond (is_certain s) (known s) None
-
-agrees_certain : (a : Answered) (t : Subject) → ((s : Entries) → IsScenario s → IsCertain s → IfSome (told_in a.book s) (IsTrueRun t s)) → (s : Entries) → IsScenario s → IfSome (certain_runs (told_in a.book) s) (IsTrueRun t s)
-agrees_certain a t agrees s lawful = by_test (is_certain s) refl
-  where
-    by_test : (b : Bool) → is_certain s ≡ b → IfSome (cond b (told_in a.book s) None) (IsTrueRun t s)
-    by_test true e = agrees s lawful (scenario_certain s e)
-    by_test false e = tt
-
-plan_told : (a : Answered) (plan : List Rig) → plan_runs a.points (certain_runs (told_in a.book)) plan ≡ runs_in a plan
-plan_told a plan =
-    let s : Entries = tidied (grown_scenario a.points plan) in
-    ap (λ (b : Bool). cond (nat_le (length plan) 64) (option_map told_of (cond b (told_in a.book s) None)) None) (certain_scenario s (rigs_certain a.points (rigs_of plan)))
-
-plans_true : (a : Answered) (depth : ℕ) (t : Subject) → depth ≤ 64 → IsComponent a.points a.listed t → ((s : Entries) → IsScenario s → IsCertain s → IfSome (told_in a.book s) (IsTrueRun t s)) → Agrees t depth (runs_in a)
-plans_true a depth t low is agrees =
-    all_weaker (λ (plan : List Rig). IfSome (plan_runs a.points (certain_runs (told_in a.book)) plan) (IsTrueOf t plan)) (λ (plan : List Rig). IfSome (runs_in a plan) (IsTrueOf t plan))
-    (λ plan h. subst (λ (o : Option Told). IfSome o (IsTrueOf t plan)) (plan_told a plan) h) (grown t depth)
-    (agree t a.points a.listed (certain_runs (told_in a.book)) depth is low (agrees_certain a t agrees))
-
 -- ---- the whole
 
 -- What the lines say, put together, is a component that agrees with them.
@@ -382,8 +355,8 @@ pub agreeing : (a : Answered) (depth : ℕ) → depth ≤ 64 → WereRead a → 
 agreeing a depth low w one =
     let r : Reading a = reading a w in
     let is : IsComponent a.points a.listed (component_of a r.runs) = is_component a w r in
-    let agrees : (s : Entries) → IsScenario s → IsCertain s → IfSome (told_in a.book s) (IsTrueRun (component_of a r.runs) s) = is_true a w r one in
-    record { component = component_of a r.runs; is = is; agrees = agrees; plans = plans_true a depth (component_of a r.runs) low is agrees }
+    let agrees : AgreesWithRuns (component_of a r.runs) (told_in a.book) = is_true a w r one in
+    record { component = component_of a r.runs; is = is; agrees = agrees; plans = agree (component_of a r.runs) a.points a.listed (told_in a.book) depth is low agrees }
 
 -- So no run of a known plan breaks with the one that it has to begin like.
 pub component_unbroken : (a : Answered) (depth : ℕ) → HasComponent a depth → AreBroken a (known_plans a depth) None

@@ -1,24 +1,13 @@
 -- Tests for certain scenarios and for equal answers.
-use Rattle.std.proofs.Common.{◌≡◌, ℕ, ◌&&◌, ◌||◌, eqb, Bool, true, false, Option, None, Some, List, [], ◌∷◌, refl, ap, ◌∙◌, subst, arith, ◌⊎◌, inl, inr}
-use Rattle.std.specs.List.{AllByRecursion}
-use Rattle.std.proofs.lemmas.Bool.Decides.{nat_tests}
+use Rattle.std.proofs.Common.{◌≡◌, ℕ, ◌&&◌, ◌||◌, ◌==◌, Bool, true, false, Option, None, Some, List, [], ◌∷◌, refl, ap, ◌∙◌, subst, ◌⊎◌, inl, inr}
+use Rattle.std.specs.List.{AllByRecursion, list_all}
+use Rattle.std.proofs.lemmas.Bool.Decides.{Decides-eqb}
 use Rattle.std.proofs.lemmas.Slice.Eq.{bytes_eq-Decides}
 use Rattle.scenario_values.specs.declared.term.Term.{Term}
 use Rattle.scenario_values.specs.Scenario.{Entries}
 use Rattle.action_eval.specs.Answers.{Reply, Go, Return, Halt}
 use Rattle.action_eval.specs.RiggedScenario.{is_same_text}
-use Rattle.answered_runs.specs.Agreement.{IsCertain}
-
-abbrev is_certain_term : Term → Bool
-is_certain_term t = eqb t.share 0 || eqb t.share 1000000
-
-abbrev are_certain : List Term → Bool
-are_certain [] = true
-are_certain (t ∷ ts) = is_certain_term t && are_certain ts
-
-abbrev pub is_certain : Entries → Bool
-is_certain [] = true
-is_certain (e ∷ es) = are_certain e.1 && is_certain es
+use Rattle.answered_runs.specs.Agreement.{IsCertain, is_certain, is_sure}
 
 pub both_true : (b c : Bool) → (b && c) ≡ true → (b ≡ true) × (c ≡ true)
 both_true true c e = (refl, e)
@@ -28,46 +17,41 @@ pub true_both : (b c : Bool) → b ≡ true → c ≡ true → (b && c) ≡ true
 true_both true c e f = f
 true_both false c e f = cc
 
-either_true : (b c : Bool) → (b || c) ≡ true → (b ≡ true) ⊎ (c ≡ true)
-either_true true c e = inl refl
-either_true false c e = inr e
+or_true : (a b : Bool) → a || b ≡ true → (a ≡ true) ⊎ (b ≡ true)
+or_true true b e = inl refl
+or_true false b e = inr e
 
-true_left : (b c : Bool) → b ≡ true → (b || c) ≡ true
-true_left true c e = refl
-true_left false c e = cc
+true_if : (a b : Bool) → (a ≡ true) ⊎ (b ≡ true) → a || b ≡ true
+true_if true b h = refl
+true_if false b (inl e) = absurd cc
+true_if false b (inr e) = e
 
-true_right : (b c : Bool) → c ≡ true → (b || c) ≡ true
-true_right true c e = refl
-true_right false c e = e
+abbrev Sure : Term → Type 0
+Sure t = (t.share ≡ 0) ⊎ (t.share ≡ 1000000)
 
-is_number : (m n : ℕ) → eqb m n ≡ true → m ≡ n
-is_number m n e = grind (arith, nat_tests)
+sure_is : (t : Term) → Sure t → is_sure t ≡ true
+sure_is t (inl e) = true_if (t.share == 0) (t.share == 1000000) (inl ((Decides-eqb t.share 0).1 e))
+sure_is t (inr e) = true_if (t.share == 0) (t.share == 1000000) (inr ((Decides-eqb t.share 1000000).1 e))
 
-number_is : (m n : ℕ) → m ≡ n → eqb m n ≡ true
-number_is m n e = grind (arith, nat_tests)
+is_sure_of : (t : Term) → is_sure t ≡ true → Sure t
+is_sure_of t e = elim (or_true (t.share == 0) (t.share == 1000000) e) [
+  | inl h ↦ inl ((Decides-eqb t.share 0).0 h)
+  | inr h ↦ inr ((Decides-eqb t.share 1000000).0 h)
+]
 
-term_certain : (t : Term) → is_certain_term t ≡ true → (t.share ≡ 0) ⊎ (t.share ≡ 1000000)
-term_certain t e = elim (either_true (eqb t.share 0) (eqb t.share 1000000) e) [ inl f ↦ inl (is_number t.share 0 f) | inr f ↦ inr (is_number t.share 1000000 f) ]
+all_are : {X : Type 0} (P : X → Type 0) (p : X → Bool) → ((x : X) → P x → p x ≡ true) → (xs : List X) → AllByRecursion P xs → list_all p xs ≡ true
+all_are P p h [] all = refl
+all_are P p h (x ∷ xs) all = ap (λ (b : Bool). b && list_all p xs) (h x all.0) ∙ all_are P p h xs all.1
 
-certain_term : (t : Term) → (t.share ≡ 0) ⊎ (t.share ≡ 1000000) → is_certain_term t ≡ true
-certain_term t (inl e) = true_left (eqb t.share 0) (eqb t.share 1000000) (number_is t.share 0 e)
-certain_term t (inr e) = true_right (eqb t.share 0) (eqb t.share 1000000) (number_is t.share 1000000 e)
-
-chain_certain : (ts : List Term) → are_certain ts ≡ true → AllByRecursion (λ (t : Term). (t.share ≡ 0) ⊎ (t.share ≡ 1000000)) ts
-chain_certain [] e = tt
-chain_certain (t ∷ ts) e = let both = both_true (is_certain_term t) (are_certain ts) e in (term_certain t both.0, chain_certain ts both.1)
-
-certain_chain : (ts : List Term) → AllByRecursion (λ (t : Term). (t.share ≡ 0) ⊎ (t.share ≡ 1000000)) ts → are_certain ts ≡ true
-certain_chain [] h = refl
-certain_chain (t ∷ ts) h = true_both (is_certain_term t) (are_certain ts) (certain_term t h.0) (certain_chain ts h.1)
-
-pub scenario_certain : (s : Entries) → is_certain s ≡ true → IsCertain s
-scenario_certain [] e = tt
-scenario_certain (x ∷ s) e = let both = both_true (are_certain x.1) (is_certain s) e in (chain_certain x.1 both.0, scenario_certain s both.1)
+are_all : {X : Type 0} (P : X → Type 0) (p : X → Bool) → ((x : X) → p x ≡ true → P x) → (xs : List X) → list_all p xs ≡ true → AllByRecursion P xs
+are_all P p h [] e = tt
+are_all P p h (x ∷ xs) e = let both = both_true (p x) (list_all p xs) e in (h x both.0, are_all P p h xs both.1)
 
 pub certain_scenario : (s : Entries) → IsCertain s → is_certain s ≡ true
-certain_scenario [] h = refl
-certain_scenario (x ∷ s) h = true_both (are_certain x.1) (is_certain s) (certain_chain x.1 h.0) (certain_scenario s h.1)
+certain_scenario s c = all_are (λ (e : List ℕ × List Term). AllByRecursion Sure e.1) (λ (e : List ℕ × List Term). list_all is_sure e.1) (λ e h. all_are Sure is_sure sure_is e.1 h) s c
+
+pub scenario_certain : (s : Entries) → is_certain s ≡ true → IsCertain s
+scenario_certain s e = are_all (λ (e : List ℕ × List Term). AllByRecursion Sure e.1) (λ (e : List ℕ × List Term). list_all is_sure e.1) (λ e h. are_all Sure is_sure is_sure_of e.1 h) s e
 
 abbrev same_reply : Reply → Reply → Bool
 same_reply Go Go = true

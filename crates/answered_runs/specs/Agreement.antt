@@ -1,8 +1,8 @@
 -- When some component agrees with answers. What a component does next follows from the answers to its earlier hits. So a line whose hits are recorded
 -- says what the component does after no answer, after the first one, and so on up to its end. If two lines say different things after the same
 -- answers, no component has both runs. Otherwise what the lines say is a function, and a component.
-use Rattle.std.specs.Prelude.{◌≡◌, ◌≢◌, ◌⊎◌, ◌+◌, ◌≤◌, ℕ, true, false, List, take, length, slice_get, Option, None, Some, IfSome}
-use Rattle.std.specs.List.{AllByRecursion}
+use Rattle.std.specs.Prelude.{◌≡◌, ◌≢◌, ◌⊎◌, ◌+◌, ◌≤◌, ◌==◌, ◌||◌, ℕ, Bool, true, false, List, take, length, slice_get, Option, None, Some, IfSome}
+use Rattle.std.specs.List.{AllByRecursion, list_all}
 use Rattle.scenario_values.specs.declared.term.Term.{Term}
 use Rattle.scenario_values.specs.Scenario.{Entries, IsScenario}
 use Rattle.action_eval.specs.Answers.{Reply, Run, run_of, replies, is_cut_short}
@@ -25,6 +25,14 @@ use Rattle.answered_runs.specs.declared.broken.Conflict.TheVariants as conflict
 -- Each term acts whenever it is reached, or never. So the answers to hits follow from the scenario alone.
 abbrev pub IsCertain : Entries → Type 0
 IsCertain s = AllByRecursion (λ e. AllByRecursion (λ (t : Term). (t.share ≡ 0) ⊎ (t.share ≡ 1000000)) e.1) s
+
+-- Whether a term acts at each hit that reaches it, or at none.
+abbrev pub is_sure : Term → Bool
+is_sure t = (t.share == 0) || (t.share == 1000000)
+
+-- Whether each term of a scenario does.
+abbrev pub is_certain : Entries → Bool
+is_certain s = list_all (λ e. list_all is_sure e.1) s
 
 -- A recorded run of a scenario.
 pub record Line : Type 0 where

@@ -9,6 +9,7 @@ use Rattle.answer_text.specs.Runs.{KnownRuns}
 use Rattle.answer_text.specs.declared.runs.ToldRun.{ToldRun}
 use Rattle.grown_plans.specs.GrownPlans.{Subject}
 use Rattle.grown_plans.specs.Promises.{IsLawful}
+use Rattle.answered_runs.specs.Agreement.{IsCertain}
 use Rattle.answered_runs.specs.Answered.{kinds_over}
 
 -- A component with these points. What it asks next follows from the answers to its earlier hits. The kinds of faults tried at a point are those that
@@ -24,6 +25,7 @@ pub record IsTrueRun (t : Subject) (s : Entries) (r : ToldRun) : Type 0 where
   pub verdict : (seed stream : ℕ) → (outcome t.asks (given_of s t.names seed stream t.limit)).verdict ≡ r.verdict
   pub hits : (seed stream : ℕ) → IfSome r.hits (λ hits. (outcome t.asks (given_of s t.names seed stream t.limit)).asked ≡ points_of hits)
 
--- A component agrees with answers: each recorded run is true of it.
+-- A component agrees with answers: each recorded run of a scenario in which nothing is drawn is true of it. Of a scenario with a share, such as
+-- `a=50%return`, one run says nothing: the next one may come out otherwise.
 abbrev pub AgreesWithRuns : Subject → KnownRuns → Type 0
-AgreesWithRuns t told = (s : Entries) → IsScenario s → IfSome (told s) (IsTrueRun t s)
+AgreesWithRuns t told = (s : Entries) → IsScenario s → IsCertain s → IfSome (told s) (IsTrueRun t s)

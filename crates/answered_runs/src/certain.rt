@@ -2,7 +2,7 @@
 ghost use Rattle.std.specs.Prelude.{◌≡◌, true, take};
 ghost use Rattle.std.specs.List.{list_all};
 ghost use Rattle.scenario_values.specs.Scenario.{IsScenario};
-ghost use Rattle.answered_runs.specs.inside.Steps.{is_certain, is_sure};
+ghost use Rattle.answered_runs.specs.Agreement.{is_certain, is_sure};
 
 use scenario_values::{FULL_SHARE, Scenario, Term};
 

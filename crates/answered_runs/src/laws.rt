@@ -30,8 +30,8 @@ pub fn ended_runs_have_a_component()
     ensures agrees { AgreesWithRuns ended_component ended_told }
 {}
 
-/// If no two lines of answers contradict each other, some component agrees with each line of a certain scenario, and so with what the answers record
-/// of plans. So what is promised for each component that agrees with the answers isn't empty.
+/// If no two lines of answers contradict each other, some component agrees with them. So what is promised for each component that agrees with the
+/// answers isn't empty.
 pub fn agreeing_lines_have_a_component()
     ensures { (a : Answered) (depth : ℕ) → depth ≤ 64 → WereRead a → AreOfOne a → HasComponent a depth }
 {}

@@ -6,6 +6,7 @@ ghost use Rattle.answered_runs.specs.Answered.{runs_in};
 ghost use Rattle.answered_runs.specs.Rigged.{rigs_of_scenario};
 ghost use Rattle.answered_runs.specs.Verdicts.{verdict_by, walked_by};
 
+use crate::certain::is_certain;
 use crate::rigged::rigs_of_scenario;
 use crate::table::AnsweredRuns;
 use grown_runs::verdict_of;
@@ -30,7 +31,8 @@ fn walked(
 
 impl<'a> AnsweredRuns<'a> {
     /// The recorded verdict of a scenario, once it is tidied; else, if the scenario is made of rigged hits, that of the plan they lead to. This plan
-    /// has at most `depth` faults, of which the last one may be sticky. It is `None` if no verdict is known. An error means that memory was refused.
+    /// has at most `depth` faults, of which the last one may be sticky. It is `None` if no verdict is known, and of a scenario with a share none is:
+    /// another run of it may come out otherwise. An error means that memory was refused.
     pub fn verdict_of(
         &self,
         alloc: Global,
@@ -39,10 +41,10 @@ impl<'a> AnsweredRuns<'a> {
     ) -> Result<Option<Verdict>, AllocError>
         ensures { IfOk result (λ verdict. verdict ≡ verdict_by self.now.points (told_in self.now.book) depth (tidied scenario.now)) }
     {
-        if let Some(run) = self.told(scenario)? {
-            return Ok(Some(run.verdict));
-        }
         let tidied = tidy(alloc, scenario)?;
-        walked(alloc, self, depth, &tidied)
+        match self.told(scenario)? {
+            Some(run) if is_certain(&tidied) => Ok(Some(run.verdict)),
+            _ => walked(alloc, self, depth, &tidied),
+        }
     }
 }

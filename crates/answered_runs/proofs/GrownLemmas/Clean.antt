@@ -29,6 +29,7 @@ use Rattle.answered_runs.specs.Answered.{Answered, hits_by, is_low, plan_runs, t
 use Rattle.action_eval.specs.declared.rig.Kind.{Kind}
 use Rattle.answered_runs.specs.Components.{AgreesWithRuns, IsComponent, IsTrueRun}
 use Rattle.answered_runs.specs.grown.Further.{AreTooMany, HasFewHits, clean_hits, clean_run, further_by, further_known, further_over, further_seen, further_told}
+use Rattle.answered_runs.proofs.CertainAnswers.{rigs_certain}
 use Rattle.plan_gen.proofs.Rigged.{rigged_scenario_nothing}
 
 some_is : (a b : List ℕ) → Some a ≡ Some b → a ≡ b
@@ -38,7 +39,7 @@ abbrev asked_of : Subject → ℕ → Entries → List ℕ
 asked_of t seed s = (outcome t.asks (given_of s t.names seed 0 t.limit)).asked
 
 clean_asked : (t : Subject) (points : List (List ℕ)) (listed : List (List Kind)) (told : KnownRuns) (seed : ℕ) (hits : List ℕ) → IsComponent points listed t → AgreesWithRuns t told → hits_of (plan_runs points told) [] ≡ Some hits → asked_of t seed [] ≡ hits
-clean_asked t points listed told seed hits is agrees e = by_told (told (tidied s)) (agrees (tidied s) (tidied_scenario s lawful)) e
+clean_asked t points listed told seed hits is agrees e = by_told (told (tidied s)) (agrees (tidied s) (tidied_scenario s lawful) (rigs_certain points [])) e
   where
     s : Entries
     s = rigged_scenario points []

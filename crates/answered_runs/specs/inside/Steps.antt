@@ -1,8 +1,5 @@
--- How rigged hits are found, term by term, and which terms leave nothing to chance. Private contracts cite it.
-use Rattle.std.specs.Prelude.{◌≡◌, ◌==◌, ◌||◌, ℕ, Bool, true, false, List, Option, None, Some}
-use Rattle.std.specs.List.{list_all}
-use Rattle.scenario_values.specs.declared.term.Term.{Term}
-use Rattle.scenario_values.specs.Scenario.{Entries}
+-- How rigged hits are found, term by term. Private contracts cite it.
+use Rattle.std.specs.Prelude.{◌≡◌, ℕ, Bool, true, false, List, Option, None, Some}
 use Rattle.action_eval.specs.declared.rig.Kind.{Kind}
 use Rattle.action_eval.specs.declared.rig.Kind.TheVariants.{OnceReturn, OnwardReturn}
 use Rattle.action_eval.specs.declared.rig.Rig.{Rig}
@@ -21,11 +18,3 @@ TookTo found rigs (Some hit) = found ≡ Some (hit, rigs)
 abbrev pub return_kind : Bool → Option (List ℕ) → Kind
 return_kind true text = OnwardReturn text
 return_kind false text = OnceReturn text
-
--- Whether a term acts at each hit that reaches it, or at none.
-abbrev pub is_sure : Term → Bool
-is_sure t = (t.share == 0) || (t.share == 1000000)
-
--- Whether each term of a scenario does.
-abbrev pub is_certain : Entries → Bool
-is_certain s = list_all (λ e. list_all is_sure e.1) s

@@ -1,6 +1,6 @@
 use Rattle.std.proofs.Common.{refl, ◌<◌, ◌∙◌, ap, length, arith, sym}
 use Rattle.std.specs.List.{list_all}
-use Rattle.answered_runs.specs.inside.Steps.{is_sure}
+use Rattle.answered_runs.specs.Agreement.{is_sure}
 use Rattle.answered_runs.proofs.PlayedRuns.{certain_all, certain_more, certain_not}
 use Rattle.answered_runs.proofs.certain.is_certain.Goals as goal
 

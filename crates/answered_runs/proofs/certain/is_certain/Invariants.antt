@@ -1,6 +1,6 @@
 use Rattle.std.proofs.Common.{◌≡◌, true, take}
 use Rattle.std.specs.List.{list_all}
-use Rattle.answered_runs.specs.inside.Steps.{is_sure}
+use Rattle.answered_runs.specs.Agreement.{is_sure}
 use Rattle.answered_runs.proofs.certain.is_certain.Given as goal
 
 abbrev pub invariant-loop-entry : goal.invariant-loop-entry

@@ -4,7 +4,8 @@ use Rattle.answer_text.specs.declared.runs.ToldRun.{ToldRun}
 use Rattle.answered_runs.specs.Answered.{Answered, told_of}
 use Rattle.answered_runs.specs.declared.unseen.UnseenRun.{UnseenRun}
 use Rattle.answered_runs.specs.inside.Trees.{IsTold}
-use Rattle.answered_runs.proofs.PlayedRuns.{is_certain_of, known_points, list_added, passed_over, seen_points, seen_run}
+use Rattle.answered_runs.proofs.PlayedRuns.{known_points, list_added, passed_over, seen_points, seen_run}
+use Rattle.answered_runs.proofs.Tests.{scenario_certain}
 use Rattle.answered_runs.proofs.played.add_run.Goals as goal
 
 pub returns-then-not-is_certain : goal.returns-then-not-is_certain
@@ -25,7 +26,7 @@ put_written-requires-clause-seen c =
     let seen_so : Some (told_of r) ≡ Some (told c.in-Seen.verdict (Some c.read.new.hits.items)) = subst (IsLook (Some (told_of r)) c.read.new.hits.items) c.in-Seen.is c.in_ok-verdict.ensures.told in
     let same : Some (told_of r) ≡ Some (told c.in-Seen.verdict (Some c.as_slice-hits.result.now)) = seen_so ∙ ap (λ (h : List ℕ). Some (told c.in-Seen.verdict (Some h))) (sym c.as_slice-hits.ensures.value) in
     let told_is : IsTold a c.args.scenario r =
-    record { lawful = c.is_certain.ensures.lawful; certain = is_certain_of c.args.scenario (sym c.is_certain.ensures.certain ∙ c.if-not-is_certain.false); recorded = c.requires.recorded }
+    record { lawful = c.is_certain.ensures.lawful; certain = scenario_certain c.args.scenario (sym c.is_certain.ensures.certain ∙ c.if-not-is_certain.false); recorded = c.requires.recorded }
     in
     seen_run a c.args.scenario _ r told_is refl same
 
@@ -36,6 +37,6 @@ returns-in_ok-push-in-Unseen c =
     let u : UnseenRun = record { line = r.line; scenario = c.args.scenario; verdict = c.in-Unseen.verdict } in
     let seen_so : Some (told_of r) ≡ Some (told c.in-Unseen.verdict None) = subst (IsLook (Some (told_of r)) c.read.new.hits.items) c.in-Unseen.is c.in_ok-verdict.ensures.told in
     let told_is : IsTold a c.args.scenario r =
-    record { lawful = c.is_certain.ensures.lawful; certain = is_certain_of c.args.scenario (sym c.is_certain.ensures.certain ∙ c.if-not-is_certain.false); recorded = c.requires.recorded }
+    record { lawful = c.is_certain.ensures.lawful; certain = scenario_certain c.args.scenario (sym c.is_certain.ensures.certain ∙ c.if-not-is_certain.false); recorded = c.requires.recorded }
     in
     list_added a c.args.played.now _ u r c.in-Unseen.verdict c.requires.state told_is refl refl seen_so refl c.in_ok-push-in-Unseen.ensures.items refl
