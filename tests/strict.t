@@ -91,12 +91,17 @@ A control character of a listed scenario stands in the report as it is, so that 
   $ paklour try --scenario "replace::sync=print($(printf '\033'))" small.toml 2>&1 > /dev/null
   scenario: a control character: what follows it in the text may look like a line of its own
 
-So it is where a key has one, and settings are refused.
+On standard error somebody else's names have each control character as `\x` and two digits, so they say nothing to the terminal, and begin no line.
 
-  $ sed '1a "pears\\nfirst none" = 1' small.toml | paklour run
-  settings: unknown key pears
-  first none
-  settings: a control character: what follows it may look like a line of its own
+  $ sed '1a "pears\\u001b[31m\\nfirst none" = 1' small.toml | paklour run
+  settings: unknown key pears\x1b[31m\x0afirst none
+  [2]
+  $ paklour try --scenario "evil$(printf '\033\177é')[2J=1*return" small.toml 2>&1 > /dev/null
+  scenario: no point is named evil\x1b\x7fé[2J
+  scenario: a control character: what follows it in the text may look like a line of its own
+  $ printf 'target = "outside"\ndepth = 1\n[outside]\nlabel = "one"\ncodes = []\npoints = ["a"]\n' > one.toml
+  $ printf 'pass\tnone\tb\r\n' | paklour asks one.toml
+  answers: line 1: no such point "b\x0d"; points are a
   [2]
 
 A failing plan's status is 1 all the same, what is refused 2, and a failed write 4.

@@ -3,7 +3,6 @@ use Rattle.std.specs.Prelude.{List, [], ◌∷◌, ℕ, ◌++◌, codes}
 use Rattle.std.specs.Fmt.{decimal}
 use Rattle.std.specs.List.{join_by}
 use Rattle.answer_text.specs.FaultText.{line_of as answers_line_of}
-use Rattle.answer_text.specs.FirstFault.{has_control}
 use Rattle.answer_text.specs.declared.fault.AnswersFault.{AnswersFault}
 use Rattle.answer_text.specs.declared.fault.AnswersFault.TheVariants as answers
 use Rattle.answer_text.specs.declared.fault.LineFault.TheVariants.{UnknownCode, UnknownPoint}
@@ -19,18 +18,14 @@ use Rattle.campaign_settings.specs.Settings.{Cause, too_long, not_toml, unknown,
 use Rattle.campaign_settings.specs.declared.fault.SettingsFault.{SettingsFault}
 use Rattle.campaign_settings.specs.declared.fault.SettingsFault.TheVariants as settings
 use Rattle.campaign_settings.specs.declared.keys.KeyFault.TheVariants as fault
-use Rattle.campaign_main.specs.Notes.{text_if}
+use Rattle.campaign_main.specs.Escaped.{escaped}
 use Rattle.campaign_main.specs.declared.input.ReadFault.{ReadFault}
 use Rattle.campaign_main.specs.declared.input.ReadFault.TheVariants as read
 use Rattle.campaign_main.specs.Commands.{Refusal, not_text, bad_settings, bad_scenario, no_plan, too_many_plans, outside_target, outside_with_depth, bundled_target, bad_answers, other_census, not_answered, broken_run, unseen_hits}
 
--- A line on the settings. If it has a control character, such as a line feed in a key, a second line says so.
-abbrev pub told_line : List ℕ → List ℕ
-told_line line = ended line ++ text_if (has_control line) (codes "settings: a control character: what follows it may look like a line of its own")
-
--- The line for a fault of the settings.
+-- The line for a fault of the settings. A key in it may have any character.
 abbrev pub settings_line : SettingsFault → List ℕ
-settings_line fault = told_line (line_of fault)
+settings_line fault = ended (escaped (line_of fault))
 
 -- The line for a fault of a scenario's text.
 abbrev pub scenario_line : ScenarioFault → List ℕ
@@ -75,7 +70,7 @@ right_text d fault = []
 abbrev pub cause_line : Cause → List ℕ
 cause_line too_long = settings_line settings.TooLong
 cause_line not_toml = settings_line settings.NotToml
-cause_line (unknown place name) = told_line (codes "settings: unknown key " ++ full_name place name)
+cause_line (unknown place name) = ended (escaped (codes "settings: unknown key " ++ full_name place name))
 cause_line (wrong key fault.Missing) = settings_line (settings.Missing key)
 cause_line (wrong key fault.WrongType) = settings_line (settings.WrongType key)
 cause_line (wrong key fault.OutOfRange) = settings_line (settings.OutOfRange key)
@@ -91,7 +86,7 @@ refusal_line (no_plan number) = ended (codes "plan: out of range " ++ decimal nu
 refusal_line outside_target = codes "settings: target outside: only plans, asks and report\n"
 refusal_line outside_with_depth = codes "settings: target outside with a depth: only asks and report\n"
 refusal_line bundled_target = codes "settings: target not outside: only run, plans, try, reduce and explain\n"
-refusal_line (bad_answers d f) = ended (answers_line_of f ++ right_text d f)
+refusal_line (bad_answers d f) = ended (escaped (answers_line_of f ++ right_text d f))
 refusal_line (other_census line) =
     codes "answers: line " ++ (decimal line ++ codes ": hits differ from the settings; the hits of none are those of outside.hits\n")
 refusal_line (not_answered s) = ended (codes "not answered " ++ scenario_text s)

@@ -1,4 +1,5 @@
 pub mod Exit
+pub mod Escaped
 pub mod FaultLines
 pub mod Notes
 pub mod Commands

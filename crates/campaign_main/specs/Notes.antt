@@ -12,6 +12,7 @@ use Rattle.report.specs.ReportText.{ended, text_of}
 use Rattle.plan_gen.specs.PlanList.{Asked}
 use Rattle.campaign_core.specs.Headline.{Campaign, census, plans, report}
 use Rattle.campaign_core.specs.Ran.{unreached}
+use Rattle.campaign_main.specs.Escaped.{escaped}
 use Rattle.campaign_main.specs.declared.notes.Doubts.{Doubts}
 use Rattle.campaign_main.specs.declared.notes.Origin.{Origin}
 use Rattle.campaign_main.specs.declared.notes.Origin.TheVariants.{Taken, Listed, Answered}
@@ -30,7 +31,7 @@ origin_text (Answered number) = codes "answers: line " ++ decimal number
 
 -- The line for a name that no point has, which says in which scenario it stands: `settings: scenario 1: no point is named NAME`.
 abbrev pub stranger_line : Origin → List ℕ → List ℕ
-stranger_line origin name = origin_text origin ++ codes ": no point is named " ++ name
+stranger_line origin name = origin_text origin ++ codes ": no point is named " ++ escaped name
 
 abbrev pub stranger_of : List (List ℕ) → Origin → List ℕ → List (List ℕ)
 stranger_of points origin name = if is_point points name then [] else stranger_line origin name ∷ []

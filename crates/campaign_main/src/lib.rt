@@ -7,6 +7,7 @@ mod answering;
 mod chosen;
 mod command;
 mod cut_end;
+mod escaping;
 mod exit;
 mod fault;
 mod following;

@@ -7,10 +7,10 @@ ghost use Rattle.campaign_main.specs.Ends.{IsEndOf, IsEndOfCommand, IsNoted, IsT
 ghost use Rattle.campaign_main.specs.FaultLines.{answers_read_line, cut_off_line, joined_names, memory_line, names_text, read_fault_line, refusal_line, right_text, scenario_line, settings_line};
 ghost use Rattle.campaign_main.specs.Questions.{IsEndOfQuestion};
 
+use crate::escaping::escaped_line;
 use crate::exit::{Answered, Exit, exit_of};
 use crate::fault::CommandFault;
 use crate::input::ReadFault;
-use crate::notes::{has_control, write_if};
 use answer_text::{AnswersFault, LineFault};
 use answered_runs::BrokenRun;
 use campaign_core::CampaignFault;
@@ -88,19 +88,12 @@ pub fn end_unreadable_settings<E: Sink>(fault: ReadFault, faults: &mut E) -> Exi
     }
 }
 
-/// The line for a fault of the settings, and one more if it has a control character.
+/// The line for a fault of the settings.
 fn settings_line(alloc: Global, fault: &SettingsFault) -> Result<String, AllocError>
     ensures { IfOk result (λ line. string_bytes line ≡ settings_line fault.now) }
 {
-    let mut line = format!(in alloc; "{fault}")?;
-    let control = has_control(line.as_str());
-    line.push_str("\n")?;
-    write_if(
-        &mut line,
-        control,
-        "settings: a control character: what follows it may look like a line of its own",
-    )?;
-    Ok(line)
+    let told = format!(in alloc; "{fault}")?;
+    escaped_line(alloc, told.as_str())
 }
 
 /// Ends because the settings have a fault.
@@ -289,10 +282,9 @@ fn answers_line(
 ) -> Result<String, AllocError>
     ensures { IfOk result (λ line. string_bytes line ≡ refusal_line (bad_answers outside.now fault.now)) }
 {
-    let mut line = format!(in alloc; "{fault}")?;
-    write_right(alloc, &mut line, outside, fault)?;
-    line.push_str("\n")?;
-    Ok(line)
+    let mut told = format!(in alloc; "{fault}")?;
+    write_right(alloc, &mut told, outside, fault)?;
+    escaped_line(alloc, told.as_str())
 }
 
 /// The line for an answer that records another census than the settings have.

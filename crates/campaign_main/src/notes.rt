@@ -10,6 +10,7 @@ ghost use Rattle.campaign_core.specs.Headline.{campaign_in};
 ghost use Rattle.campaign_core.specs.Ran.{IsRan, unreached};
 ghost use Rattle.campaign_main.specs.Notes.{control_line, control_lines, doubt_notes, draws_nothing, is_doubted, is_point, is_unhit, listed_notes, notes_of, origin_text, report_notes, scenario_notes, stranger_line, stranger_of, strangers_in, strict_notes, text_if, unreached_line, unreached_lines, unresolved_line};
 
+use crate::escaping::write_escaped;
 use campaign_core::{Ran, Subject};
 use campaign_given::CampaignSettings;
 use outside_campaign::{OutsideCampaign, borrowed};
@@ -73,7 +74,9 @@ fn is_point(points: &[&str], name: &str) -> bool
 pub fn write_strange(out: &mut String, origin: Origin, name: &str) -> Result<(), AllocError>
     ensures { OnOk result (string_bytes out.new ≡ string_bytes out.old ++ ended (stranger_line origin name.now)) }
 {
-    writeln!(out, "{origin}: no point is named {name}")
+    write!(out, "{origin}: no point is named ")?;
+    write_escaped(out, name)?;
+    out.push_str("\n")
 }
 
 /// The same, if no point has this name.
@@ -107,7 +110,7 @@ fn write_strangers(
 }
 
 /// Whether a text has an ASCII control character.
-pub fn has_control(text: &str) -> bool
+fn has_control(text: &str) -> bool
     ensures { result ≡ has_control text.now }
 {
     text.as_bytes().iter().any(|byte| byte.is_ascii_control())
@@ -196,7 +199,7 @@ pub fn listed_outside(alloc: Global, campaign: &OutsideCampaign<'_>) -> Result<S
 }
 
 /// Appends a line if the condition holds.
-pub fn write_if(out: &mut String, condition: bool, line: &str) -> Result<(), AllocError>
+fn write_if(out: &mut String, condition: bool, line: &str) -> Result<(), AllocError>
     ensures { OnOk result (string_bytes out.new ≡ string_bytes out.old ++ text_if condition line.now) }
 {
     if condition {
