@@ -35,7 +35,7 @@ use Rattle.campaign_core.proofs.PromisesLemmas.Least.{no_lesser}
 use Rattle.campaign_core.proofs.PromisesLemmas.Numbers.{get_front, get_map}
 use Rattle.campaign_core.proofs.PromisesLemmas.Counted.{level_sizes as sizes_of_levels, size_beyond}
 use Rattle.campaign_core.proofs.PromisesLemmas.KeepsEach.{keeps_each}
-use Rattle.campaign_core.proofs.PromisesLemmas.Grew.{Grew, IsCauseOf, all_numbers, counted, twice, skipped_none, whole_told, onward_told, most_reached}
+use Rattle.campaign_core.proofs.PromisesLemmas.Grew.{Grew, IsCauseOf, all_numbers, counted, twice, skipped_none, told_behaves, told_judged, whole_told, onward_told, most_reached}
 
 -- ---- verdicts by numbers
 
@@ -212,6 +212,8 @@ module _ (k : Campaign) (d : ℕ) (is_depth : Some d ≡ k.given.depth) (l : IsL
   keeps =
       let g = has_grown k d is_depth in
       record {
+        behaves = told_behaves (grower k) l d told g;
+        judged = told_judged (grower k) l d told g;
         nothing_skipped = skipped_none (grower k) l d told g;
         sizes = sizes_of_levels (grower k) l d told g;
         beyond = size_beyond (grower k) l d told g;

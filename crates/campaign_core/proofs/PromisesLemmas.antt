@@ -1,6 +1,7 @@
 pub mod AsPaths
 pub mod Numbers
 pub mod Cases
+pub mod Kinds
 pub mod Listed
 pub mod Grew
 pub mod Faults

@@ -30,7 +30,9 @@ pub use laws::{each_behaviour_is_tried, reduced_scenarios_are_minimal, workers_c
 pub use listing::{plan_list, plan_scenario, plans_text};
 pub use planned::{Planned, plan_campaign, plans_of};
 pub use probe::fault_count;
-pub use promises::{a_plan_plays_its_behaviour, a_scenario_plays_a_behaviour};
+pub use promises::{
+    a_plan_plays_its_behaviour, a_scenario_plays_a_behaviour, made_up_runs_keep_no_promises,
+};
 pub use ran::{Ran, run_campaign};
 pub use reducing::reduce_one;
 pub use reporting::causes_of;

@@ -4,4 +4,6 @@
 
 mod laws;
 
-pub use laws::{a_plan_plays_its_behaviour, a_scenario_plays_a_behaviour};
+pub use laws::{
+    a_plan_plays_its_behaviour, a_scenario_plays_a_behaviour, made_up_runs_keep_no_promises,
+};

@@ -10,13 +10,14 @@ use Rattle.grown_plans.specs.GrownPlans.{Subject, run_of_plan, level, levels, on
 use Rattle.grown_plans.specs.Promises.{EachTwo, IsOfOne, IsLawful, ReturnsOnward, FaultCase, run_in, verdict_in, IsTried, IsCause, verdict_of_plan}
 use Rattle.report.specs.Reports.{CauseFacts}
 use Rattle.grown_plans.proofs.Cases.{skips_nothing, is_whole}
-use Rattle.grown_plans.proofs.Onward.{runs_nothing_twice}
+use Rattle.grown_plans.proofs.Onward.{grown_can, runs_nothing_twice}
 use Rattle.grown_plans.proofs.FromThenOn.{tries_onward}
 use Rattle.campaign_core.specs.promises.Behaviours.{IsBehaviourOfKinds, verdict_at_end, times_hit}
-use Rattle.campaign_core.specs.promises.Told.{Told, count_of_levels, count_of_all, IsToldOnce}
+use Rattle.campaign_core.specs.promises.Told.{HasBehaviour, HasVerdict, Told, count_of_levels, count_of_all, IsToldOnce}
 use Rattle.campaign_core.proofs.PromisesLemmas.Numbers.{sizes_sum}
 use Rattle.campaign_core.proofs.PromisesLemmas.Cases.{case_for, case_runs}
-use Rattle.campaign_core.proofs.PromisesLemmas.Listed.{Lists, all_are, all_counted, by_case, has_behaviour, no_two, told_once}
+use Rattle.campaign_core.proofs.PromisesLemmas.Kinds.{each_of_kinds}
+use Rattle.campaign_core.proofs.PromisesLemmas.Listed.{Lists, all_are, all_counted, by_case, each_behaves, each_judged, has_behaviour, no_two, told_once}
 
 -- What is reported of a cause is true of the plan of its number.
 abbrev pub IsCauseOf : Subject → ℕ → Told → CauseFacts → Type 0
@@ -54,6 +55,12 @@ module _ (t : Subject) (l : IsLawful t) (d : ℕ) (told : Told) (g : Grew t d to
 
   pub behaves_at : (n : ℕ) (plan : List Rig) → slice_get (grown t d) n ≡ Some plan → slice_get told.behaviours n ≡ Some (run_of_plan t plan)
   behaves_at = has_behaviour t l (levels t d) (onward t d) told lists
+
+  pub told_behaves : AllByRecursion (IsBehaviourOfKinds t) told.behaviours
+  told_behaves = each_behaves t l (levels t d) (onward t d) told lists (each_of_kinds t l d)
+
+  pub told_judged : (number : ℕ) (hits : List Met) → HasBehaviour told number hits → HasVerdict told number (verdict_at_end t hits)
+  told_judged = each_judged t l (levels t d) (onward t d) told lists (grown_can t l d)
 
   once : (xs ys : List (List Rig)) (bound : ℕ) (c : FaultCase t) → grown t d ≡ xs ++ ys → bound ≡ length xs → IsOfOne (IsTried t c) xs → IsToldOnce told bound (run_in t c) (verdict_in t c)
   once = told_once t l (levels t d) (onward t d) told lists

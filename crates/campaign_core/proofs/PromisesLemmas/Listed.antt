@@ -2,16 +2,20 @@
 -- the only number with it.
 use Rattle.std.proofs.Common.{◌≡◌, ◌≢◌, ℕ, ◌+◌, Some, List, ◌∷◌, ◌++◌, map, length, ap, sym, ◌∙◌, subst, arith, length-append}
 use Rattle.std.specs.Prelude.{slice_get}
+use Rattle.std.specs.List.{AllByRecursion}
 use Rattle.std.proofs.lemmas.List.{length-map}
 use Rattle.action_eval.specs.declared.rig.Rig.{Rig}
 use Rattle.target_trait.specs.declared.judgement.Verdict.{Verdict}
 use Rattle.grown_plans.specs.Runs.{Met}
 use Rattle.grown_plans.specs.GrownPlans.{Subject, run_of_plan}
-use Rattle.grown_plans.specs.Promises.{EachTwo, IsOfOne, IsLawful, FaultCase, run_in, verdict_in, IsTried, verdict_of_plan}
-use Rattle.grown_plans.proofs.Members.{two_map}
+use Rattle.grown_plans.specs.Promises.{EachTwo, IsOfKinds, IsOfOne, IsLawful, FaultCase, run_in, verdict_in, IsTried, verdict_of_plan}
+use Rattle.grown_plans.proofs.Members.{all_contains, all_map, all_weaker, two_map}
+use Rattle.grown_plans.proofs.PlanRuns.{plan_judged, plan_path}
+use Rattle.grown_plans.proofs.RiggedScenarios.{CanAct}
 use Rattle.campaign_core.specs.promises.Behaviours.{IsBehaviourOfKinds, verdict_at_end}
-use Rattle.campaign_core.specs.promises.Told.{Told, count_of_levels, count_of_all, IsToldOnce}
-use Rattle.campaign_core.proofs.PromisesLemmas.Numbers.{get_map, get_split, get_front, one_number}
+use Rattle.campaign_core.specs.promises.Told.{HasBehaviour, HasVerdict, Told, count_of_levels, count_of_all, IsToldOnce}
+use Rattle.campaign_core.proofs.PromisesLemmas.AsPaths.{behaviour_of}
+use Rattle.campaign_core.proofs.PromisesLemmas.Numbers.{contains_at, get_map, get_split, get_front, get_unmapped, one_number}
 use Rattle.campaign_core.proofs.PromisesLemmas.Cases.{case_for, case_runs, case_ends}
 
 -- the facts of plans of which the first are those of the levels, and the others have a sticky fault
@@ -38,6 +42,21 @@ module _ (t : Subject) (l : IsLawful t) (first behind : List (List Rig)) (told :
 
   pub has_behaviour : (n : ℕ) (plan : List Rig) → slice_get (first ++ behind) n ≡ Some plan → slice_get told.behaviours n ≡ Some (run_of_plan t plan)
   has_behaviour n plan e = ap (λ (l : List (List Met)). slice_get l n) g.behaves ∙ get_map (run_of_plan t) (first ++ behind) n plan e
+
+  -- what is told is so
+  pub each_behaves : AllByRecursion (λ plan. IsOfKinds t.kinds (run_of_plan t plan)) (first ++ behind) → AllByRecursion (IsBehaviourOfKinds t) told.behaviours
+  each_behaves kinds =
+      subst (AllByRecursion (IsBehaviourOfKinds t)) (sym g.behaves)
+      (all_map (IsBehaviourOfKinds t) (run_of_plan t) (first ++ behind)
+      (all_weaker (λ plan. IsOfKinds t.kinds (run_of_plan t plan)) (λ plan. IsBehaviourOfKinds t (run_of_plan t plan))
+      (λ plan of. record { behaves = behaviour_of t (run_of_plan t plan) (plan_path t plan); of_kinds = of }) (first ++ behind) kinds))
+
+  pub each_judged : AllByRecursion CanAct (first ++ behind) → (number : ℕ) (hits : List Met) → HasBehaviour told number hits → HasVerdict told number (verdict_at_end t hits)
+  each_judged can number hits b =
+      let of = get_unmapped (run_of_plan t) (first ++ behind) number hits (ap (λ (l : List (List Met)). slice_get l number) (sym g.behaves) ∙ b) in
+      g.comes number of.0 of.1
+      ∙ ap (λ (v : Verdict). Some v) (plan_judged t l of.0 (all_contains CanAct (first ++ behind) of.0 can (contains_at (first ++ behind) number of.0 of.1)) told.report.seed number)
+      ∙ ap (λ (ms : List Met). Some (verdict_at_end t ms)) of.2
 
   -- exactly one plan of those in front, so exactly one number
   pub told_once : (xs ys : List (List Rig)) (bound : ℕ) (c : FaultCase t) → first ++ behind ≡ xs ++ ys → bound ≡ length xs → IsOfOne (IsTried t c) xs → IsToldOnce told bound (run_in t c) (verdict_in t c)

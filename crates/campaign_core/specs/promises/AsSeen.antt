@@ -26,6 +26,9 @@ pub record HasUnseenCause (t : Subject) (IsUnseen : List Met → Type 0) (code :
 
 -- `IsUnseen` says which hits begin like a run that nobody has seen.
 pub record PromisesAsSeen (t : Subject) (told : Told) (IsUnseen : List Met → Type 0) : Type 0 where
+  -- What is told is so: the behaviour of each number is one of the component's, of the kinds that are tried, and its verdict is the one at its end.
+  pub behaves : AllByRecursion (IsBehaviourOfKinds t) told.behaviours
+  pub judged : (number : ℕ) (hits : List Met) → HasBehaviour told number hits → HasVerdict told number (verdict_at_end t hits)
   -- Nothing is skipped in which at most d faults act.
   pub nothing_skipped : (hits : List Met) → IsBehaviourOfKinds t hits → acting hits ≤ told.growth.depth
       → IsToldOrUnseen t told IsUnseen (count_of_levels told) hits

@@ -60,6 +60,10 @@ pub record HasCause (told : Told) (code : ℕ) (failing : List Met) : Type 0 whe
 
 -- What a report to depth d promises.
 pub record Promises (t : Subject) (told : Told) : Type 0 where
+  -- What is told is so: the behaviour of each number is one of the component's, each fault in it is of a kind that is tried at its point, and the
+  -- number's verdict is the one at the behaviour's end.
+  pub behaves : AllByRecursion (IsBehaviourOfKinds t) told.behaviours
+  pub judged : (number : ℕ) (hits : List Met) → HasBehaviour told number hits → HasVerdict told number (verdict_at_end t hits)
   -- Each behaviour in which at most d faults act is that of exactly one number of the levels, with its verdict.
   pub nothing_skipped : (hits : List Met) → IsBehaviourOfKinds t hits → acting hits ≤ told.growth.depth
       → IsToldOnce told (count_of_levels told) hits (verdict_at_end t hits)

@@ -12,14 +12,16 @@ use Rattle.action_eval.specs.Answers.{Return}
 use Rattle.target_trait.specs.declared.judgement.Verdict.{Verdict}
 use Rattle.target_trait.specs.declared.judgement.Verdict.TheVariants.{Fail}
 use Rattle.grown_plans.specs.Runs.{Met, acting}
-use Rattle.grown_plans.specs.GrownPlans.{Subject, level, levels, levels_to, onward, run_of_plan, scenario_of}
-use Rattle.grown_plans.specs.Promises.{IsCause, IsLawful, ReturnsOnward, run_in, verdict_of_plan}
+use Rattle.grown_plans.specs.GrownPlans.{Subject, grown, level, levels, levels_to, onward, run_of_plan, scenario_of}
+use Rattle.grown_plans.specs.Promises.{IsCause, IsLawful, IsOfKinds, ReturnsOnward, run_in, verdict_of_plan}
 use Rattle.grown_plans.proofs.Apart.{IsGrownTo, levels_grown}
 use Rattle.grown_plans.proofs.Causes.{has_causes}
 use Rattle.grown_plans.proofs.Faults.{faults as faults_of}
-use Rattle.grown_plans.proofs.Members.{all_contains, all_weaker, contains_map}
+use Rattle.grown_plans.proofs.Members.{all_append, all_contains, all_left, all_right, all_weaker, contains_map}
+use Rattle.grown_plans.proofs.Onward.{grown_can}
 use Rattle.grown_plans.proofs.Paths.{some_is}
 use Rattle.grown_plans.proofs.PlanRuns.{plan_judged}
+use Rattle.grown_plans.proofs.RiggedScenarios.{CanAct}
 use Rattle.grown_runs.specs.GrownRuns.{cause_at, over}
 use Rattle.grown_runs.specs.known.Known.{KnownRuns}
 use Rattle.grown_runs.specs.known.KnownPart.{is_reached, is_reached_onward, known_levels, to_run}
@@ -33,15 +35,16 @@ use Rattle.result_book.specs.FirstFailures.{first_failures}
 use Rattle.result_book.proofs.EachCodeLemmas.{firsts_of}
 use Rattle.report.specs.Reports.{CauseFacts}
 use Rattle.campaign_core.specs.promises.AsSeen.{HasUnseenCause, IsToldOrUnseen, PromisesAsSeen}
-use Rattle.campaign_core.specs.promises.Behaviours.{IsBehaviourOfKinds, faults}
+use Rattle.campaign_core.specs.promises.Behaviours.{IsBehaviourOfKinds, faults, verdict_at_end}
 use Rattle.campaign_core.specs.promises.Promises.{HasCause}
 use Rattle.campaign_core.specs.promises.Promises.{IsCause as IsToldCause}
 use Rattle.campaign_core.specs.promises.Told.{HasBehaviour, HasVerdict, Told, count_of_all, count_of_levels}
 use Rattle.campaign_core.proofs.PromisesLemmas.Cases.{case_for, case_runs}
 use Rattle.campaign_core.proofs.PromisesLemmas.Counted.{has_acting}
 use Rattle.campaign_core.proofs.PromisesLemmas.Faults.{faults_among}
+use Rattle.campaign_core.proofs.PromisesLemmas.Kinds.{each_of_kinds}
 use Rattle.campaign_core.proofs.PromisesLemmas.Least.{no_lesser}
-use Rattle.campaign_core.proofs.PromisesLemmas.Listed.{Lists, all_are, all_counted, by_case, has_behaviour, no_two, told_once}
+use Rattle.campaign_core.proofs.PromisesLemmas.Listed.{Lists, all_are, all_counted, by_case, each_behaves, each_judged, has_behaviour, no_two, told_once}
 use Rattle.campaign_core.proofs.PromisesLemmas.Numbers.{at_contained, contains_at, get_front, get_in_front, get_map, get_unmapped, sum_more}
 use Rattle.campaign_core.specs.Findings.{IsCauseAmong, cause_of}
 use Rattle.campaign_core.specs.Headline.{Campaign, grower, say}
@@ -84,6 +87,14 @@ sizes_known t known (suc d) =
     ∙ sym (length-append (filter (is_reached known) (levels t d)) (filter (is_reached known) (level t (suc d))))
     ∙ ap (λ (l : List (List Rig)). length l) (sym (filter_both (is_reached known) (levels t d) (level t (suc d))))
 
+all_filtered : {A : Type 0} (P : A → Type 0) (p : A → Bool) (xs : List A) → AllByRecursion P xs → AllByRecursion P (filter p xs)
+all_filtered P p [] all = tt
+all_filtered {A} P p (x ∷ xs) all = by_test (p x) (all_filtered P p xs all.1)
+  where
+    by_test : (b : Bool) → AllByRecursion P (filter p xs) → AllByRecursion P (cond b (x ∷ filter p xs) (filter p xs))
+    by_test true later = (all.0, later)
+    by_test false later = later
+
 -- ---- the promises
 
 module _ (c : Campaign) (depth : ℕ) (known : KnownRuns) (l : IsLawful (grower c)) (done : to_run (grower c) depth known ≡ [])
@@ -121,6 +132,20 @@ module _ (c : Campaign) (depth : ℕ) (known : KnownRuns) (l : IsLawful (grower 
 
   lists : Lists t first behind told
   lists = record { first_are = sizes_known t known depth; behind_are = refl; behaves = refl; comes = comes_at; apart = apart t l depth known done }
+
+  -- ---- what is told is so
+
+  of_known : (P : List Rig → Type 0) → AllByRecursion P (grown t depth) → AllByRecursion P (first ++ behind)
+  of_known P each =
+      all_append P first behind
+      (all_filtered P (is_reached known) (levels t depth) (all_left P (levels t depth) (onward t depth) each))
+      (all_filtered P (is_reached_onward known) (onward t depth) (all_right P (levels t depth) (onward t depth) each))
+
+  told_behaves : AllByRecursion (IsBehaviourOfKinds t) told.behaviours
+  told_behaves = each_behaves t l first behind told lists (of_known (λ plan. IsOfKinds t.kinds (run_of_plan t plan)) (each_of_kinds t l depth))
+
+  told_judged : (number : ℕ) (hits : List Met) → HasBehaviour told number hits → HasVerdict told number (verdict_at_end t hits)
+  told_judged = each_judged t l first behind told lists (of_known CanAct (grown_can t l depth))
 
   -- ---- behaviours
 
@@ -247,6 +272,8 @@ module _ (c : Campaign) (depth : ℕ) (known : KnownRuns) (l : IsLawful (grower 
       (All-from_recursion (λ s. DistinctNames s) plans (all_weaker (λ (s : Entries). IsScenario s) (λ (s : Entries). DistinctNames s) (λ s is. is.distinct_names) plans lawful))
       (each_fails (say c) plans (first_failures (numbered verdicts)) (firsts_of verdicts)) in
       record {
+        behaves = told_behaves;
+        judged = told_judged;
         nothing_skipped = skipped_none;
         all_told = all_counted t l first behind told lists;
         nothing_twice = no_two t l first behind told lists;
