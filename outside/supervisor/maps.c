@@ -246,9 +246,9 @@ void serve_map_sync(struct call *call) {
     if (!(argument(call, call->row->flags) & MS_SYNC) || from % PAGE || !find_area(call, &area)) return go_on(call);
     if (length > area.to - from) length = area.to - from;
     if (!look_at(area.file->file, "", AT_EMPTY_PATH, &facts)) return go_on(call);
+    note_stores(&area.file->key); /* before a call that fails is answered: its thread stores more as soon as it goes on */
     enum answer answer = hit(call, FSYNC, shown_path(area.file->file, &facts, path), NULL);
     if (answer == NOT_YET) return;
-    note_stores(&area.file->key);
     lock_run();
     if (answer == FAIL && forgets) note_sync(SYNC_FAILED, &area.file->key, state->noted, 0, 0);
     else if (answer == GO) note_sync(SYNCED_RANGE, &area.file->key, state->noted, area.at + (from - area.from), length);

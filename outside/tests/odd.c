@@ -203,6 +203,20 @@ static int middle_unmapped(char **words) {
     return msync(memory + 2 * PAGE, PAGE, MS_SYNC);
 }
 
+/* Twenty times: a store, a sync that fails, a store into another page as soon as it has failed, and a sync that doesn't. */
+static int stored_at_once(char **words) {
+    int file = open("a", O_CREAT | O_RDWR, 0644), is_fsync = !strcmp(words[0], "fsync");
+    if (ftruncate(file, 40 * PAGE) || fsync(file)) return 1;
+    char *memory = mapped(file, 40 * PAGE, PROT_READ | PROT_WRITE);
+    for (int at = 0; at < 40 * PAGE; at += 2 * PAGE) {
+        memory[at] = 'L';
+        if ((is_fsync ? fsync(file) : msync(memory, 40 * PAGE, MS_SYNC)) != -1) return wrong("a sync that is to fail");
+        memory[at + PAGE] = 'S';
+        if (is_fsync ? fsync(file) : msync(memory, 40 * PAGE, MS_SYNC)) return wrong("a sync");
+    }
+    return 0;
+}
+
 static int killed(char **words) {
     (void)words;
     mapped(old(O_RDWR), 10, PROT_READ | PROT_WRITE)[0] = 'N';
@@ -408,7 +422,7 @@ static const struct {
     {"own_folder", own_folder}, {"beneath", beneath}, {"limited", limited}, {"few_files", few_files},
     {"opened_often", opened_often},    {"by_path", by_path},    {"written_at", written_at}, {"masked", masked}, {"as_other", as_other}, {"at_once", at_once},
     {"made_writable", made_writable}, {"closed_memory", closed_memory}, {"mapped_over", mapped_over},
-    {"middle_unmapped", middle_unmapped}, {"killed", killed}, {"left_quickly", left_quickly}, {"cancelled", cancelled},
+    {"middle_unmapped", middle_unmapped}, {"stored_at_once", stored_at_once}, {"killed", killed}, {"left_quickly", left_quickly}, {"cancelled", cancelled},
     {"stormy", stormy}, {"in_vfork", in_vfork}, {"spawns", spawns}, {"by_descriptor", by_descriptor}, {"leaves", leaves},
     {"sleeps", sleeps}, {"rings", rings}, {"short_call", short_call}, {"denied", denied}, {"moves", moves}, {"waits_often", waits_often},
     {"pipes_by_name", pipes_by_name},    {"closed_process", closed_process}, {"overslept", overslept}, {"woken", woken}, {"draws", draws},

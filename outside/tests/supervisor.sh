@@ -109,6 +109,12 @@ is 'memory mapped over a mapping is none of it' '0 0123456789' "$status $(left l
 oddly middle_unmapped
 is 'the rest of a mapping of which a part went' '0 T' "$status $(left contents > "$here/said"; left live > "$here/said"; tr -d '\0' < "$here/data/a")"
 is 'lasts' '1 create a -' "$(pending)"
+each_other=$(repeated 20 '->1*return->1*off')
+for sync in fsync msync; do
+    new
+    run "sys::fsync=1*off$each_other" "$oddities" stored_at_once "$sync"
+    is "what is stored at once behind a failed $sync isn't lost with it" '0 SSSSSSSSSSSSSSSSSSSS' "$status $(left names > "$here/said"; tr -d '\0' < "$here/data/a")"
+done
 oddly killed
 is 'what was stored by a process that was killed' '137 1 store old 10 at 0' "$status $(pending)"
 oddly left_quickly
