@@ -39,12 +39,17 @@ static size_t room_in_limit(const struct call *call, uint64_t place, size_t leng
     return length < limit.rlim_cur - place ? length : limit.rlim_cur - place;
 }
 
+/* The place of a file at which the next byte is written. */
+static uint64_t place_of_write(const struct writing *writing) {
+    if (writing->appends) return writing->file.length;
+    return (uint64_t)(writing->at >= 0 ? writing->at : lseek(writing->opened->file, 0, SEEK_CUR));
+}
+
 static long write_noted(struct writing *writing, char *bytes, size_t length) {
     char link[LINK_LENGTH];
     int file = writing->opened->file, flags = flags_of(writing->call);
     const struct key *key = &writing->file.key;
-    off_t here = writing->at >= 0 ? writing->at : lseek(file, 0, SEEK_CUR);
-    uint64_t place = writing->appends ? writing->file.length : (uint64_t)here;
+    uint64_t place = place_of_write(writing);
     size_t fits = room_in_limit(writing->call, place, length);
     if (length && !fits) {
         syscall(SYS_tgkill, writing->call->thread->process, writing->call->thread->number, SIGXFSZ);
@@ -80,12 +85,14 @@ static long write_parts(struct writing *writing, const struct parts *parts, size
     return (long)done;
 }
 
-static void write_file(struct call *call, const struct opened *opened, const struct parts *parts, size_t length) {
+static void write_file(struct call *call, const struct opened *opened, const struct parts *parts, bool halves) {
     struct writing writing = {.call = call, .opened = opened, .file = opened->facts.file};
     int flags = flags_of(call);
+    size_t length = parts->length, fits;
     if (!read_place(call, &writing.at)) return finish(call, -EINVAL);
     writing.appends = opened->flags & O_APPEND || flags & RWF_APPEND;
     writing.syncs = opened->flags & O_DSYNC || flags & (RWF_DSYNC | RWF_SYNC);
+    if (halves && (fits = room_in_limit(call, place_of_write(&writing), length)) > 0) length = half_of(fits);
     finish(call, write_parts(&writing, parts, length));
 }
 
@@ -98,7 +105,7 @@ void serve_write(struct call *call) {
     enum answer answer = hit(call, WRITE, opened.path, NULL);
     if (answer == FAIL || answer == NOT_YET) return;
     if (error) return finish(call, error);
-    write_file(call, &opened, &parts, answer == HALF ? parts.length / 2 : parts.length);
+    write_file(call, &opened, &parts, answer == HALF);
 }
 
 /* ---- reads */
@@ -108,10 +115,11 @@ static long read_some(const struct call *call, const struct opened *opened, char
     return result_of(preadv2(opened->file, &part, 1, at, flags_of(call)));
 }
 
-static long read_file(struct call *call, const struct opened *opened, const struct parts *parts, size_t length) {
-    size_t done = 0;
+static long read_file(struct call *call, const struct opened *opened, const struct parts *parts, bool halves) {
+    size_t done = 0, length = parts->length;
     off_t at;
     if (!read_place(call, &at)) return -EINVAL;
+    if (halves) length = half_of(moves_now(opened, at, length));
     do {
         size_t some = length - done < MOST_AT_ONCE ? length - done : MOST_AT_ONCE;
         char *bytes = room_for(parts, some);
@@ -138,5 +146,5 @@ void serve_read(struct call *call) {
     enum answer answer = hit(call, READ, opened.path, NULL);
     if (answer == FAIL || answer == NOT_YET) return;
     if (error) return finish(call, error);
-    finish(call, read_file(call, &opened, &parts, answer == HALF ? parts.length / 2 : parts.length));
+    finish(call, read_file(call, &opened, &parts, answer == HALF));
 }

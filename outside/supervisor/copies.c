@@ -82,13 +82,11 @@ static enum answer hit_copy(struct call *call, const struct copy *copy) {
     return copy->sends ? hit(call, SEND, "socket", NULL) : hit(call, READ, copy->in.path, NULL);
 }
 
-/* Whether the call goes on by itself. A copy to a stream may wait for its reader, and the reader for the supervisor. So it goes on by itself,
-   except for a half, of which only as much is done as fits. */
-static bool goes_by_itself(struct copy *copy, enum answer answer) {
-    if (answer == HALF) copy->length /= 2;
-    if (!is_stream(&copy->out)) return false;
-    if (copy->length > PIPE_BUF) copy->length = PIPE_BUF;
-    return answer == GO;
+/* A copy to a stream may wait for its reader, and the reader for the supervisor. So it goes on by itself, except for a half, of which only as much is
+   done as fits. */
+static void take_half(struct copy *copy) {
+    copy->length = half_of(moves_now(&copy->in, copy->in_place ? copy->in_at : -1, copy->length));
+    if (is_stream(&copy->out) && copy->length > PIPE_BUF) copy->length = PIPE_BUF;
 }
 
 static void serve_by(struct call *call, copier *copies) {
@@ -98,10 +96,11 @@ static void serve_by(struct call *call, copier *copies) {
     enum answer answer = hit_copy(call, &copy);
     if (answer == FAIL || answer == NOT_YET) return;
     if (answer == DROP) return finish(call, (long)copy.length);
-    if (goes_by_itself(&copy, answer)) return go_on(call);
+    if (answer == GO && is_stream(&copy.out)) return go_on(call);
     if (copy.in.file < 0 || copy.out.file < 0) return finish(call, -EBADF);
     if (!read_place(call, row->at, &copy.in_at, &copy.in_place)) return finish(call, -EFAULT);
     if (!read_place(call, row->other_at, &copy.out_at, &copy.out_place)) return finish(call, -EFAULT);
+    if (answer == HALF) take_half(&copy);
     if (!is_ready(call, &copy.in, POLLIN) || !is_ready(call, &copy.out, POLLOUT)) return flush_hit(call);
     long result = copy_noted(call, &copy, copies);
     write_place(call, row->at, copy.in_place);

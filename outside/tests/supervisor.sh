@@ -96,7 +96,7 @@ oddly pipes_by_name
 is 'a pipe under the root' '0 7 7 0' "$status $(grep -E 'read|write' "$here/run/trace" | cut -f 8 | tr -d ' ' | paste -s -d ' ')"
 new
 run 'sys::read=1*return(HALF);sys::write=1*return(HALF)' "$oddities" pipes_by_name
-is 'half of a write of it' 3 "$(grep write "$here/run/trace" | cut -f 8 | tr -d ' ')"
+is 'half of a write of it, and of what of that a read has' '3 1' "$(grep -E 'read|write' "$here/run/trace" | sort -rk 2 | cut -f 8 | tr -d ' ' | paste -s -d ' ')"
 
 # Shared mappings, each of which a library that was preloaded missed, or fell over: it didn't see mprotect, crashed as it read memory that was closed, took what was
 # mapped over for the file, forgot the rest of one of which a part went, and had no end to look at of a program that left quickly.
