@@ -78,6 +78,7 @@ static int own_folder(char **words) {
     char path[64];
     int file = old(O_RDWR);
     sprintf(path, words[0], file);
+    if (chdir("sub")) return wrong("sub"); /* which isn't the supervisor's */
     int other = open(path, O_WRONLY | O_TRUNC);
     return other < 0 || write(other, "by proc", 7) != 7 ? wrong(path) : 0;
 }
@@ -146,6 +147,18 @@ static int as_other(char **words) {
     if (open("closed", O_RDONLY) >= 0 || errno != EACCES) return wrong("a file of somebody else");
     if (close(open("open/a", O_CREAT | O_RDWR, 0644)) || stat("open/a", &told)) return wrong("a file of its own");
     return printf("%d %d\n", told.st_uid, told.st_gid) < 0;
+}
+
+/* With a folder as its root, of which no name leads out. */
+static int jailed(char **words) {
+    struct open_how how = {.flags = O_CREAT | O_RDWR, .mode = 0644, .resolve = RESOLVE_NO_SYMLINKS};
+    if (chroot(words[0]) || chdir("/")) return wrong("chroot");
+    if (close(open("../made", O_CREAT | O_RDWR, 0644)) || mkdir("/../d", 0755)) return wrong("made");
+    if (unlink("../old") != -1 || printf("%s ", strerrorname_np(errno)) < 0) return wrong("../old");
+    if (unlink("sub/../../../sub/in") != -1 || printf("%s", strerrorname_np(errno)) < 0) return wrong("../sub/in");
+    if (close((int)syscall(SYS_openat2, AT_FDCWD, "/../../further", &how, sizeof how))) return wrong("further");
+    if (close(open("way/in_way", O_CREAT | O_RDWR, 0644))) return wrong("way");
+    return close(open("sub/up", O_CREAT | O_RDWR, 0644)) ? wrong("up") : 0;
 }
 
 /* What is let go must be free at once: a program that was just written is started, a lock goes with its last descriptor. */
@@ -420,7 +433,8 @@ static const struct {
 } cases[] = {
     {"raw", raw}, {"bad_parts", bad_parts}, {"read_only", read_only}, {"direct", direct}, {"as_output", as_output},
     {"own_folder", own_folder}, {"beneath", beneath}, {"limited", limited}, {"few_files", few_files},
-    {"opened_often", opened_often},    {"by_path", by_path},    {"written_at", written_at}, {"masked", masked}, {"as_other", as_other}, {"at_once", at_once},
+    {"opened_often", opened_often},    {"by_path", by_path},    {"written_at", written_at}, {"masked", masked}, {"as_other", as_other}, {"jailed", jailed},
+    {"at_once", at_once},
     {"made_writable", made_writable}, {"closed_memory", closed_memory}, {"mapped_over", mapped_over},
     {"middle_unmapped", middle_unmapped}, {"stored_at_once", stored_at_once}, {"killed", killed}, {"left_quickly", left_quickly}, {"cancelled", cancelled},
     {"stormy", stormy}, {"in_vfork", in_vfork}, {"spawns", spawns}, {"by_descriptor", by_descriptor}, {"leaves", leaves},

@@ -15,7 +15,8 @@ oddly raw
 is 'calls by the system itself' '0 open;write;fsync' "$status $(hits)"
 oddly as_output
 is 'standard output that is a file of the root' '0 old=through it ' "$status $(left lasting | sed 's|sub/.*||')"
-for link in /proc/self/fd/%d /dev/fd/%d /proc/thread-self/fd/%d "/proc/self/root$here/data/old" "/proc/self/cwd/../data/old"; do
+for link in /proc/self/fd/%d /dev/fd/%d /proc/thread-self/fd/%d "/proc/self/root$here/data/old" /proc/self/cwd/../old /proc//self/fd/%d \
+    /proc/./self/fd/%d /proc//thread-self/fd/%d /proc/self/../thread-self/fd/%d /dev/./fd/%d /proc//self/cwd/../old /proc/./self/cwd/../old; do
     oddly own_folder "$link"
     is "by ${link#*self/root}" '0 old old,1 resize old to 0,2 write old 7 at 0 by proc' \
         "$status $(grep open "$here/run/trace" | cut -f 5 | paste -s -d ' '),$(pending) $(cat "$here/data/old")"
@@ -242,6 +243,19 @@ if [ "$(id -u)" = 0 ] && unshare -m true 2> "$here/faults"; then
     gcc -static -std=gnu11 -O1 -U_FORTIFY_SOURCE -Wall -Wextra -Werror -o "$here/static" tests/odd.c -pthread
     run none chroot "$here" /static written_at /data/sub/a
     is 'another root' '0 sub/a sub/a at' "$status $(cut -f 5 "$here/run/trace" | paste -s -d ' ') $(cat "$here/data/sub/a")"
+    # What it comes to natively is in this folder alone, and nothing is made or deleted outside of it.
+    jailed=". ./jail ./jail/d ./jail/file ./jail/further ./jail/made ./jail/sub ./jail/sub/in_way ./jail/sub/up ./jail/way ./old ./sub ./sub/in"
+    inside() { (cd "$1" && find . | LC_ALL=C sort | paste -s -d ' '); }
+    for how in natively supervised; do
+        new
+        mkdir -p "$here/data/jail/sub" && ln -s /sub "$here/data/jail/way" && ln -s ../../sub/../file "$here/data/jail/sub/up"
+        rm -r "$here/run" && out/powercut begin "$here/run" "$here/data"
+        [ $how = supervised ] && run none "$here/static" jailed jail || (cd "$here/data" && "$here/static" jailed jail > "$here/said"; echo $? > "$here/status")
+        is "a folder as root, $how" "0 ENOENT ENOENT, $jailed" \
+            "$([ $how = supervised ] && echo "$status" || cat "$here/status") $(cat "$here/said"), $(inside "$here/data")"
+    done
+    is 'and is seen' 'jail/made jail/d jail/old jail/sub/in jail/further jail/sub/in_way jail/file' "$(cut -f 5 "$here/run/trace" | paste -s -d ' ')"
+    is 'and lasts' "$jailed" "$(left keep power::keep=return > "$here/said"; inside "$here/data")"
     mkdir -p "$here/mounted"
     run none unshare -m sh -c 'mount --bind . "$1/mounted" && echo x > "$1/mounted/b"' mounts "$here"
     is 'a folder that a mount shows elsewhere' 'b b' "$(tail -n 2 "$here/run/trace" | cut -f 5 | paste -s -d ' ')"
