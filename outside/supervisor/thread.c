@@ -4,6 +4,7 @@
 
 #include <errno.h>
 #include <grp.h>
+#include <linux/capability.h>
 #include <signal.h>
 #include <stdio.h>
 #include <stdlib.h>
@@ -197,7 +198,8 @@ bool read_text(const struct thread *thread, uint64_t at, char *text, size_t room
 
 /* ---- whose files are made */
 
-static bool masks_change, ids_change, is_other;
+static bool masks_change, ids_change;
+static bool is_other, is_limited; /* whether it acts as another user now, and with fewer capabilities */
 static mode_t own_mask = (mode_t)-1;
 
 void mask_changed(const struct thread *thread) {
@@ -228,18 +230,18 @@ static void take_mask(struct thread *thread) {
 }
 
 /* The user or group as which a thread uses files: the last of the four numbers of a line. */
-static unsigned file_id(const struct thread *thread, const char *line) {
+static unsigned file_id(const char *line) {
     unsigned ids[4] = {0};
-    const char *text = status_of(thread, line);
+    const char *text = line_of_status(line);
     if (text) sscanf(text, "%u %u %u %u", &ids[0], &ids[1], &ids[2], &ids[3]);
     return ids[3];
 }
 
-static void take_groups(const struct thread *thread) {
+static void take_groups(void) {
     gid_t groups[256];
     size_t count = 0;
     char *end;
-    const char *text = status_of(thread, "Groups:");
+    const char *text = line_of_status("Groups:");
     for (; text && count < sizeof groups / sizeof *groups; text = end) {
         groups[count] = (gid_t)strtoul(text, &end, 10);
         if (end == text || memchr(text, '\n', (size_t)(end - text))) break;
@@ -248,25 +250,54 @@ static void take_groups(const struct thread *thread) {
     setgroups(count, groups);
 }
 
+/* The capabilities of the supervisor, each a bit: those that it may use, and does use but for the time in which it acts as a thread. */
+static uint64_t own_capabilities(void) {
+    static uint64_t own;
+    static bool is_known;
+    struct __user_cap_header_struct head = {.version = _LINUX_CAPABILITY_VERSION_3};
+    struct __user_cap_data_struct sets[2] = {0};
+    if (!is_known && !syscall(SYS_capget, &head, sets)) own = sets[0].effective | (uint64_t)sets[1].effective << 32;
+    is_known = true;
+    return own;
+}
+
+/* Uses these capabilities alone, of those that it may use. */
+static void use_capabilities(uint64_t used) {
+    struct __user_cap_header_struct head = {.version = _LINUX_CAPABILITY_VERSION_3};
+    struct __user_cap_data_struct sets[2];
+    if (syscall(SYS_capget, &head, sets)) return;
+    for (int i = 0; i < 2; i++) sets[i].effective = sets[i].permitted & (unsigned)(used >> 32 * i);
+    syscall(SYS_capset, &head, sets);
+}
+
 void make_as(struct thread *thread) {
     take_mask(thread);
     act_as(thread);
 }
 
+/* The supervisor still looks into the thread meanwhile, so it keeps the right to do that. */
 void act_as(const struct thread *thread) {
-    if (!ids_change || geteuid()) return;
-    unsigned user = file_id(thread, "Uid:"), group = file_id(thread, "Gid:");
-    if (!user && !group) return;
-    take_groups(thread);
-    setfsgid(group);
-    setfsuid(user);
-    is_other = true;
+    if (!ids_change || !own_capabilities()) return;
+    read_status(thread);
+    const char *text = line_of_status("CapEff:");
+    unsigned user = file_id("Uid:"), group = file_id("Gid:");
+    uint64_t capabilities = text ? strtoull(text, NULL, 16) & own_capabilities() : own_capabilities();
+    is_other = user != geteuid() || group != getegid();
+    is_limited = capabilities != own_capabilities();
+    if (is_other) {
+        take_groups();
+        setfsgid(group);
+        setfsuid(user);
+    }
+    if (is_other || is_limited) use_capabilities(capabilities | 1ull << CAP_SYS_PTRACE);
 }
 
 void act_as_self(void) {
-    if (!is_other) return;
-    setfsuid(0);
-    setfsgid(0);
-    setgroups(0, NULL);
-    is_other = false;
+    if (is_other || is_limited) use_capabilities(own_capabilities());
+    if (is_other) {
+        setfsuid(geteuid());
+        setfsgid(getegid());
+        setgroups(0, NULL);
+    }
+    is_other = is_limited = false;
 }

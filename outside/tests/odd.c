@@ -4,6 +4,7 @@
 #include <errno.h>
 #include <fcntl.h>
 #include <grp.h>
+#include <linux/capability.h>
 #include <linux/filter.h>
 #include <linux/openat2.h>
 #include <linux/seccomp.h>
@@ -147,6 +148,20 @@ static int as_other(char **words) {
     if (open("closed", O_RDONLY) >= 0 || errno != EACCES) return wrong("a file of somebody else");
     if (close(open("open/a", O_CREAT | O_RDWR, 0644)) || stat("open/a", &told)) return wrong("a file of its own");
     return printf("%d %d\n", told.st_uid, told.st_gid) < 0;
+}
+
+/* As root, but without any of its rights beyond those of a user, what belongs to somebody else. */
+static int without_rights(char **words) {
+    struct __user_cap_header_struct head = {.version = _LINUX_CAPABILITY_VERSION_3};
+    struct __user_cap_data_struct none[2] = {0};
+    (void)words;
+    if (syscall(SYS_capset, &head, none)) return wrong("capset");
+    if (open("theirs/closed", O_RDONLY) >= 0 || errno != EACCES) return wrong("a file that nobody may open");
+    if (open("theirs/a", O_CREAT | O_RDWR, 0644) >= 0 || errno != EACCES) return wrong("a file in a folder of somebody else");
+    if (!truncate("theirs/closed", 0) || errno != EACCES) return wrong("its length");
+    if (!mkdir("theirs/d", 0755) || errno != EACCES) return wrong("a folder");
+    if (!rename("theirs/closed", "theirs/open") || errno != EACCES) return wrong("its name");
+    return close(open("a", O_CREAT | O_RDWR, 0644)) ? wrong("a file of its own") : 0;
 }
 
 /* With a folder as its root, of which no name leads out. */
@@ -433,7 +448,7 @@ static const struct {
 } cases[] = {
     {"raw", raw}, {"bad_parts", bad_parts}, {"read_only", read_only}, {"direct", direct}, {"as_output", as_output},
     {"own_folder", own_folder}, {"beneath", beneath}, {"limited", limited}, {"few_files", few_files},
-    {"opened_often", opened_often},    {"by_path", by_path},    {"written_at", written_at}, {"masked", masked}, {"as_other", as_other}, {"jailed", jailed},
+    {"opened_often", opened_often},    {"by_path", by_path},    {"written_at", written_at}, {"masked", masked}, {"as_other", as_other}, {"without_rights", without_rights}, {"jailed", jailed},
     {"at_once", at_once},
     {"made_writable", made_writable}, {"closed_memory", closed_memory}, {"mapped_over", mapped_over},
     {"middle_unmapped", middle_unmapped}, {"stored_at_once", stored_at_once}, {"killed", killed}, {"left_quickly", left_quickly}, {"cancelled", cancelled},

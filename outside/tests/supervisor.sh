@@ -206,6 +206,21 @@ if [ "$(id -u)" = 0 ] && unshare -m true 2> "$here/faults"; then
     run none "$oddities" as_other
     is 'as another user' '0 2345 1234' "$status $said"
 
+    # owned: new files, among them one of another user that nobody may open
+    owned() {
+        new
+        mkdir "$here/data/theirs" && printf x > "$here/data/theirs/closed" && chmod 0 "$here/data/theirs/closed"
+        chown -R 65534 "$here/data/theirs"
+    }
+    owned
+    is 'rights that root gave up, natively' 0 "$(cd "$here/data" && "$oddities" without_rights 2>&1; echo $?)"
+    owned
+    run none "$oddities" without_rights
+    is 'and supervised' '0 EACCES EACCES EACCES EACCES EACCES 3' "$status$faults $(cut -f 8 "$here/run/trace" | tr -d ' ' | paste -s -d ' ')"
+    owned
+    run none sh -c 'cat theirs/closed; setpriv --bounding-set=-all cat theirs/closed; cat theirs/closed'
+    is 'or that a program is started without' '0 xx EACCES' "$status $said $(cut -f 8 "$here/run/trace" | grep -o E.*S)"
+
     oddly closed_process
     is 'a process that nobody may look into, but root' '0 open' "$status $(hits)"
     # By a user who may do nothing but that, also in a container of his own: with other users, mounts, processes and network.
