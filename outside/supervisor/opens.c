@@ -89,6 +89,8 @@ void serve_open(struct call *call) {
     if (!find_asked(call, &how, &found) || !found.is_inside) return pass_by(call, &found);
     if (hit(call, OPEN, found.path, flag_names((int)how.flags, flags)) != GO) return;
     if (may_wait(&found)) return go_on(call);
+    bool changes = how.flags & (found.exists ? O_TRUNC : O_CREAT);
+    if (changes && !has_free_descriptor(call->thread)) return finish(call, -EMFILE);
     if (is_kept && found.exists && how.flags & O_TRUNC && S_ISREG(found.facts.file.key.mode))
         copy_later(&found.facts.file.key, path_to(&found, path), 0, UINT64_MAX);
     int file = open_found(call, &how, &found);

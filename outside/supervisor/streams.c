@@ -298,6 +298,7 @@ void serve_accept(struct call *call) {
     int flags = (int)argument(call, call->row->flags);
     if (!open_socket(call, &opened)) return go_on(call);
     if (hit_stream(call, &opened, ACCEPT) != GO) return;
+    if (!has_free_descriptor(call->thread)) return finish(call, -EMFILE); /* and the connection stays in the queue */
     transfer = (struct transfer){.call = call, .opened = &opened, .is_socket = true, .address = argument(call, call->row->bytes)};
     struct pollfd comes = {opened.file, POLLIN, 0};
     set_limit(&transfer);

@@ -128,6 +128,9 @@ void folder_changes(struct thread *thread);
 /* A copy of the thread's descriptor. */
 int fetch(const struct thread *thread, int file);
 
+/* Whether its limit leaves it a descriptor. The system looks at that before it opens anything. */
+bool has_free_descriptor(const struct thread *thread);
+
 /* The path of its program. */
 const char *program_of(const struct thread *thread);
 

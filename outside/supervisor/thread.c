@@ -2,6 +2,7 @@
 #define _GNU_SOURCE
 #include "supervisor.h"
 
+#include <dirent.h>
 #include <errno.h>
 #include <grp.h>
 #include <linux/capability.h>
@@ -166,6 +167,23 @@ int fetch(const struct thread *thread, int file) {
     int fetched = (int)syscall(SYS_pidfd_getfd, thread->handle, file, 0);
     if (fetched < 0) must_be_allowed(thread);
     return fetched;
+}
+
+/* If the last number that it may have is free, nothing need be counted. */
+bool has_free_descriptor(const struct thread *thread) {
+    char path[64];
+    struct rlimit limit;
+    rlim_t used = 0;
+    if (prlimit(thread->process, RLIMIT_NOFILE, NULL, &limit) || limit.rlim_cur > INT_MAX) return true;
+    int last = (int)syscall(SYS_pidfd_getfd, thread->handle, (int)limit.rlim_cur - 1, 0);
+    if (last < 0 && limit.rlim_cur > 0) return true;
+    if (last >= 0) close(last);
+    snprintf(path, sizeof path, "/proc/%d/fd", thread->number);
+    DIR *names = opendir(path);
+    for (struct dirent *entry; names && (entry = readdir(names));)
+        used += *entry->d_name != '.' && strtoul(entry->d_name, NULL, 10) < limit.rlim_cur;
+    if (names) closedir(names);
+    return used < limit.rlim_cur;
 }
 
 /* ---- memory */

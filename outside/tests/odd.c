@@ -124,7 +124,8 @@ static int few_files(char **words) {
     (void)words;
     setrlimit(RLIMIT_NOFILE, &(struct rlimit){8, 8});
     while (old(O_RDONLY) >= 0) continue;
-    return errno != EMFILE;
+    if (errno != EMFILE || old(O_RDWR | O_TRUNC) >= 0 || errno != EMFILE) return wrong("old");
+    return open("a", O_CREAT | O_RDWR, 0644) >= 0 || errno != EMFILE ? wrong("a") : 0;
 }
 
 static int written_at(char **words) {

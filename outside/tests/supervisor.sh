@@ -37,6 +37,7 @@ oddly limited
 is 'a limit on lengths' '0 1 write old 2 at 10' "$status $(pending)"
 oddly few_files
 is 'no descriptor left' '0 EMFILE' "$status $(tail -n 1 "$here/run/trace" | cut -f 8 | tr -d ' ')"
+is 'changes nothing' 'old=0123456789 sub/ sub/in=inside ' "$(pending)$(files)"
 oddly masked 027
 is 'a umask' '0 750 640 640' "$status $said"
 oddly moves
