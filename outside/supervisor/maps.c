@@ -161,7 +161,7 @@ static struct mapped *add_mapped(const struct opened *opened) {
         unseen("more than 256 mapped files, as", opened->path);
         return NULL;
     }
-    int own = open(link_of(opened->file, link), O_RDONLY | O_CLOEXEC);
+    int own = had(open(link_of(opened->file, link), O_RDONLY | O_CLOEXEC));
     if (own < 0) return NULL;
     file = &mapped[mapped_count++];
     *file = (struct mapped){.key = opened->facts.file.key, .file = own};

@@ -51,6 +51,9 @@ static inline uint64_t argument(const struct call *call, unsigned number) {
     return number ? call->told.data.args[number - 1] : 0;
 }
 
+/* Returns a descriptor, or what is negative. If it couldn't be had since the supervisor has too many, the run can't be followed. */
+int had(int file);
+
 /* Keeps a descriptor until the call has been served, and returns it. */
 int hold(struct call *call, int file);
 

@@ -30,7 +30,7 @@ static char status[MOST_STATUS];
 static void read_status(const struct thread *thread) {
     char path[64];
     snprintf(path, sizeof path, "/proc/%d/status", thread->number);
-    int file = open(path, O_RDONLY | O_CLOEXEC);
+    int file = had(open(path, O_RDONLY | O_CLOEXEC));
     ssize_t length = file < 0 ? -1 : read(file, status, sizeof status - 1);
     if (file >= 0) close(file);
     status[length < 0 ? 0 : length] = 0;
@@ -97,7 +97,7 @@ int folder_of(struct thread *thread) {
     if (thread->folder >= 0 && thread->moves == moves && !mover) return thread->folder;
     if (thread->folder >= 0) close(thread->folder);
     snprintf(path, sizeof path, "/proc/%d/cwd", thread->number);
-    thread->folder = open(path, O_PATH | O_DIRECTORY | O_CLOEXEC);
+    thread->folder = had(open(path, O_PATH | O_DIRECTORY | O_CLOEXEC));
     thread->moves = moves;
     if (thread->folder < 0 || look_at(thread->folder, "", AT_EMPTY_PATH, &thread->of_folder)) return thread->folder;
     close(thread->folder);
@@ -122,11 +122,20 @@ static int handle_of(const struct thread *thread) {
     int handle = knows_threads ? (int)syscall(SYS_pidfd_open, thread->number, PIDFD_THREAD) : -1;
     if (handle >= 0) return handle;
     if (errno == EINVAL) knows_threads = false;
-    return (int)syscall(SYS_pidfd_open, thread->process, 0);
+    return had((int)syscall(SYS_pidfd_open, thread->process, 0));
+}
+
+/* How many threads are remembered. Each takes two descriptors, and most of those that the system gives are for calls that wait. */
+static int slots(void) {
+    static int count;
+    struct rlimit limit;
+    if (count) return count;
+    count = !getrlimit(RLIMIT_NOFILE, &limit) && limit.rlim_cur < 8 * SLOTS ? (int)limit.rlim_cur / 8 : SLOTS;
+    return count += !count;
 }
 
 struct thread *thread_of(int number) {
-    struct thread *thread = &threads[number % SLOTS];
+    struct thread *thread = &threads[number % slots()];
     if (thread->number == number && is_alive(thread)) {
         if (roots_change) thread->is_elsewhere = looks_elsewhere(thread);
         if (mover) has_moved(thread);

@@ -274,6 +274,26 @@ static int cancelled(char **words) {
     return pthread_cancel(thread) || pthread_join(thread, &answer) || answer != PTHREAD_CANCELED;
 }
 
+/* Threads that open a file at once. */
+static pthread_barrier_t all_there;
+static void *opens(void *unused) {
+    pthread_barrier_wait(&all_there);
+    int file = old(O_RDWR);
+    pthread_barrier_wait(&all_there);
+    return file < 0 ? pipes : unused;
+}
+static int together(char **words) {
+    enum { MOST = 1000 };
+    pthread_t threads[MOST];
+    int count = atoi(words[0]), failed = 0;
+    void *answer;
+    pthread_barrier_init(&all_there, NULL, (unsigned)count);
+    for (int i = 0; i < count; i++)
+        if (pthread_create(&threads[i], NULL, opens, NULL)) return wrong("a thread");
+    for (int i = 0; i < count; i++) failed += pthread_join(threads[i], &answer) || answer;
+    return failed;
+}
+
 static void nothing(int unused) { (void)unused; }
 static pthread_t writer;
 static volatile int is_over;
@@ -452,7 +472,7 @@ static const struct {
     {"opened_often", opened_often},    {"by_path", by_path},    {"written_at", written_at}, {"masked", masked}, {"as_other", as_other}, {"without_rights", without_rights}, {"jailed", jailed},
     {"at_once", at_once},
     {"made_writable", made_writable}, {"closed_memory", closed_memory}, {"mapped_over", mapped_over},
-    {"middle_unmapped", middle_unmapped}, {"stored_at_once", stored_at_once}, {"killed", killed}, {"left_quickly", left_quickly}, {"cancelled", cancelled},
+    {"middle_unmapped", middle_unmapped}, {"stored_at_once", stored_at_once}, {"killed", killed}, {"left_quickly", left_quickly}, {"cancelled", cancelled}, {"together", together},
     {"stormy", stormy}, {"in_vfork", in_vfork}, {"spawns", spawns}, {"by_descriptor", by_descriptor}, {"leaves", leaves},
     {"sleeps", sleeps}, {"rings", rings}, {"short_call", short_call}, {"denied", denied}, {"moves", moves}, {"waits_often", waits_often},
     {"pipes_by_name", pipes_by_name},    {"closed_process", closed_process}, {"overslept", overslept}, {"woken", woken}, {"draws", draws},

@@ -173,6 +173,19 @@ while kill -ALRM "$stormed" 2> "$here/faults"; do :; done
 wait "$stormed"
 is 'a storm of signals for the supervisor itself' '0 20000' "$? $(grep -c 'sys::open' "$here/run/trace")"
 new
+run none sh -c 'echo x > a; (kill -KILL $PPID; while :; do echo x > a; done) & sleep 76541'
+is 'a run that ends its parent' "98 faults: can't follow the run: the process that keeps its processes together was killed " "$status $faults $(pgrep -f 'sleep 76541')"
+for limit in 6 9 64; do
+    new
+    under timeout -s KILL 60 prlimit --nofile="$limit:$limit" "$supervisor" sh -c 'mkfifo pipe; exec 3<> pipe
+        for number in $(seq 100); do cat "$1/data/pipe" & done; wait' cats "$here" > "$here/said" 2>&1
+    is "a limit of $limit descriptors" '98 faults: the limit of descriptors is too low to follow the run: Too many open files ' \
+        "$? $(cat "$here/said") $(pgrep -f "cat $here/data/pipe")"
+done
+new
+under prlimit --nofile=1024:1024 "$supervisor" "$oddities" together 600 > "$here/said" 2>&1
+is 'one that is enough for many threads' '0 600' "$?$(cat "$here/said") $(grep -c open "$here/run/trace")"
+new
 run 'sys::write=1*off->panic' sh -c 'setsid sh -c "while :; do echo x; done" > a & setsid sleep 76542 & sleep 0.1; echo y > b; echo z > b'
 is 'a panic ends what has left its session too' '99 ' "$status $(pgrep -f 'sleep 76542')"
 
