@@ -31,12 +31,19 @@ static bool is_stream(const struct opened *opened) {
     return opened->file >= 0 && (S_ISFIFO(mode) || S_ISSOCK(mode));
 }
 
-/* Whether a copy can go on. If not, the call waits for the pipe or socket. */
-static bool is_ready(struct call *call, const struct opened *opened, short events) {
-    struct pollfd file = {opened->file, events, 0};
-    if (!is_stream(opened) || fcntl(opened->file, F_GETFL) & O_NONBLOCK || poll(&file, 1, 0) != 0) return true;
-    wait_for(call, opened->file, events);
-    return false;
+static bool is_ready(const struct opened *opened, short events) {
+    return !is_stream(opened) || poll(&(struct pollfd){opened->file, events, 0}, 1, 0) != 0;
+}
+
+/* Lets the call wait for its pipe or socket. Returns false if there is none for which it may wait. */
+static bool may_wait(struct call *call, const struct copy *copy) {
+    bool waits_for_bytes = is_stream(&copy->in) && (!is_stream(&copy->out) || !is_ready(&copy->in, POLLIN));
+    const struct opened *opened = waits_for_bytes ? &copy->in : &copy->out;
+    bool is_asked_not_to = call->row->flags && argument(call, call->row->flags) & SPLICE_F_NONBLOCK;
+    if (is_asked_not_to || !is_stream(opened) || fcntl(opened->file, F_GETFL) & O_NONBLOCK) return false;
+    flush_hit(call);
+    wait_for(call, opened->file, waits_for_bytes ? POLLIN : POLLOUT);
+    return true;
 }
 
 /* Makes the call itself. */
@@ -45,8 +52,9 @@ typedef ssize_t copier(const struct copy *copy, unsigned flags);
 static ssize_t by_range(const struct copy *copy, unsigned flags) {
     return copy_file_range(copy->in.file, copy->in_place, copy->out.file, copy->out_place, copy->length, flags);
 }
+/* It never waits itself, and fails with EAGAIN. */
 static ssize_t by_splice(const struct copy *copy, unsigned flags) {
-    return splice(copy->in.file, copy->in_place, copy->out.file, copy->out_place, copy->length, flags);
+    return splice(copy->in.file, copy->in_place, copy->out.file, copy->out_place, copy->length, flags | SPLICE_F_NONBLOCK);
 }
 static ssize_t by_sendfile(const struct copy *copy, unsigned flags) {
     (void)flags;
@@ -101,8 +109,9 @@ static void serve_by(struct call *call, copier *copies) {
     if (!read_place(call, row->at, &copy.in_at, &copy.in_place)) return finish(call, -EFAULT);
     if (!read_place(call, row->other_at, &copy.out_at, &copy.out_place)) return finish(call, -EFAULT);
     if (answer == HALF) take_half(&copy);
-    if (!is_ready(call, &copy.in, POLLIN) || !is_ready(call, &copy.out, POLLOUT)) return flush_hit(call);
+    if (copies != by_splice && !is_ready(&copy.out, POLLOUT) && may_wait(call, &copy)) return;
     long result = copy_noted(call, &copy, copies);
+    if (result == -EAGAIN && may_wait(call, &copy)) return;
     write_place(call, row->at, copy.in_place);
     write_place(call, row->other_at, copy.out_place);
     finish(call, result);

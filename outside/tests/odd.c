@@ -412,6 +412,20 @@ static int pipes_by_name(char **words) {
     return read(file, bytes, 9) != 7 || read(file, bytes, 9) != 0 ? wrong("a pipe") : 0;
 }
 
+/* A copy from an empty pipe: one that mustn't wait, one to the end of a file that is appended to, and one for which bytes come later. */
+static int spliced(char **words) {
+    int file = open("a", O_CREAT | O_RDWR, 0644), appended = old(O_RDWR | O_APPEND);
+    (void)words;
+    if (pipe(pipes)) return 1;
+    if (splice(pipes[0], NULL, file, NULL, 5, SPLICE_F_NONBLOCK) != -1 || errno != EAGAIN) return wrong("a splice that mustn't wait");
+    if (splice(pipes[0], NULL, appended, NULL, 5, 0) != -1 || errno != EINVAL) return wrong("a splice to an end");
+    if (copy_file_range(pipes[0], NULL, file, NULL, 5, 0) != -1 || errno != EINVAL) return wrong("a copy from a pipe");
+    if (sendfile(file, pipes[0], NULL, 5) != -1 || errno != EINVAL) return wrong("a sendfile from a pipe");
+    if (!fork()) usleep(30000), _exit(write(pipes[1], "later", 5) != 5);
+    if (splice(pipes[0], NULL, file, NULL, 9, 0) != 5) return wrong("a splice that waits");
+    return fcntl(pipes[0], F_SETFL, O_NONBLOCK) || splice(pipes[0], NULL, file, NULL, 5, 0) != -1 || errno != EAGAIN ? wrong("a pipe of which nobody waits") : 0;
+}
+
 /* A command for which the system forbids one call, as a container may. */
 static int denied(char **words) {
     struct sock_filter steps[] = {
@@ -475,7 +489,7 @@ static const struct {
     {"middle_unmapped", middle_unmapped}, {"stored_at_once", stored_at_once}, {"killed", killed}, {"left_quickly", left_quickly}, {"cancelled", cancelled}, {"together", together},
     {"stormy", stormy}, {"in_vfork", in_vfork}, {"spawns", spawns}, {"by_descriptor", by_descriptor}, {"leaves", leaves},
     {"sleeps", sleeps}, {"rings", rings}, {"short_call", short_call}, {"denied", denied}, {"moves", moves}, {"waits_often", waits_often},
-    {"pipes_by_name", pipes_by_name},    {"closed_process", closed_process}, {"overslept", overslept}, {"woken", woken}, {"draws", draws},
+    {"pipes_by_name", pipes_by_name}, {"spliced", spliced},    {"closed_process", closed_process}, {"overslept", overslept}, {"woken", woken}, {"draws", draws},
 };
 
 int main(int count, char **words) {

@@ -100,6 +100,11 @@ new
 run 'sys::read=1*return(HALF);sys::write=1*return(HALF)' "$oddities" pipes_by_name
 is 'half of a write of it, and of what of that a read has' '3 1' "$(grep -E 'read|write' "$here/run/trace" | sort -rk 2 | cut -f 8 | tr -d ' ' | paste -s -d ' ')"
 
+is 'copies from an empty pipe, natively' 0 "$(new; cd "$here/data" && "$oddities" spliced 2>&1; echo $?)"
+oddly spliced
+is 'and supervised' '0 EAGAIN EINVAL EINVAL EINVAL 5 EAGAIN, later' \
+    "$status$faults $(grep write "$here/run/trace" | cut -f 8 | tr -d ' ' | paste -s -d ' '), $(cat "$here/data/a")"
+
 # Shared mappings, each of which a library that was preloaded missed, or fell over: it didn't see mprotect, crashed as it read memory that was closed, took what was
 # mapped over for the file, forgot the rest of one of which a part went, and had no end to look at of a program that left quickly.
 for case in made_writable closed_memory; do
