@@ -29,7 +29,7 @@ bool look_at(int folder, const char *name, int flags, struct facts *facts) {
     struct statx told;
     if (statx(folder, name, flags, STATX_BASIC_STATS | STATX_BTIME, &told)) return false;
     facts->device = makedev(told.stx_dev_major, told.stx_dev_minor);
-    facts->file.key = (struct key){told.stx_ino, told.stx_btime.tv_sec, told.stx_btime.tv_nsec, told.stx_mode};
+    facts->file.key = told_key(&told);
     facts->file.length = told.stx_size;
     facts->file.links = told.stx_nlink;
     return true;
