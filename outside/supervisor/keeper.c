@@ -1,6 +1,8 @@
 #define _GNU_SOURCE
 #include "keeper.h"
 
+#include "crashes.h"
+
 #include "../run/whole.h"
 #include "variables.h"
 
@@ -23,6 +25,8 @@
 #include <time.h>
 #include <unistd.h>
 
+enum { MOST_CRASHES = 256 };
+
 /* Memory that the supervisor, the keeper and the command's first process share. Messages between them would be calls that are looked at. */
 enum step { STARTED, LISTENS, FAILED };
 static struct {
@@ -31,6 +35,8 @@ static struct {
     pid_t command;
     int status, command_ended;
     int ends_all; /* whether the supervisor wants every process to be ended */
+    int crash_count;
+    struct crash crashes[MOST_CRASHES]; /* more of them aren't told */
 } *shared;
 
 static int hearing[2] = {-1, -1}; /* a pipe to which the supervisor writes once it has the listener */
@@ -81,15 +87,34 @@ static bool end_one(pid_t process, pid_t thread) {
 
 /* ---- the keeper */
 
+/* Notes a crash of a process that nobody has waited for yet, so that it still has its name. */
+static void note_crash(const siginfo_t *ended) {
+    char path[64];
+    struct crash *crash = &shared->crashes[shared->crash_count];
+    bool is_killed = ended->si_code == CLD_KILLED || ended->si_code == CLD_DUMPED;
+    if (!is_killed || !is_crash(ended->si_status) || shared->crash_count == MOST_CRASHES) return;
+    snprintf(path, sizeof path, "/proc/%d/comm", ended->si_pid);
+    int file = open(path, O_RDONLY | O_CLOEXEC);
+    ssize_t length = file < 0 ? 0 : read(file, crash->program, sizeof crash->program);
+    if (file >= 0) close(file);
+    crash->program[length > 0 ? length - 1 : 0] = 0; /* in place of the line feed */
+    crash->process = ended->si_pid;
+    crash->signal = ended->si_status;
+    __atomic_add_fetch(&shared->crash_count, 1, __ATOMIC_SEQ_CST);
+}
+
 static bool reap(void) {
+    siginfo_t ended;
     int status;
-    pid_t ended;
-    while ((ended = waitpid(-1, &status, WNOHANG)) > 0)
-        if (ended == shared->command) {
-            shared->status = status;
-            __atomic_store_n(&shared->command_ended, 1, __ATOMIC_SEQ_CST);
-        }
-    return ended == 0; /* some children are left */
+    while (ended.si_pid = 0, !waitid(P_ALL, 0, &ended, WEXITED | WNOHANG | WNOWAIT)) {
+        if (!ended.si_pid) return true; /* some children are left */
+        note_crash(&ended);
+        waitpid(ended.si_pid, &status, 0);
+        if (ended.si_pid != shared->command) continue;
+        shared->status = status;
+        __atomic_store_n(&shared->command_ended, 1, __ATOMIC_SEQ_CST);
+    }
+    return false;
 }
 
 /* Waits until no process is left. If the supervisor is gone, or wants it, it ends every process, also one that starts others meanwhile. For this it
@@ -216,6 +241,11 @@ static void end_orphans(void) {
         each_thread_of(getpid(), 0, end_one);
         nanosleep(&(struct timespec){0, 200000}, NULL);
     }
+}
+
+const struct crash *next_crash(void) {
+    static int seen;
+    return shared && seen < __atomic_load_n(&shared->crash_count, __ATOMIC_SEQ_CST) ? &shared->crashes[seen++] : NULL;
 }
 
 bool has_ended(int *status) {

@@ -4,6 +4,7 @@
 #define _GNU_SOURCE
 #include "../run/help.h"
 #include "../run/whole.h"
+#include "crashes.h"
 #include "keeper.h"
 #include "order.h"
 #include "pin.h"
@@ -62,6 +63,7 @@ static void tell_unseen(void) {
 
 _Noreturn void end_run(int status) {
     end_all();
+    note_crashes();
     note_all_stores();
     tell_unseen();
     _exit(status);
@@ -82,6 +84,8 @@ static _Noreturn void end_as(int status) {
 }
 
 static _Noreturn void end_with(int status, const char *name) {
+    note_crashes();
+    note_status(status, name);
     lock_run();
     note_all_stores();
     bool nothing = state->number == state->started;
@@ -201,6 +205,7 @@ static void begin_program(struct thread *thread) {
     ssize_t length = readlink(link, program, sizeof program - 1);
     program[length < 0 ? 0 : length] = 0;
     say_loaded(thread->process, program);
+    begins_program(thread);
     thread->program = told.st_ino;
 }
 

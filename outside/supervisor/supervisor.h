@@ -1,10 +1,10 @@
 /* What the files of the supervisor share. main.c begins, receives calls, answers them and ends. waiting.c has the calls that are answered later,
    and order.c says which of them goes next. table.c says what each system call's arguments are. filter.c and keeper.c start the command. thread.c
    looks into a thread, and parts.c into its memory. known.c and find.c say which files are under the root. hit.c counts and traces hits and says
-   what the scenario does there; trace.c writes the lines. noting.c says what is noted, and notes_file.c writes it. variables.c reads the
-   environment. ../run has what the power cut shares with it. The other files serve the calls: opens.c, bytes.c, copies.c, lengths.c, syncs.c,
-   names.c and maps.c those on files, streams.c those on pipes and sockets, pin.c random bytes, sleeps.c sleeps, and programs.c calls that are no
-   points. */
+   what the scenario does there; trace.c writes the lines, and crashes.c those about processes that crashed. noting.c says what is noted, and
+   notes_file.c writes it. variables.c reads the environment. ../run has what the power cut shares with it. The other files serve the calls: opens.c,
+   bytes.c, copies.c, lengths.c, syncs.c, names.c and maps.c those on files, streams.c those on pipes and sockets, pin.c random bytes, sleeps.c sleeps,
+   and programs.c calls that are no points. */
 #ifndef SUPERVISOR_H
 #define SUPERVISOR_H
 
@@ -113,6 +113,7 @@ struct thread {
     int folder;      /* its current folder, or -1; it is known as of `moves` changes of such folders */
     struct facts of_folder;
     uint64_t moves;
+    char name[32];    /* the name of its program, as the system keeps it */
     uint64_t program; /* the number of its program's file, once it was noted */
     struct {          /* the call that a signal interrupted; if the same call comes again, it is no other hit */
         bool is_there;
@@ -133,6 +134,9 @@ int fetch(const struct thread *thread, int file);
 
 /* Whether its limit leaves it a descriptor. The system looks at that before it opens anything. */
 bool has_free_descriptor(const struct thread *thread);
+
+/* Its program is another one now. */
+void begins_program(struct thread *thread);
 
 /* The path of its program. */
 const char *program_of(const struct thread *thread);

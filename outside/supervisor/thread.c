@@ -1,5 +1,6 @@
 /* The threads of the run: their descriptors, memory, umask and user. */
 #define _GNU_SOURCE
+#include "crashes.h"
 #include "supervisor.h"
 
 #include <dirent.h>
@@ -134,6 +135,17 @@ static int slots(void) {
     return count += !count;
 }
 
+/* Takes its name over from the status that was read last, as nobody can read it any more when it has ended. */
+static void take_name(struct thread *thread) {
+    const char *name = line_of_status("Name:\t");
+    snprintf(thread->name, sizeof thread->name, "%.*s", name ? (int)strcspn(name, "\n") : 0, name ? name : "");
+}
+
+void begins_program(struct thread *thread) {
+    read_status(thread);
+    take_name(thread);
+}
+
 struct thread *thread_of(int number) {
     struct thread *thread = &threads[number % slots()];
     if (thread->number == number && is_alive(thread)) {
@@ -142,14 +154,16 @@ struct thread *thread_of(int number) {
         return thread;
     }
     uint64_t program = thread->number == number && !knows_threads ? thread->program : 0;
-    if (thread->number) close(thread->handle);
+    if (thread->number) see_end(thread), close(thread->handle);
     if (thread->number && thread->folder >= 0) close(thread->folder);
     *thread = (struct thread){.number = number, .folder = -1, .seen = now()};
     read_status(thread);
     const char *process = line_of_status("Tgid:"), *mask = line_of_status("Umask:");
+    take_name(thread);
     thread->process = process ? atoi(process) : number;
     thread->mask = mask ? (int)strtol(mask, NULL, 8) : -1;
     thread->handle = handle_of(thread);
+    if (knows_threads) watch_end(thread);
     thread->is_elsewhere = looks_elsewhere(thread);
     thread->program = program;
     return thread;

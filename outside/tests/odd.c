@@ -426,6 +426,11 @@ static int spliced(char **words) {
     return fcntl(pipes[0], F_SETFL, O_NONBLOCK) || splice(pipes[0], NULL, file, NULL, 5, 0) != -1 || errno != EAGAIN ? wrong("a pipe of which nobody waits") : 0;
 }
 
+/* Ends by a signal, after a call. */
+static int signalled(char **words) {
+    return close(old(O_RDONLY)) || kill(getpid(), atoi(words[0]));
+}
+
 /* A command for which the system forbids one call, as a container may. */
 static int denied(char **words) {
     struct sock_filter steps[] = {
@@ -489,7 +494,7 @@ static const struct {
     {"middle_unmapped", middle_unmapped}, {"stored_at_once", stored_at_once}, {"killed", killed}, {"left_quickly", left_quickly}, {"cancelled", cancelled}, {"together", together},
     {"stormy", stormy}, {"in_vfork", in_vfork}, {"spawns", spawns}, {"by_descriptor", by_descriptor}, {"leaves", leaves},
     {"sleeps", sleeps}, {"rings", rings}, {"short_call", short_call}, {"denied", denied}, {"moves", moves}, {"waits_often", waits_often},
-    {"pipes_by_name", pipes_by_name}, {"spliced", spliced},    {"closed_process", closed_process}, {"overslept", overslept}, {"woken", woken}, {"draws", draws},
+    {"pipes_by_name", pipes_by_name}, {"spliced", spliced}, {"signalled", signalled},    {"closed_process", closed_process}, {"overslept", overslept}, {"woken", woken}, {"draws", draws},
 };
 
 int main(int count, char **words) {

@@ -86,6 +86,29 @@ new
 run none sh -c 'echo sh > a; kill -SEGV $$'
 is 'a command that ends by a signal' '139 open;write' "$status $(hits)"
 
+# Crashes, each with the number of hits at which it was seen. Signals: 6 is an abort, 9 and 15 are no crashes.
+crashes() { [ ! -e "$here/run/crashes" ] || tr '\t' ' ' < "$here/run/crashes" | paste -s -d ,; }
+oddly signalled 6
+is 'a command that crashes' '134 1 SIGABRT odd' "$status $(crashes)"
+for signal in 9 15; do
+    oddly signalled "$signal"
+    is "signal $signal is no crash" "$((128 + signal)) " "$status $(crashes)"
+done
+new
+run 'sys::open=1*off->1*panic' sh -c '"$1" signalled 9; "$1" signalled 6' ends "$oddities"
+is 'nor a panic' '99 ' "$status $(crashes)"
+new
+run none sh -c '("$1" signalled 11 &); sleep 0.1; cat old' ends "$oddities"
+is 'a process whose parent has ended' '0 1 SIGSEGV odd' "$status $(crashes)"
+new
+run none sh -c 'sh -c "$1 signalled 6; :"; cat old; "$1" signalled 8; "$1" signalled 15; exit 134' ends "$oddities"
+if [ "$(uname -r | awk -F '[.-]' '{ print $1 * 1000 + $2 >= 6015 }')" = 1 ]; then
+    is 'and those that another process of the run waits for' '134 1 SIGABRT odd,5 SIGFPE odd' "$status $(crashes)"
+else
+    echo 'skipped crashes that another process waits for: Linux tells them since 6.15'
+    is 'which a shell tells by its status' '134 6 SIGABRT sh' "$status $(crashes)"
+fi
+
 # Waits.
 FAULTS_SOCKETS=1
 export FAULTS_SOCKETS
