@@ -5,8 +5,6 @@
 #include "streams.h"
 
 #include <errno.h>
-#include <signal.h>
-#include <sys/resource.h>
 
 enum { MOST_AT_ONCE = 16 << 20 };
 
@@ -30,34 +28,17 @@ struct writing {
     bool appends, syncs;
 };
 
-/* How many bytes the thread's limit on the length of files leaves at that place. */
-static size_t room_in_limit(const struct call *call, uint64_t place, size_t length) {
-    struct rlimit limit;
-    if (!has_limits()) return length;
-    if (prlimit(call->thread->process, RLIMIT_FSIZE, NULL, &limit) || limit.rlim_cur == RLIM_INFINITY) return length;
-    if (place >= limit.rlim_cur) return 0;
-    return length < limit.rlim_cur - place ? length : limit.rlim_cur - place;
-}
-
-/* The place of a file at which the next byte is written. */
-static uint64_t place_of_write(const struct writing *writing) {
-    if (writing->appends) return writing->file.length;
-    return (uint64_t)(writing->at >= 0 ? writing->at : lseek(writing->opened->file, 0, SEEK_CUR));
-}
-
 static long write_noted(struct writing *writing, char *bytes, size_t length) {
     char link[LINK_LENGTH];
     int file = writing->opened->file, flags = flags_of(writing->call);
     const struct key *key = &writing->file.key;
-    uint64_t place = place_of_write(writing);
-    size_t fits = room_in_limit(writing->call, place, length);
-    if (length && !fits) {
-        syscall(SYS_tgkill, writing->call->thread->process, writing->call->thread->number, SIGXFSZ);
-        return -EFBIG;
-    }
-    if (is_kept) copy_later(key, link_of(file, link), place, place + fits);
-    struct iovec part = {bytes, fits};
+    off_t here = writing->at >= 0 ? writing->at : lseek(file, 0, SEEK_CUR);
+    uint64_t place = writing->appends ? writing->file.length : (uint64_t)here;
+    if (is_kept) copy_later(key, link_of(file, link), place, place + length);
+    struct iovec part = {bytes, length};
+    take_limit(writing->call->thread);
     long result = result_of(pwritev2(file, &part, 1, writing->at, flags));
+    end_limit(writing->call->thread);
     if (result <= 0) return result;
     if (is_kept) {
         bool later = may_come_later(&writing->file, place, (uint64_t)result);
@@ -85,14 +66,12 @@ static long write_parts(struct writing *writing, const struct parts *parts, size
     return (long)done;
 }
 
-static void write_file(struct call *call, const struct opened *opened, const struct parts *parts, bool halves) {
+static void write_file(struct call *call, const struct opened *opened, const struct parts *parts, size_t length) {
     struct writing writing = {.call = call, .opened = opened, .file = opened->facts.file};
     int flags = flags_of(call);
-    size_t length = parts->length, fits;
     if (!read_place(call, &writing.at)) return finish(call, -EINVAL);
     writing.appends = opened->flags & O_APPEND || flags & RWF_APPEND;
     writing.syncs = opened->flags & O_DSYNC || flags & (RWF_DSYNC | RWF_SYNC);
-    if (halves && (fits = room_in_limit(call, place_of_write(&writing), length)) > 0) length = half_of(fits);
     finish(call, write_parts(&writing, parts, length));
 }
 
@@ -105,7 +84,7 @@ void serve_write(struct call *call) {
     enum answer answer = hit(call, WRITE, opened.path, NULL);
     if (answer == FAIL || answer == NOT_YET) return;
     if (error) return finish(call, error);
-    write_file(call, &opened, &parts, answer == HALF);
+    write_file(call, &opened, &parts, answer == HALF ? half_of(parts.length) : parts.length);
 }
 
 /* ---- reads */

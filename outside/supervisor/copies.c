@@ -69,7 +69,9 @@ static long copy_noted(const struct call *call, const struct copy *what, copier 
     uint64_t place = (uint64_t)(what->out_place ? *what->out_place : lseek(what->out.file, 0, SEEK_CUR));
     if (notes && is_kept) copy_later(key, link_of(what->out.file, link), place, UINT64_MAX);
     hold_signals();
+    take_limit(call->thread);
     long result = result_of(copies(what, (unsigned)argument(call, call->row->flags)));
+    end_limit(call->thread);
     let_signals();
     if (!notes || result <= 0) return result;
     if (is_kept && !mapped_was_changed(key)) note_from_file(key, link_of(what->out.file, link), place, (uint64_t)result);
@@ -145,7 +147,9 @@ void serve_clone(struct call *call) {
     bool is_whole = (unsigned)argument(call, call->row->flags) == (unsigned)FICLONE;
     int in = is_whole ? hold(call, fetch(call->thread, (int)argument(call, call->row->file))) : -1;
     hold_signals();
+    take_limit(call->thread);
     long result = is_whole ? in < 0 ? -EBADF : result_of(ioctl(out.file, FICLONE, in)) : clone_range(call, &out);
+    end_limit(call->thread);
     let_signals();
     if (!result && is_kept && !mapped_was_changed(key) && look_at(out.file, "", AT_EMPTY_PATH, &after))
         note_from_file(key, link_of(out.file, link), 0, after.file.length);

@@ -158,9 +158,14 @@ const char *status_of(const struct thread *thread, const char *line);
 void act_as(const struct thread *thread);
 void make_as(struct thread *thread);
 void act_as_self(void);
+
+/* From here on the supervisor makes no file longer than the thread may. end_limit ends that, and sends the thread the signal that the system sent the
+   supervisor if a file would have become longer. */
+void take_limit(const struct thread *thread);
+void end_limit(const struct thread *thread);
+
 void ids_changed(void);
 void limits_changed(void);
-bool has_limits(void); /* whether there may be limits on the length of files */
 void mask_changed(const struct thread *thread);
 void root_changed(void);
 

@@ -251,15 +251,31 @@ void mask_changed(const struct thread *thread) {
 void ids_changed(void) { ids_change = true; }
 
 /* Threads have the supervisor's own limits until one of them sets others. */
-static bool limits_change;
+static bool limits_change, is_bounded;
+static struct rlimit own_limit;
+static volatile sig_atomic_t is_exceeded;
 
 void limits_changed(void) { limits_change = true; }
 
-bool has_limits(void) {
-    static int own_limit = -1;
+static void on_exceeded(int unused) {
+    (void)unused;
+    is_exceeded = true;
+}
+
+void take_limit(const struct thread *thread) {
     struct rlimit limit;
-    if (own_limit < 0) own_limit = getrlimit(RLIMIT_FSIZE, &limit) || limit.rlim_cur != RLIM_INFINITY;
-    return own_limit || limits_change;
+    is_exceeded = false;
+    if (!own_limit.rlim_max) getrlimit(RLIMIT_FSIZE, &own_limit), signal(SIGXFSZ, on_exceeded);
+    if (!limits_change && own_limit.rlim_cur == RLIM_INFINITY) return;
+    if (prlimit(thread->process, RLIMIT_FSIZE, NULL, &limit)) return;
+    if (limit.rlim_cur > own_limit.rlim_max) limit.rlim_cur = own_limit.rlim_max;
+    is_bounded = limit.rlim_cur != own_limit.rlim_cur && !setrlimit(RLIMIT_FSIZE, &(struct rlimit){limit.rlim_cur, own_limit.rlim_max});
+}
+
+void end_limit(const struct thread *thread) {
+    if (is_bounded) setrlimit(RLIMIT_FSIZE, &own_limit);
+    is_bounded = false;
+    if (is_exceeded) syscall(SYS_tgkill, thread->process, thread->number, SIGXFSZ);
 }
 
 static void take_mask(struct thread *thread) {

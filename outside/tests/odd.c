@@ -95,13 +95,26 @@ static int beneath(char **words) {
     return syscall(SYS_openat2, folder, "/in", &how, sizeof how) < 0 ? wrong("a file of a folder that is a root") : 0;
 }
 
+/* The other calls that make a file longer, where it may have 12 bytes. */
+static int lengthened(int file, int from) {
+    loff_t at = 10;
+    if (!ftruncate(file, 13) || errno != EFBIG || ftruncate(file, 11)) return wrong("ftruncate");
+    if (!truncate("old", 13) || errno != EFBIG) return wrong("truncate");
+    if (!fallocate(file, 0, 0, 13) || errno != EFBIG || fallocate(file, 0, 0, 12)) return wrong("fallocate");
+    if (copy_file_range(from, NULL, file, &at, 6, 0) != 2) return wrong("a copy up to the limit");
+    if (copy_file_range(from, NULL, file, &at, 2, 0) != -1 || errno != EFBIG) return wrong("a copy behind it");
+    if (lseek(file, 12, SEEK_SET) != 12 || sendfile(file, from, NULL, 2) != -1 || errno != EFBIG) return wrong("sendfile");
+    return 0;
+}
+
 static int limited(char **words) {
     (void)words;
     signal(SIGXFSZ, SIG_IGN);
     setrlimit(RLIMIT_FSIZE, &(struct rlimit){12, 12});
     int file = old(O_RDWR | O_APPEND);
     if (write(file, "abcd", 4) != 2) return wrong("a write up to the limit");
-    return write(file, "ef", 2) != -1 || errno != EFBIG ? wrong("a write behind the limit") : 0;
+    if (write(file, "ef", 2) != -1 || errno != EFBIG) return wrong("a write behind the limit");
+    return lengthened(old(O_RDWR), open("sub/in", O_RDONLY));
 }
 
 static int by_path(char **words) {

@@ -33,8 +33,9 @@ is 'opens with rules for their way' '0 sub old EXDEV,sub/a 4,sub/in 5' \
     "$status $(sed -n 1p "$here/run/trace" | cut -f 5) $(sed -n '2p;3p;5p' "$here/run/trace" | cut -f 5,8 | tr -d ' ' | tr '\t' ' ' | paste -s -d ,)"
 oddly by_path "$here/data"
 is 'descriptors of a path alone' '0 . -,old -,nothing ENOENT' "$status $(cut -f 5,8 "$here/run/trace" | tr -d ' ' | tr '\t' ' ' | paste -s -d ,)"
+is 'a limit on lengths, natively' 0 "$(new; cd "$here/data" && "$oddities" limited 2>&1; echo $?)"
 oddly limited
-is 'a limit on lengths' '0 1 write old 2 at 10' "$status $(pending)"
+is 'and supervised' '0 1 write old 2 at 10,2 resize old to 11,3 resize old to 12,4 write old 2 at 10' "$status$faults $(pending)"
 oddly few_files
 is 'no descriptor left' '0 EMFILE' "$status $(tail -n 1 "$here/run/trace" | cut -f 8 | tr -d ' ')"
 is 'changes nothing' 'old=0123456789 sub/ sub/in=inside ' "$(pending)$(files)"

@@ -16,7 +16,7 @@ run none env -i "$component" create a
 is 'a program that clears its environment is seen' '0 create 0 sys::open' "$status $said $(cut -f 2 "$here/run/trace")"
 
 # What changed unseen.
-advice=': by a program that wasn'"'"'t under the supervisor, or by the script (then: powercut expect RUN NAME..)'
+advice=': by a program that wasn'"'"'t under the supervisor, by a call that it doesn'"'"'t see, or by the script (then: powercut expect RUN NAME..)'
 try none open old write ab
 printf x >> "$here/data/sub/in"
 printf y > "$here/data/more"
