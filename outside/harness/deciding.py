@@ -5,7 +5,6 @@ with the other faults is made once, and the rest is laid out from its notes. One
 and must come out alike."""
 
 import hashlib
-import shutil
 import threading
 from dataclasses import dataclass, replace
 from pathlib import Path
@@ -214,7 +213,8 @@ class Decider:
             if not record.is_cut:
                 self.tools.cut(record.run, record.data)
             run = record.rewound
-            shutil.rmtree(run, ignore_errors=True)
+            if run.exists():
+                tree.remove(run)
             length = self.tools.rewind(record.run, run, hit, text)
             if length is None:
                 return None

@@ -104,13 +104,14 @@ This line is the last.
 
 
 def write(path: Path, text: str) -> None:
-    path.write_text(text)
+    tree.write(path, text.encode("utf-8", "surrogateescape"))
     path.chmod(0o755)
 
 
 def expect(folder: Path) -> None:
     """Makes a run without faults, and copies the files that it leaves into `expected`, for the judge to compare."""
-    with tempfile.TemporaryDirectory() as place:
+    place = tempfile.mkdtemp()
+    try:
         data = Path(place) / "data"
         data.mkdir()
         environment = os.environ | {"HARNESS": str(folder), "TMPDIR": place}
@@ -119,6 +120,8 @@ def expect(folder: Path) -> None:
             raise Stopped(f"the command ended with {done.returncode} in an empty folder, so {folder}/expected is missing. Let {folder}/prepare make what the "
                 f"command needs, and let {folder}/judge check the promises without that folder", CANNOT)
         tree.copy(str(data), str(folder / "expected"))
+    finally:
+        tree.remove(place)
 
 
 def link(program: str, folder: Path) -> None:
@@ -162,7 +165,7 @@ def make(form: str, line: str, folder: Path, words: list[str]) -> None:
     write(folder / "judge", judge.format(command=command, line=shlex.quote(line)) if form == "server" else judge)
     link(words[0], folder)
     if form == "mail":
-        (folder / "message").write_text(MESSAGE)
+        tree.write(folder / "message", MESSAGE.encode())
     if form == "command":
         expect(folder)
 

@@ -193,7 +193,7 @@ class Room:
         took = 0.0
         while not tick.wait(max(LOOKS_EVERY, LOOKS_LESS * took)):
             begun = time.monotonic()
-            with contextlib.suppress(FileNotFoundError):  # a run's folder may be deleted meanwhile
+            with contextlib.suppress(FileNotFoundError, Stopped):  # a run's folder may be deleted meanwhile, or have a mount, which the end tells
                 self.look()
             took = time.monotonic() - begun
 

@@ -6,6 +6,7 @@ import re
 import tomllib
 from pathlib import Path
 
+from . import tree
 from .answers import Answers, Stopped
 from .definition import Harness
 from .shown import plain, show
@@ -85,7 +86,7 @@ class Settings:
 
     def write(self) -> None:
         new = self.path.with_suffix(".new")
-        new.write_text(made_text(self.label, self.codes or ["lost"], self.depth, self.has_kinds), "utf-8")
+        tree.write(new, made_text(self.label, self.codes or ["lost"], self.depth, self.has_kinds).encode())
         new.rename(self.path)
 
     def take_code(self, answer: str) -> None:

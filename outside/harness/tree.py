@@ -1,12 +1,17 @@
-"""Digests, copies and sizes of folders of files."""
+"""Digests, copies and sizes of folders of files, and their deletion."""
 
+import errno
 import hashlib
 import os
+import shlex
 import shutil
 import stat
 from collections.abc import Iterator
 from fnmatch import fnmatchcase
-from typing import BinaryIO
+from pathlib import Path
+from typing import BinaryIO, NoReturn
+
+from .answers import Stopped
 
 BLOCK = 1 << 20
 Entry = tuple[str, os.stat_result]  # a name below the folder, and its status
@@ -106,6 +111,15 @@ def copy(source: str, target: str) -> None:
     os.chmod(target, stat.S_IMODE(os.stat(source).st_mode))
 
 
+def write(path: Path, contents: bytes) -> None:
+    """Writes a file. If that fails, the error has the file's name, which Python itself gives only if the file can't be opened."""
+    try:
+        path.write_bytes(contents)
+    except OSError as error:
+        error.filename = str(path)
+        raise
+
+
 def size(folder: str) -> int:
     """The bytes that a folder takes on the disk, though a program may change it meanwhile."""
     total = 0
@@ -118,13 +132,54 @@ def size(folder: str) -> int:
     return total
 
 
-def remove(folder: str) -> None:
-    """Deletes a folder, also if it has folders that may not be entered."""
+# ---- deleting
+
+def mount_of(folder: int) -> str:
+    """The number of the mount in which an open folder lies. A mount of the same file system, such as a bind mount, shows only by it."""
+    with open(f"/proc/self/fdinfo/{folder}", encoding="ascii") as lines:
+        return next(line.split()[1] for line in lines if line.startswith("mnt_id:"))
+
+
+def refuse_mounted(path: str) -> NoReturn:
+    raise Stopped(f"{path}: something is mounted here, so it isn't deleted: call umount {shlex.quote(path)}")
+
+
+def open_below(above: int, name: str, path: str, mount: str) -> int:
+    """Opens a folder to empty it, also if it may not be entered, unless something is mounted there."""
+    folder = os.open(name, os.O_PATH | os.O_DIRECTORY | os.O_NOFOLLOW, dir_fd=above)
     try:
-        shutil.rmtree(folder)
-    except PermissionError:
-        for at, folders, _ in os.walk(folder):
-            for name in folders:
-                if not os.path.islink(os.path.join(at, name)):
-                    os.chmod(os.path.join(at, name), 0o700)
-        shutil.rmtree(folder)
+        if mount_of(folder) != mount:
+            refuse_mounted(path)
+        if (mode := os.fstat(folder).st_mode) & stat.S_IRWXU != stat.S_IRWXU:
+            os.chmod(f"/proc/self/fd/{folder}", stat.S_IMODE(mode) | stat.S_IRWXU)
+        return os.open(".", os.O_RDONLY | os.O_DIRECTORY, dir_fd=folder)
+    finally:
+        os.close(folder)
+
+
+def remove_below(above: int, name: str, path: str, mount: str) -> None:
+    """Deletes a name in an open folder. Nothing is found by its path, so that no link or folder that a program puts there meanwhile leads elsewhere."""
+    try:
+        return os.unlink(name, dir_fd=above)
+    except IsADirectoryError:
+        folder = open_below(above, name, path, mount)
+    except OSError as error:
+        if error.errno == errno.EBUSY:
+            refuse_mounted(path)
+        raise
+    try:
+        for below in os.listdir(folder):
+            remove_below(folder, below, f"{path}/{below}", mount)
+    finally:
+        os.close(folder)
+    os.rmdir(name, dir_fd=above)
+
+
+def remove(path: str | Path) -> None:
+    """Deletes a folder with all that is in it, also folders that may not be entered, or a file. What is mounted there stays, and ends the campaign."""
+    place, name = os.path.split(path)
+    above = os.open(place, os.O_PATH | os.O_DIRECTORY)
+    try:
+        remove_below(above, name, str(path), mount_of(above))
+    finally:
+        os.close(above)

@@ -8,6 +8,7 @@ from collections.abc import Iterable, Iterator
 from dataclasses import dataclass
 from pathlib import Path
 
+from . import tree
 from .answers import DIFFERS, Answers, Stopped, changed
 from .campaign import Campaign
 from .deciding import Decider, Differs
@@ -174,9 +175,9 @@ class Whole:
     def report(self) -> int:
         status, report = self.paklour.report(*["--strict"] * self.asked.strict)
         brief = self.paklour.report("--brief", tells=False)[1]
-        (self.folder / "report").write_bytes(report)
+        tree.write(self.folder / "report", report)
         for form in self.asked.forms:
-            (self.folder / FORMS[form]).write_bytes(self.paklour.report(form, tells=False)[1])
+            tree.write(self.folder / FORMS[form], self.paklour.report(form, tells=False)[1])
         write_out(brief if self.asked.brief else report)
         is_same = self.confirm(findings(report, self.settings.codes))
         self.tell_counts()

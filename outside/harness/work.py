@@ -46,7 +46,7 @@ def is_taken_away(folder: Path) -> bool:
     """Deletes a folder, though for a moment a thread that lays out a run, or a program of a killed campaign, may go on in it."""
     for _ in range(TRIES):
         with contextlib.suppress(OSError):
-            tree.remove(str(folder))
+            tree.remove(folder)
         if not folder.exists():
             return True
         time.sleep(0.1)
@@ -72,7 +72,7 @@ class Note:
 
     def write(self, **more: str) -> None:
         new = self.path.with_suffix(".new")
-        new.write_text(json.dumps(self.said | more) + "\n")
+        tree.write(new, f"{json.dumps(self.said | more)}\n".encode())
         new.rename(self.path)
 
     def new_folder(self) -> Path:
