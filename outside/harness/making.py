@@ -45,13 +45,10 @@ SERVER_RUN = """#!/bin/sh
 # Runs the server under faults, in the folder of the data. Each line that is printed here is a promise: from then on it must be true, whatever happens.
 # Several runs are made at once. So give the server a socket under "$TMPDIR", which each run has for itself. If it needs a fixed port, call
 # paklour-loop with -j 1.
-: > "$TMPDIR/output" # without the output of an earlier start
-setsid {command} >> "$TMPDIR/output" 2>&1 &
+setsid {command} > "$TMPDIR/output" 2>&1 &
 server=$!
-until grep -qF {line} "$TMPDIR/output"; do
-    kill -0 "$server" 2> "$TMPDIR/ended" || exit 1
-    sleep 0.05
-done
+while kill -0 "$server" 2> "$TMPDIR/ended" && ! grep -sqwF -e {line} "$TMPDIR/output"; do sleep 0.05; done
+kill -0 "$server" 2> "$TMPDIR/ended" || {{ tail -n 5 "$TMPDIR/output" >&2; exit 1; }}
 # Send requests here, and print a line for each that the server acknowledged, for example:
 #     redis-cli -s socket set key value && echo 'set key'
 echo started
@@ -64,13 +61,10 @@ SERVER_JUDGE = """#!/bin/sh
 # Checks the promises, in the folder as a power cut left it. The file "$SAID" has the lines that `run` printed until then. Exit with 0 if the promises
 # were kept. If one was broken, print a code that names it, such as lost, and exit with 1. With any other exit status the run has no verdict.
 # This judge only checks that the server starts again.
-: > "$TMPDIR/output" # without the output of an earlier start
-setsid {command} >> "$TMPDIR/output" 2>&1 &
+setsid {command} > "$TMPDIR/output" 2>&1 &
 server=$!
-until grep -qF {line} "$TMPDIR/output"; do
-    kill -0 "$server" 2> "$TMPDIR/ended" || {{ echo unopenable; exit 1; }}
-    sleep 0.05
-done
+while kill -0 "$server" 2> "$TMPDIR/ended" && ! grep -sqwF -e {line} "$TMPDIR/output"; do sleep 0.05; done
+kill -0 "$server" 2> "$TMPDIR/ended" || {{ tail -n 5 "$TMPDIR/output" >&2; echo unopenable; exit 1; }}
 # Ask the server here for everything that "$SAID" lists, for example:
 #     ! grep -qx 'set key' "$SAID" || [ "$(redis-cli -s socket get key)" = value ] || {{ echo lost; exit 1; }}
 kill -s KILL -- "-$server"

@@ -18,7 +18,7 @@ from .room import Room, TooLarge
 from .served import Served
 from .shown import show
 from .trace import POINTS, trace_of
-from .work import Work
+from .work import Work, is_taken_away
 
 TIME_IS_UP, CANNOT, NOT_FOUND = 124, 125, 127  # how `within` ends
 
@@ -39,8 +39,15 @@ class Runner:
         self.served = Served(harness.file, processes) if "judge" in harness.functions else None
         self.lock = threading.Lock()
 
-    def environment(self, folder: Path, **more: str) -> dict[str, str]:
-        return self.outer | {"HARNESS": str(self.harness.folder), "TMPDIR": str(folder / "tmp")} | self.harness.variables | more
+    def begin_step(self, folder: Path, **more: str) -> dict[str, str]:
+        """Makes a new TMPDIR, so that no step finds what another one left there, and returns the step's environment. If a run is derived, its `judge`
+        finds the data as they were at that hit, but what `run` wrote to its TMPDIR would be that of the whole run. The path is the same each time,
+        and short, as that of a socket has at most 108 bytes."""
+        place = folder / "tmp"
+        if not is_taken_away(place):
+            raise Stopped(f"{place} can't be deleted")
+        place.mkdir()
+        return self.outer | {"HARNESS": str(self.harness.folder), "TMPDIR": str(place)} | self.harness.variables | more
 
     def with_variables(self, **variables: str) -> "Runner":
         """The same runner, with more variables in the environment of its programs."""
@@ -50,10 +57,10 @@ class Runner:
 
     def start(self, words: list[str], folder: Path, said: Path, **variables: str) -> tuple[int, str]:
         """Runs a step in the data's folder. Returns its status, and the reason if the run is unresolved by it."""
-        (folder / "tmp").mkdir(exist_ok=True)
+        environment = self.begin_step(folder, **variables)
         with open(said, "ab") as output, open(folder / "errors", "ab") as errors:
             process = self.processes.start([str(WITHIN), str(self.seconds), "-", *words], cwd=folder / "data", stdin=subprocess.DEVNULL,
-                stdout=output, stderr=errors, env=self.environment(folder, **variables))
+                stdout=output, stderr=errors, env=environment)
         try:
             passed = self.room.wait(process, folder)
         finally:
@@ -70,7 +77,7 @@ class Runner:
         """Runs `judge` in the same way. It runs without the supervisor, so if it is a function of Python, it needs no new Python."""
         if not self.served:
             return self.start(self.harness.steps["judge"], folder, output, **variables)
-        return self.served.call("judge", folder, output, self.environment(folder, **variables), self.room)
+        return self.served.call("judge", folder, output, self.begin_step(folder, **variables), self.room)
 
     def prepare(self) -> None:
         """Makes the data with which each run begins. They are made once, and copied, so that each run finds the same bytes."""

@@ -47,7 +47,7 @@ def is_taken_away(folder: Path) -> bool:
     for _ in range(TRIES):
         with contextlib.suppress(OSError):
             tree.remove(folder)
-        if not folder.exists():
+        if not os.path.lexists(folder):
             return True
         time.sleep(0.1)
     return False

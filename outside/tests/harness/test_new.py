@@ -47,6 +47,14 @@ class New(Campaigns):
         self.assertEqual(done.status, 1)
         self.assertIn("fail unopenable: ", done.told)
 
+    def test_a_server_that_says_another_word(self):
+        """It isn't ready when it says `already`, and what it says then is shown."""
+        done = self.made(SERVER.format(write="[ ! -e state ] || { echo already here; exit 1; }; echo whole > new && sync new && mv new state && sync ."), "--server", "ready")
+        self.assertEqual(done.status, 1)
+        self.assertIn("fail unopenable: ", done.told)
+        done = self.loop("--try", "none", self.here / "made")
+        self.assertEqual(done.told, "already here\n")
+
     def test_a_delivery(self):
         done = self.made(DELIVERS.format(syncs="sync tmp/1 &&"), "--mail")
         self.assertEqual(done.status, 0, done.told)
