@@ -118,6 +118,15 @@ def expect(folder: Path) -> None:
         tree.remove(place)
 
 
+def in_shell(words: list[str], folder: Path) -> str:
+    """The command as a script of the harness has it. A program that was named by its path is found from the harness's folder, so that a harness that
+    is copied together with its program runs the copy."""
+    program, *rest = words
+    if "/" not in program:
+        return shlex.join(words)
+    return " ".join(['"$HARNESS"/' + shlex.quote(os.path.relpath(program, folder)), *map(shlex.quote, rest)])
+
+
 def link(program: str, folder: Path) -> None:
     """Links a program that was named by its path into the harness, so that answers belong to it too."""
     name = os.path.basename(program)
@@ -152,7 +161,7 @@ def make(form: str, line: str, folder: Path, words: list[str]) -> None:
         raise Stopped(f"{folder} exists already: delete it, or give another name", CANNOT) from error
     except OSError as error:
         raise Stopped(f"{folder}: {error.strerror}", CANNOT) from error
-    command = shlex.join(words)
+    command = in_shell(words, folder)
     run, judge = {"command": (RUN, JUDGE), "server": (SERVER_RUN, SERVER_JUDGE), "mail": (MAIL_RUN, MAIL_JUDGE)}[form]
     write(folder / "prepare", PREPARE)
     write(folder / "run", run.format(command=command, line=shlex.quote(line)))

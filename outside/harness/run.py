@@ -17,10 +17,12 @@ from .record import Record
 from .room import Room, TooLarge
 from .served import Served
 from .shown import show
-from .trace import POINTS, trace_of
+from .trace import POINTS, length_of, trace_of
 from .work import Work, is_taken_away
 
 TIME_IS_UP, CANNOT, NOT_FOUND = 124, 125, 127  # how `within` ends
+SUPERVISOR, NO_CALL = "faults: ", "any call under FAULTS_ROOT"  # how its lines begin, and what it says if a step never used its data
+LAST = 3  # so many lines of a step's standard error are shown
 
 
 class Runner:
@@ -95,11 +97,12 @@ class Runner:
     def under(self, step: str, run: Path, folder: Path, scenario: str, said: Path) -> tuple[int, str]:
         """Runs a step under the supervisor. Returns its status, and the reason if the run is unresolved."""
         order = [] if self.harness.order == "arrival" else ["--order", self.harness.order]
+        before = length_of(folder / "errors")
         words = [str(programs.FAULTS), *order, *["--pin"] * self.harness.pins, "--", *self.harness.steps[step]]
         status, why = self.start(words, folder, said, FAILPOINTS=scenario, FAULTS_ROOT=str(folder / "data"), FAULTS_RUN=str(run),
             POINTS_TRACE=str(folder / POINTS))
         if status == programs.REFUSED:
-            why = last_line(folder / "errors") or "it ended with 98"
+            why = why_refused(step, text_from(folder / "errors", before))
         if status == programs.PAUSED:
             why = "the scenario has a pause"
         return status, why
@@ -120,9 +123,24 @@ class Runner:
         return Record(folder, scenario, status, why, points)
 
 
+def text_from(path: Path, at: int) -> list[str]:
+    """The lines of a file from that byte on, without the blank ones at its end."""
+    with open(path, "rb") as file:
+        file.seek(at)
+        return file.read().decode("utf-8", "replace").strip().splitlines()
+
+
 def last_line(path: Path) -> str:
-    lines = path.read_text("utf-8", "replace").strip().splitlines() if path.exists() else []
+    lines = text_from(path, 0) if path.exists() else []
     return lines[-1] if lines else ""
+
+
+def why_refused(step: str, errors: list[str]) -> str:
+    """Why the supervisor refused a step. If the step never used its data, what it wrote itself says more, such as that its program isn't there."""
+    own = [line for line in errors if not line.startswith(SUPERVISOR)]
+    if own and NO_CALL in errors[-1]:
+        return f"{step} made no call on its data: {'; '.join(own[-LAST:])}"
+    return errors[-1] if errors else f"{step} ended with {programs.REFUSED}"
 
 
 def tell_errors(path: Path) -> None:

@@ -72,6 +72,26 @@ class New(Campaigns):
         done = self.loop(self.here / "made")
         self.assertEqual((done.status, done.told), (2, f"loop: {self.here}/made/answers belongs to a harness with another program: delete it, and start again\n"))
 
+    def test_a_harness_that_is_copied(self):
+        """With its program it runs the copy, and without it says that the program is missing."""
+        self.assertEqual(self.made(SAFE).status, 0)
+        copied = self.here / "with a blank"
+        copied.mkdir()
+        shutil.copytree(self.here / "made", copied / "made", symlinks=True)
+        (copied / "made" / "answers").unlink()
+        (copied / "program").write_text(UNSAFE)
+        (copied / "program").chmod(0o755)
+        self.assertIn("fail lost: without any fault\n", self.loop(copied / "made").told)
+        (copied / "program").unlink()
+        done = self.loop(copied / "made")
+        self.assertEqual(done.status, 2, done.told)
+        self.assertRegex(done.told, rf"unresolved: run made no call on its data: .*{copied}/made/../program: not found: none\n")
+
+    def test_a_script_that_reads_a_file_beside_it(self):
+        (self.here / "beside").write_text("echo new > new && sync new && mv new note && sync .\n")
+        done = self.made('#!/bin/sh\n. "$(dirname "$0")/beside"\n')
+        self.assertEqual(done.status, 0, done.told)
+
     def test_a_program_that_is_not_linked(self):
         """Its name has a meaning in a harness, or it is found by the PATH."""
         again = self.here / "again"
