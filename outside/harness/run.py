@@ -13,7 +13,7 @@ from .answers import Stopped
 from .definition import Harness
 from .processes import WITHIN, Processes
 from .programs import Tools
-from .record import Record
+from .record import LAST, Record, lines_from
 from .room import Room, TooLarge
 from .served import Served
 from .shown import show
@@ -22,7 +22,6 @@ from .work import Work, is_taken_away
 
 TIME_IS_UP, CANNOT, NOT_FOUND = 124, 125, 127  # how `within` ends
 SUPERVISOR, NO_CALL = "faults: ", "any call under FAULTS_ROOT"  # how its lines begin, and what it says if a step never used its data
-LAST = 3  # so many lines of a step's standard error are shown
 
 
 class Runner:
@@ -102,7 +101,7 @@ class Runner:
         status, why = self.start(words, folder, said, FAILPOINTS=scenario, FAULTS_ROOT=str(folder / "data"), FAULTS_RUN=str(run),
             POINTS_TRACE=str(folder / POINTS))
         if status == programs.REFUSED:
-            why = why_refused(step, text_from(folder / "errors", before))
+            why = why_refused(step, lines_from(folder / "errors", before))
         if status == programs.PAUSED:
             why = "the scenario has a pause"
         return status, why
@@ -123,15 +122,8 @@ class Runner:
         return Record(folder, scenario, status, why, points)
 
 
-def text_from(path: Path, at: int) -> list[str]:
-    """The lines of a file from that byte on, without the blank ones at its end."""
-    with open(path, "rb") as file:
-        file.seek(at)
-        return file.read().decode("utf-8", "replace").strip().splitlines()
-
-
 def last_line(path: Path) -> str:
-    lines = text_from(path, 0) if path.exists() else []
+    lines = lines_from(path)
     return lines[-1] if lines else ""
 
 
