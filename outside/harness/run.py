@@ -1,16 +1,19 @@
 """One run of a program under a scenario, from the files that it finds to those that a power cut leaves."""
 
+import contextlib
 import copy
 import os
 import subprocess
 import sys
 import threading
+from collections.abc import Iterator
 from dataclasses import replace
 from pathlib import Path
 
 from . import programs, tree
 from .answers import Stopped
 from .definition import Harness
+from .disk import disk_of
 from .processes import WITHIN, Processes
 from .programs import Tools
 from .record import LAST, Record, lines_from
@@ -21,6 +24,7 @@ from .trace import POINTS, length_of, trace_of
 from .work import Work, is_taken_away
 
 TIME_IS_UP, CANNOT, NOT_FOUND = 124, 125, 127  # how `within` ends
+MAPPED = "each store into the mapping of"  # as the supervisor says that a program maps a file
 SUPERVISOR, NO_CALL = "faults: ", "any call under FAULTS_ROOT"  # how its lines begin, and what it says if a step never used its data
 
 
@@ -36,9 +40,13 @@ class Runner:
         self.outer = dict(os.environ)
         self.tools = Tools(room)
         self.count = 0
-        self.prepared = work.folder / "prepared"
+        self.first: Record | None = None  # the run without faults that was made to see where runs have to lie
         self.served = Served(harness.file, processes) if "judge" in harness.functions else None
         self.lock = threading.Lock()
+
+    @property
+    def prepared(self) -> Path:
+        return self.work.folder / "prepared"
 
     def begin_step(self, folder: Path, **more: str) -> dict[str, str]:
         """Makes a new TMPDIR, so that no step finds what another one left there, and returns the step's environment. If a run is derived, its `judge`
@@ -92,6 +100,34 @@ class Runner:
         (folder / "data").rename(self.prepared)
         self.room.hold(tree.size(self.prepared))
         self.room.end(folder, 0)
+        if self.work.disk and not self.work.is_decided:
+            self.decide_place()
+
+    def decide_place(self) -> None:
+        """Makes the run without faults in memory, and lets runs lie on a disk if the program maps its files. For example, MariaDB takes a log in memory
+        for persistent memory, and never syncs it."""
+        self.first = self.room.within(lambda: self.make("none"))
+        maps = any(MAPPED in line for line in lines_from(self.first.folder / "errors"))
+        self.work.decide(needs_disk=maps)
+        if maps:
+            self.room.end(self.first.folder, 0)
+            self.first = None
+            self.count = 0
+            self.work.move("prepared")
+            self.room.lie_on(disk_of(self.work.place))
+            self.room.hold(tree.size(self.prepared))
+            show(f"loop: runs lie in {self.work.place}, as the program maps its files, and may take memory for a disk that needs no sync")
+
+    @contextlib.contextmanager
+    def on_disk(self) -> Iterator["Runner"]:
+        """The same runner, of runs that lie on a disk."""
+        other = copy.copy(self)
+        other.work = Work(self.work.note, needs_disk=True)
+        try:
+            tree.copy(str(self.prepared), str(other.prepared))
+            yield other
+        finally:
+            other.work.end()
 
     def under(self, step: str, run: Path, folder: Path, scenario: str, said: Path) -> tuple[int, str]:
         """Runs a step under the supervisor. Returns its status, and the reason if the run is unresolved."""
@@ -109,6 +145,11 @@ class Runner:
     def make(self, scenario: str) -> Record:
         """Makes a run under a scenario, from the prepared data to its end, or to the hit at which the scenario ends it."""
         with self.lock:
+            first = self.first if scenario == "none" else None
+            if first:
+                self.first = None
+                self.room.begin(first.folder)
+                return first
             self.count += 1
         folder = self.work.new()
         self.room.begin(folder)

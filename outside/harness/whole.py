@@ -128,10 +128,12 @@ class Whole:
         raise Enough
 
     def tell_trust(self) -> None:
-        """Prints whether the run without faults passes on file systems that promise more about names."""
+        """Prints whether the run without faults passes on a disk, or on file systems that promise more about names."""
+        if (disk := self.decider.runner.work.disk) and self.decider.passes_on_disk():
+            return show(f"loop: the run without faults passes on a disk: set TMPDIR={disk}")
         if "FAULTS_SYNC" in os.environ | self.harness.variables:
             return
-        passing = [word for word in TRUSTS if self.decider.passes(FAULTS_SYNC=word)]
+        passing = [word for word in TRUSTS if self.decider.passes(self.decider.runner.with_variables(FAULTS_SYNC=word))]
         for word in passing:
             show(f"loop: the run without faults passes if you set FAULTS_SYNC={word}: {TRUSTS[word]}")
         if not passing:

@@ -1,15 +1,14 @@
 """The loop deletes its own folders, and nothing that is mounted in them."""
 
-import json
+import contextlib
 import os
-import signal
 import subprocess
 import sys
-import time
 import unittest
+from collections.abc import Callable
 from pathlib import Path
 
-from .base import JUDGES, OUTSIDE, PROGRAM, SAVES, Campaigns, Done
+from .base import JUDGES, OUTSIDE, SAVES, Campaigns, Done
 
 sys.path.insert(0, str(OUTSIDE))
 
@@ -17,39 +16,53 @@ from harness import tree  # noqa: E402
 
 MOUNTS = 'mkdir {place}/m && mount --bind "$HARNESS/../kept" {place}/m || exit\n'
 ISOLATED = ["unshare", "--mount"]  # so that mounts go with the test
-NOBODY = ["setpriv", "--reuid=65534", "--regid=65534", "--clear-groups"]
+NOBODY = 65534
 
 
 def may_mount() -> bool:
     return not subprocess.run([*ISOLATED, "true"], capture_output=True, check=False).returncode
 
 
+def in_child(does: Callable[[], None], user: int) -> int:
+    """The status of a child that does something as that user."""
+    child = os.fork()
+    if child == 0:
+        with contextlib.suppress(BaseException):
+            if user != os.getuid():
+                os.setgroups([])
+                os.setgid(user)
+                os.setuid(user)
+            does()
+            os._exit(0)
+        os._exit(1)
+    return os.waitstatus_to_exitcode(os.waitpid(child, 0)[1])
+
+
 class Folders(Campaigns):
-    def test_modes_links_and_files(self):
+    def make_and_remove(self):
+        below = self.here / "folder" / "closed" / "below"
+        below.mkdir(parents=True)
+        (below / "file").touch()
+        (below / "link").symlink_to("../..")
+        (below / "broken").symlink_to("none")
+        os.mkfifo(below / "pipe")
+        for folder in (below, below.parent, below.parent.parent):
+            folder.chmod(0)
+        tree.remove(self.here / "folder")
+
+    def test_folders_that_may_not_be_entered(self):
         """Also as a user whom modes bind."""
-        os.chmod(self.here, 0o777)
-        folder = self.here / "folder"
-        text = """import os, sys
-from pathlib import Path
-sys.path.insert(0, sys.argv[2])
-from harness import tree
-here = Path(sys.argv[1])
-(here / "folder" / "closed" / "below").mkdir(parents=True)
-(here / "folder" / "closed" / "below" / "file").touch()
-os.symlink("..", here / "folder" / "link")
-os.symlink("none", here / "folder" / "broken")
-os.mkfifo(here / "folder" / "pipe")
-os.chmod(here / "folder" / "closed" / "below", 0)
-os.chmod(here / "folder" / "closed", 0)
-os.chmod(here / "folder", 0)
-tree.remove(here / "folder")
-"""
-        for words in ([], NOBODY if os.getuid() == 0 else []):
-            subprocess.run([*words, sys.executable, "-B", "-c", text, self.here, OUTSIDE], check=True)
-            self.assertFalse(folder.exists())
-        folder.write_text("a file")
-        tree.remove(folder)
-        self.assertFalse(folder.exists())
+        self.here.chmod(0o777)
+        for user in {os.getuid(), NOBODY if os.getuid() == 0 else os.getuid()}:
+            self.assertEqual(in_child(self.make_and_remove, user), 0, user)
+            self.assertFalse((self.here / "folder").exists())
+
+    def test_a_file_and_a_link(self):
+        (self.here / "file").write_text("a file")
+        (self.here / "link").symlink_to(".")
+        for name in ("link", "file"):
+            tree.remove(self.here / name)
+        self.assertEqual(os.listdir(self.here), ["bin"])
 
 
 @unittest.skipUnless(may_mount(), "nothing may be mounted here")
