@@ -6,6 +6,7 @@ import signal
 from pathlib import Path
 from typing import BinaryIO
 
+from . import owners
 from .answers import Stopped
 from .processes import OUTSIDE
 from .room import LOOKS_EVERY, Room, TooLarge
@@ -66,6 +67,7 @@ class Tools:
         """Cuts the power. False if the scenario has a pause there."""
         status, told = self.call(POWERCUT, run, "recover" if goes_on else "cut", run, data, *state, may_end_with=PAUSED)
         show_once(told)
+        owners.give_back(data.parent)
         return status != PAUSED
 
     def pending(self, run: Path) -> list[list[str]]:

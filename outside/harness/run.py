@@ -10,7 +10,7 @@ from collections.abc import Iterator
 from dataclasses import replace
 from pathlib import Path
 
-from . import programs, tree
+from . import owners, programs, tree
 from .answers import Stopped
 from .definition import Harness
 from .disk import disk_of
@@ -133,9 +133,11 @@ class Runner:
         """Runs a step under the supervisor. Returns its status, and the reason if the run is unresolved."""
         order = [] if self.harness.order == "arrival" else ["--order", self.harness.order]
         before = length_of(folder / "errors")
+        owners.note(folder)
         words = [str(programs.FAULTS), *order, *["--pin"] * self.harness.pins, "--", *self.harness.steps[step]]
         status, why = self.start(words, folder, said, FAILPOINTS=scenario, FAULTS_ROOT=str(folder / "data"), FAULTS_RUN=str(run),
             POINTS_TRACE=str(folder / POINTS))
+        owners.note(folder)
         if status == programs.REFUSED:
             why = why_refused(step, lines_from(folder / "errors", before))
         if status == programs.PAUSED:

@@ -62,13 +62,13 @@ def digest_of_parts(file: BinaryIO, length: int) -> bytes:
 
 
 def digest(folder: str, leaves_out: tuple[str, ...] = ()) -> bytes:
-    """The digest of names, contents, links and modes. Contents of files all of whose names match one of these patterns are left out."""
+    """The digest of names, contents, links, owners and modes. Contents of files all of whose names match one of these patterns are left out."""
     state = hashlib.sha256()
     first_name: dict[int, str] = {}
     counted: set[int] = set()
     for name, told in entries(folder):
         same = first_name.setdefault(told.st_ino, name)
-        state.update(repr((name, told.st_mode, same)).encode())
+        state.update(repr((name, told.st_mode, told.st_uid, told.st_gid, same)).encode())
         if told.st_ino not in counted and not any(fnmatchcase(name, pattern) for pattern in leaves_out):
             counted.add(told.st_ino)
             state.update(contents_of(f"{folder}/{name}", told))
@@ -89,8 +89,20 @@ def copy_file(source: str, target: str, told: os.stat_result) -> None:
         copied.truncate(told.st_size)
 
 
+def give(path: str, user: int, group: int, mode: int) -> None:
+    """Gives a file its owner and its mode. Only root can give files to others, and only for root do programs make files of others."""
+    if os.geteuid() == 0:
+        os.chown(path, user, group, follow_symlinks=False)
+    if not stat.S_ISLNK(mode):
+        os.chmod(path, stat.S_IMODE(mode))
+
+
+def keep(path: str, told: os.stat_result) -> None:
+    give(path, told.st_uid, told.st_gid, told.st_mode)
+
+
 def copy(source: str, target: str) -> None:
-    """Copies a folder with links and modes, as a new folder."""
+    """Copies a folder with links, owners and modes, as a new folder."""
     os.mkdir(target)
     names = list(entries(source))
     first_name: dict[int, str] = {}
@@ -100,15 +112,16 @@ def copy(source: str, target: str) -> None:
             os.mkdir(f"{target}/{name}")
         elif stat.S_ISLNK(told.st_mode):
             os.symlink(os.readlink(f"{source}/{name}"), f"{target}/{name}")
+            keep(f"{target}/{name}", told)
         elif same != name:
             os.link(f"{target}/{same}", f"{target}/{name}")
         elif stat.S_ISREG(told.st_mode):
             copy_file(f"{source}/{name}", f"{target}/{name}", told)
-            os.chmod(f"{target}/{name}", stat.S_IMODE(told.st_mode))
+            keep(f"{target}/{name}", told)
     for name, told in reversed(names):
         if stat.S_ISDIR(told.st_mode):
-            os.chmod(f"{target}/{name}", stat.S_IMODE(told.st_mode))
-    os.chmod(target, stat.S_IMODE(os.stat(source).st_mode))
+            keep(f"{target}/{name}", told)
+    keep(target, os.stat(source))
 
 
 def write(path: Path, contents: bytes) -> None:

@@ -20,6 +20,8 @@ from .shown import show
 
 PREFIX = "paklour-"
 NAME = re.compile(PREFIX + "[0-9a-f]{8}")
+CLOSED, ENTERED = 0o700, 0o711  # the modes of folders of runs
+MODE = ENTERED if os.geteuid() == 0 else CLOSED  # a service that root starts may drop its rights, and must get to its data all the same
 TRIES = 20  # so often it tries to delete a folder, a tenth of a second apart
 MEMORY = "/dev/shm"
 NO_DISK = {*IN_MEMORY, "overlay"}  # an overlay, as containers have, records no times of birth, so no run can lie there
@@ -37,13 +39,13 @@ def places() -> list[str]:
 
 
 def is_of_loop(folder: Path) -> bool:
-    """Whether a folder looks like one that the loop makes: it has such a name, is this user's, and is open to nobody else. A note may be a
-    stranger's, and name any folder."""
+    """Whether a folder looks like one that the loop makes: it has such a name and mode, and is this user's. A note may be a stranger's, and name any
+    folder."""
     try:
         told = folder.lstat()
     except OSError:
         return False
-    return bool(NAME.fullmatch(folder.name)) and stat.S_ISDIR(told.st_mode) and told.st_uid == os.getuid() and stat.S_IMODE(told.st_mode) == 0o700
+    return bool(NAME.fullmatch(folder.name)) and stat.S_ISDIR(told.st_mode) and told.st_uid == os.getuid() and stat.S_IMODE(told.st_mode) in (CLOSED, ENTERED)
 
 
 def is_taken_away(folder: Path) -> bool:
@@ -55,6 +57,11 @@ def is_taken_away(folder: Path) -> bool:
             return True
         time.sleep(0.1)
     return False
+
+
+def make_folder(folder: Path) -> None:
+    folder.mkdir(CLOSED)
+    folder.chmod(MODE)  # whatever the umask is
 
 
 class Note:
@@ -116,14 +123,14 @@ class Work:
             if self.note:
                 self.note.take(folder)
             with contextlib.suppress(FileExistsError):
-                folder.mkdir(0o700)
+                make_folder(folder)
                 return folder
 
     def new(self) -> Path:
         """Makes a folder for a run. The paths of all such folders have the same length."""
         with self.lock:
             folder = self.folder / f"{next(self.numbers):08d}"
-        folder.mkdir()
+        make_folder(folder)
         return folder
 
     def decide(self, needs_disk: bool) -> None:
