@@ -114,7 +114,7 @@ def run_harness(loop: str, options: dict[str, str], path: str, processes: Proces
         join(Path(options["--join"]), own, answers)
     settings = Settings(harness, folder, answers, options.get("--settings"), depth_of(options), kinds_of(options), keeps="--try" in options)
     harness.order = "next" if NEXT in settings.points else harness.order
-    work = Work(note, noted(Path(answers.path)).get("needs_disk"))
+    work = Work(note, note.needs_disk if note else noted(Path(answers.path)).get("needs_disk"))
     try:
         runner = Runner(harness, work, processes, room_of(options, work.place))
         decider = decider_of(runner, settings, "--every-run" in options)

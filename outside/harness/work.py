@@ -72,7 +72,7 @@ class Note:
         known = noted(place)
         self.path = place.with_name(NOTE)
         self.said = {"harness": own, "every_run": every_run}
-        self.needs_disk: bool | None = known.get("needs_disk")
+        self.needs_disk: bool | None = known.get("needs_disk") if answers.count else None
         self.folders: list[str] = []  # where runs lie now
         if answers.count:
             refuse_others(place, own)
@@ -118,13 +118,12 @@ class Work:
         self.lock = threading.Lock()
 
     def new_folder(self) -> Path:
-        while True:
-            folder = Path(self.place, PREFIX + secrets.token_hex(4))
-            if self.note:
-                self.note.take(folder)
-            with contextlib.suppress(FileExistsError):
-                make_folder(folder)
-                return folder
+        while os.path.lexists(folder := Path(self.place, PREFIX + secrets.token_hex(4))):
+            pass
+        if self.note:
+            self.note.take(folder)
+        make_folder(folder)
+        return folder
 
     def new(self) -> Path:
         """Makes a folder for a run. The paths of all such folders have the same length."""

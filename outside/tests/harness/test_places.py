@@ -59,6 +59,11 @@ class Places(Campaigns):
         self.assertNotIn("loop: runs lie in", again.told)
         tried = self.loop("--try", "none", folder)
         self.assertEqual(tried.status, 0, tried.told)
+        # A campaign that begins anew looks again.
+        (folder / "answers").unlink()
+        (folder / "run").write_text(SAVES)
+        self.assertEqual(self.loop("-j", 2, "--no-kinds", folder).status, 0)
+        self.assertFalse(self.needs_disk(folder))
 
     def test_the_same_with_a_folder_of_its_own(self):
         done = self.loop("-j", 2, "--no-kinds", self.harness(run=MAPS, judge=JUDGES), TMPDIR=MEMORY)
