@@ -25,7 +25,7 @@ from .work import Work, is_taken_away
 
 TIME_IS_UP, CANNOT, NOT_FOUND = 124, 125, 127  # how `within` ends
 MAPPED = "each store into the mapping of"  # as the supervisor says that a program maps a file
-SUPERVISOR, NO_CALL = "faults: ", "any call under FAULTS_ROOT"  # how its lines begin, and what it says if a step never used its data
+NO_CALL = "any call under FAULTS_ROOT"  # as it says that a step never used its data
 
 
 class Runner:
@@ -171,11 +171,9 @@ def last_line(path: Path) -> str:
 
 
 def why_refused(step: str, errors: list[str]) -> str:
-    """Why the supervisor refused a step. If the step never used its data, what it wrote itself says more, such as that its program isn't there."""
-    own = [line for line in errors if not line.startswith(SUPERVISOR)]
-    if own and NO_CALL in errors[-1]:
-        return f"{step} made no call on its data: {'; '.join(own[-LAST:])}"
-    return errors[-1] if errors else f"{step} ended with {programs.REFUSED}"
+    """Why the supervisor refused a step. If the step never used its data, the lines before say more, such as that its program isn't there."""
+    *before, last = errors or [f"{step} ended with {programs.REFUSED}"]
+    return f"{step} made no call on its data: {'; '.join(before[-LAST:])}" if before and NO_CALL in last else last
 
 
 def tell_errors(path: Path) -> None:

@@ -46,5 +46,20 @@ class Temporary(Campaigns):
         self.assertEqual(done.status, 0, done.told)
 
 
+class Missing(Campaigns):
+    def unresolved(self, run):
+        done = self.loop(self.harness(run=run, judge="#!/bin/sh\n"))
+        self.assertEqual(done.status, 2, done.told)
+        return done.told.splitlines()[1]
+
+    def test_a_program_that_is_not(self):
+        self.assertEqual(self.unresolved("#!/bin/sh\n./save >&2\n"),
+            f"unresolved: run made no call on its data: {self.here}/harness/run: 2: ./save: not found: none")
+
+    def test_an_interpreter_that_is_not(self):
+        self.assertEqual(self.unresolved("#!/nowhere/python\n"),
+            f"unresolved: run made no call on its data: faults: {self.here}/harness/run: No such file or directory: none")
+
+
 if __name__ == "__main__":
     unittest.main()
