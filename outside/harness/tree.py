@@ -125,10 +125,13 @@ def copy(source: str, target: str) -> None:
 
 
 def write(path: Path, contents: bytes) -> None:
-    """Writes a file. If that fails, the error has the file's name, which Python itself gives only if the file can't be opened."""
+    """Writes a file, whole or not at all. If that fails, the error has the file's name, which Python itself gives only if it can't be opened."""
+    new = path.with_suffix(".new")
     try:
-        path.write_bytes(contents)
+        new.write_bytes(contents)
+        new.rename(path)
     except OSError as error:
+        new.unlink(missing_ok=True)
         error.filename = str(path)
         raise
 

@@ -84,9 +84,7 @@ class Note:
         self.write()
 
     def write(self) -> None:
-        new = self.path.with_suffix(".new")
-        tree.write(new, f"{json.dumps(self.said | {'needs_disk': self.needs_disk, 'work': self.folders})}\n".encode())
-        new.rename(self.path)
+        tree.write(self.path, f"{json.dumps(self.said | {'needs_disk': self.needs_disk, 'work': self.folders})}\n".encode())
 
     def take(self, folder: Path) -> None:
         """Notes a folder for runs before it is made, so that the next campaign knows it if this one is killed."""

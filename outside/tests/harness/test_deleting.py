@@ -130,14 +130,16 @@ class Mounted(Campaigns):
 @unittest.skipUnless(may_mount(), "nothing may be mounted here")
 class Full(Campaigns):
     def test_the_file_is_named(self):
-        """The folder of --into lies in memory of 64 kilobytes, of which 60 are taken."""
+        """The folder of --into lies in memory of 64 kilobytes, of which 52 are taken. No part of a file is left there."""
         into = self.here / "into"
         into.mkdir()
-        fills = 'mount -t tmpfs -o size=64k tmpfs "$3" && head -c 53248 /dev/zero > "$3/taken" && "$0" "$1" --no-kinds -j 2 --into "$3" "$2"'
+        fills = '''mount -t tmpfs -o size=64k tmpfs "$3" && head -c 53248 /dev/zero > "$3/taken" && "$0" "$1" --no-kinds -j 2 --into "$3" "$2"
+            status=$?; ls "$3" | grep -v "^report$"; exit $status'''
         done = subprocess.run([*ISOLATED, "sh", "-c", fills, sys.executable, OUTSIDE / "loop", self.harness(run=SAVES, judge=JUDGES), into],
             env=self.environment, capture_output=True, text=True, check=False)
         self.assertEqual(done.returncode, 4, done.stderr)
-        self.assertRegex(done.stderr, rf"\nloop: {into}/(page.html|campaign.new): No space left on device\n\Z")
+        self.assertRegex(done.stderr, rf"\nloop: {into}/(report|page.html|campaign.json): No space left on device\n\Z")
+        self.assertEqual(done.stdout.splitlines()[-4:], ["answers", "campaign.json", "settings.toml", "taken"])
 
 
 if __name__ == "__main__":
