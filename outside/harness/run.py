@@ -79,7 +79,7 @@ class Runner:
         if process.returncode == TIME_IS_UP:
             return process.returncode, f"it was ended after {self.seconds} seconds (--seconds)"
         if process.returncode in (CANNOT, NOT_FOUND):
-            raise Stopped(f"{words[-1]} can't be run: {last_line(folder / 'errors')}")
+            raise Stopped(f"{words[-1]} can't be run: {last_of(lines_from(folder / 'errors'))}")
         return process.returncode, ""
 
     def judged(self, folder: Path, output: Path, **variables: str) -> tuple[int, str]:
@@ -96,7 +96,7 @@ class Runner:
         if "prepare" in self.harness.steps:
             status, why = self.start(self.harness.steps["prepare"], folder, folder / "said")
             if status or why:
-                raise Stopped(f"prepare failed: {why or f'it ended with {status}'}: {last_line(folder / 'errors')}")
+                raise Stopped(f"prepare failed: {why or f'it ended with {status}'}: {last_of(lines_from(folder / 'errors'))}")
         (folder / "data").rename(self.prepared)
         self.room.hold(tree.size(self.prepared))
         self.room.end(folder, 0)
@@ -170,10 +170,14 @@ def last_line(path: Path) -> str:
     return lines[-1] if lines else ""
 
 
+def last_of(lines: list[str]) -> str:
+    return "; ".join(lines[-LAST:])
+
+
 def why_refused(step: str, errors: list[str]) -> str:
     """Why the supervisor refused a step. If the step never used its data, the lines before say more, such as that its program isn't there."""
     *before, last = errors or [f"{step} ended with {programs.REFUSED}"]
-    return f"{step} made no call on its data: {'; '.join(before[-LAST:])}" if before and NO_CALL in last else last
+    return f"{step} made no call on its data: {last_of(before)}" if before and NO_CALL in last else last
 
 
 def tell_errors(path: Path) -> None:

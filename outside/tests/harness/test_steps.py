@@ -46,6 +46,15 @@ class Temporary(Campaigns):
         self.assertEqual(done.status, 0, done.told)
 
 
+class Failing(Campaigns):
+    def test_prepare(self):
+        """Its last lines are shown, as the last one alone may be no reason."""
+        prepare = "#!/bin/sh\necho begin >&2; echo 'store: permission denied' >&2; echo 'hint: delete it' >&2; echo >&2; exit 3\n"
+        done = self.loop(self.harness(prepare=prepare, run=LEAVES, judge=FINDS))
+        self.assertEqual((done.status, done.told.splitlines()[1:]),
+            (2, ["loop: prepare failed: it ended with 3: begin; store: permission denied; hint: delete it"]))
+
+
 class Missing(Campaigns):
     def unresolved(self, run):
         done = self.loop(self.harness(run=run, judge="#!/bin/sh\n"))
