@@ -3,6 +3,7 @@ its files again."""
 
 import json
 import os
+import stat
 from pathlib import Path
 
 from . import tree
@@ -30,11 +31,26 @@ def note(folder: Path) -> None:
         tree.write(folder / NOTE, json.dumps(known).encode())
 
 
+def give(name: str, owner: list[int], above: int) -> None:
+    """Gives a name in an open folder its owner. A link that somebody puts there meanwhile is never followed."""
+    file = os.open(name, os.O_PATH | os.O_NOFOLLOW, dir_fd=above)
+    try:
+        mode = os.fstat(file).st_mode
+        os.chown(f"/proc/self/fd/{file}", *owner)
+        if mode & (stat.S_ISUID | stat.S_ISGID):  # which are lost with the owner
+            os.chmod(f"/proc/self/fd/{file}", stat.S_IMODE(mode))
+    finally:
+        os.close(file)
+
+
 def give_back(folder: Path) -> None:
     """Gives what was laid out back to its owners. The owner of a name that was already gone when owners were noted is that of its folder."""
     if not (folder / NOTE).exists():
         return
-    known, owners = noted(folder), {"": owner_of(folder / "data")}
-    for name, told in tree.entries(str(folder / "data")):
-        owners[name] = known.get(name) or owners[os.path.dirname(name)]
-        tree.give(f"{folder}/data/{name}", *owners[name], told.st_mode)
+    known, owners = noted(folder), {".": owner_of(folder / "data")}
+    for place, folders, files, above in os.fwalk(folder / "data"):
+        here = os.path.relpath(place, folder / "data")
+        for name in [*folders, *files]:
+            path = os.path.normpath(f"{here}/{name}")
+            owners[path] = known.get(path) or owners[here]
+            give(name, owners[path], above)

@@ -21,8 +21,9 @@ from .room import Room, TooLarge
 from .served import Served
 from .shown import show
 from .trace import POINTS, length_of, trace_of
-from .work import Work, is_taken_away
+from .work import CLOSED, OPEN, Work, is_taken_away
 
+PREPARED = "prepared"  # the folder in which `prepare` was run
 TIME_IS_UP, CANNOT, NOT_FOUND = 124, 125, 127  # how `within` ends
 MAPPED = "each store into the mapping of"  # as the supervisor says that a program maps a file
 NO_CALL = "any call under FAULTS_ROOT"  # as it says that a step never used its data
@@ -46,17 +47,22 @@ class Runner:
 
     @property
     def prepared(self) -> Path:
-        return self.work.folder / "prepared"
+        return self.work.folder / PREPARED / "data"
 
-    def begin_step(self, folder: Path, **more: str) -> dict[str, str]:
-        """Makes a new TMPDIR, so that no step finds what another one left there, and returns the step's environment. If a run is derived, its `judge`
-        finds the data as they were at that hit, but what `run` wrote to its TMPDIR would be that of the whole run. The path is the same each time,
-        and short, as that of a socket has at most 108 bytes."""
+    @contextlib.contextmanager
+    def step(self, folder: Path, **more: str) -> Iterator[dict[str, str]]:
+        """Opens a run's folder for a step, whose environment this is. TMPDIR is new, so that no step finds what another one left there. If a run is
+        derived, its `judge` finds the data as they were at that hit, but what `run` wrote to its TMPDIR would be that of the whole run. The path is the
+        same each time, and short, as that of a socket has at most 108 bytes."""
         place = folder / "tmp"
         if not is_taken_away(place):
             raise Stopped(f"{place} can't be deleted")
         place.mkdir()
-        return self.outer | {"HARNESS": str(self.harness.folder), "TMPDIR": str(place)} | self.harness.variables | more
+        folder.chmod(OPEN)
+        try:
+            yield self.outer | {"HARNESS": str(self.harness.folder), "TMPDIR": str(place)} | self.harness.variables | more
+        finally:
+            folder.chmod(CLOSED)
 
     def with_variables(self, **variables: str) -> "Runner":
         """The same runner, with more variables in the environment of its programs."""
@@ -66,14 +72,14 @@ class Runner:
 
     def start(self, words: list[str], folder: Path, said: Path, **variables: str) -> tuple[int, str]:
         """Runs a step in the data's folder. Returns its status, and the reason if the run is unresolved by it."""
-        environment = self.begin_step(folder, **variables)
-        with open(said, "ab") as output, open(folder / "errors", "ab") as errors:
-            process = self.processes.start([str(WITHIN), str(self.seconds), "-", *words], cwd=folder / "data", stdin=subprocess.DEVNULL,
-                stdout=output, stderr=errors, env=environment)
-        try:
-            passed = self.room.wait(process, folder)
-        finally:
-            self.processes.ended(process)
+        with self.step(folder, **variables) as environment:
+            with open(said, "ab") as output, open(folder / "errors", "ab") as errors:
+                process = self.processes.start([str(WITHIN), str(self.seconds), "-", *words], cwd=folder / "data", stdin=subprocess.DEVNULL,
+                    stdout=output, stderr=errors, env=environment)
+            try:
+                passed = self.room.wait(process, folder)
+            finally:
+                self.processes.ended(process)
         if passed:
             return process.returncode, passed
         if process.returncode == TIME_IS_UP:
@@ -86,7 +92,8 @@ class Runner:
         """Runs `judge` in the same way. It runs without the supervisor, so if it is a function of Python, it needs no new Python."""
         if not self.served:
             return self.start(self.harness.steps["judge"], folder, output, **variables)
-        return self.served.call("judge", folder, output, self.begin_step(folder, **variables), self.room)
+        with self.step(folder, **variables) as environment:
+            return self.served.call("judge", folder, output, environment, self.room)
 
     def prepare(self) -> None:
         """Makes the data with which each run begins. They are made once, and copied, so that each run finds the same bytes."""
@@ -97,7 +104,7 @@ class Runner:
             status, why = self.start(self.harness.steps["prepare"], folder, folder / "said")
             if status or why:
                 raise Stopped(f"prepare failed: {why or f'it ended with {status}'}: {last_of(lines_from(folder / 'errors'))}")
-        (folder / "data").rename(self.prepared)
+        folder.rename(self.work.folder / PREPARED)
         self.room.hold(tree.size(self.prepared))
         self.room.end(folder, 0)
         if self.work.disk and not self.work.is_decided:
@@ -113,7 +120,7 @@ class Runner:
             self.room.end(self.first.folder, 0)
             self.first = None
             self.count = 0
-            self.work.move("prepared")
+            self.work.move(PREPARED)
             self.room.lie_on(disk_of(self.work.place))
             self.room.hold(tree.size(self.prepared))
             show(f"loop: runs lie in {self.work.place}, as the program maps its files, and may take memory for a disk that needs no sync")
@@ -124,7 +131,7 @@ class Runner:
         other = copy.copy(self)
         other.work = Work(self.work.note, needs_disk=True)
         try:
-            tree.copy(str(self.prepared), str(other.prepared))
+            tree.copy(str(self.work.folder / PREPARED), str(other.work.folder / PREPARED))
             yield other
         finally:
             other.work.end()

@@ -89,16 +89,12 @@ def copy_file(source: str, target: str, told: os.stat_result) -> None:
         copied.truncate(told.st_size)
 
 
-def give(path: str, user: int, group: int, mode: int) -> None:
-    """Gives a file its owner and its mode. Only root can give files to others, and only for root do programs make files of others."""
-    if os.geteuid() == 0:
-        os.chown(path, user, group, follow_symlinks=False)
-    if not stat.S_ISLNK(mode):
-        os.chmod(path, stat.S_IMODE(mode))
-
-
 def keep(path: str, told: os.stat_result) -> None:
-    give(path, told.st_uid, told.st_gid, told.st_mode)
+    """Gives a copy its owner and mode. Only root can give files to others, and only for root do programs make files of others."""
+    if os.geteuid() == 0:
+        os.chown(path, told.st_uid, told.st_gid, follow_symlinks=False)
+    if not stat.S_ISLNK(told.st_mode):
+        os.chmod(path, stat.S_IMODE(told.st_mode))
 
 
 def copy(source: str, target: str) -> None:

@@ -21,7 +21,7 @@ from .shown import show
 PREFIX = "paklour-"
 NAME = re.compile(PREFIX + "[0-9a-f]{8}")
 CLOSED, ENTERED = 0o700, 0o711  # the modes of folders of runs
-MODE = ENTERED if os.geteuid() == 0 else CLOSED  # a service that root starts may drop its rights, and must get to its data all the same
+OPEN = ENTERED if os.geteuid() == 0 else CLOSED  # a service that root starts may drop its rights, and must get to its data all the same
 TRIES = 20  # so often it tries to delete a folder, a tenth of a second apart
 MEMORY = "/dev/shm"
 NO_DISK = {*IN_MEMORY, "overlay"}  # an overlay, as containers have, records no times of birth, so no run can lie there
@@ -57,11 +57,6 @@ def is_taken_away(folder: Path) -> bool:
             return True
         time.sleep(0.1)
     return False
-
-
-def make_folder(folder: Path) -> None:
-    folder.mkdir(CLOSED)
-    folder.chmod(MODE)  # whatever the umask is
 
 
 class Note:
@@ -120,14 +115,15 @@ class Work:
             pass
         if self.note:
             self.note.take(folder)
-        make_folder(folder)
+        folder.mkdir(CLOSED)
+        folder.chmod(OPEN)
         return folder
 
     def new(self) -> Path:
-        """Makes a folder for a run. The paths of all such folders have the same length."""
+        """Makes a folder for a run, which is closed to other users while none of its programs runs. The paths of all such folders have the same length."""
         with self.lock:
             folder = self.folder / f"{next(self.numbers):08d}"
-        make_folder(folder)
+        folder.mkdir(CLOSED)
         return folder
 
     def decide(self, needs_disk: bool) -> None:
@@ -137,12 +133,11 @@ class Work:
             self.note.needs_disk = needs_disk
             self.note.write()
 
-    def move(self, *kept: str) -> None:
-        """Goes on in a folder on a disk, with the folders of these names."""
+    def move(self, kept: str) -> None:
+        """Goes on in a folder on a disk, with the folder of this name."""
         left, self.place, self.disk = self.folder, self.disk, ""
         self.folder = self.new_folder()
-        for name in kept:
-            tree.copy(str(left / name), str(self.folder / name))
+        tree.copy(str(left / kept), str(self.folder / kept))
         self.delete(left)
 
     def delete(self, folder: Path) -> None:

@@ -27,9 +27,16 @@ class Owners(Campaigns):
     def test_its_files_after_a_power_cut(self):
         """They are its own again, for recovery and for the judge, which drop their rights too. One that was deleted again is its folder's owner's."""
         drops = f"#!/bin/sh\nexec setpriv --reuid={NOBODY} --regid={NOBODY} --clear-groups sh -c "
-        saves = drops + "'umask 077; mkdir sub && echo a > sub/a && rm sub/a && echo new > note && sync note . && echo saved'\n"
-        reads = drops + "'for file in $(find . -type f); do cat $file > /dev/null && [ -O $file ] || exit 3; done'\n"
+        saves = drops + "'umask 077; ln -s / link; mkdir sub && echo a > sub/a && rm sub/a && echo new > note && sync note . && echo saved'\n"
+        reads = drops + "'for file in $(find . -type f); do cat $file > /dev/null || exit 3; done; [ -z \"$(find . ! -user 65534)\" ]'\n"
         done = self.loop("-j", 2, "--no-kinds", self.harness(prepare=PREPARES, run=saves, again=reads, judge=reads))
+        self.assertEqual(done.status, 0, done.told)
+        self.assertRegex(done.out, r"counts pass \d+ unresolved 0\n")
+
+    def test_folders_of_other_runs(self):
+        """Of all runs only that one is open whose program runs."""
+        judge = '#!/bin/sh\nopen=$(stat -c "%a %n" ../../* | grep -v "^700 ")\n[ "$open" = "711 ../../$(basename "$(dirname "$PWD")")" ] || exit 3\n'
+        done = self.loop("-j", 1, "--no-kinds", self.harness(run=SAVES, judge=judge))
         self.assertEqual(done.status, 0, done.told)
         self.assertRegex(done.out, r"counts pass \d+ unresolved 0\n")
 
