@@ -10,6 +10,7 @@ from .answers import DIFFERS, Answers, Stopped, stopped_by
 from .bounds import Bounds
 from .campaign import Campaign
 from .disk import disk_of
+from .identity import noted
 from .paklour import Paklour
 from .processes import OUTSIDE, WITHIN, Processes
 from .records import Records
@@ -113,9 +114,9 @@ def run_harness(loop: str, options: dict[str, str], path: str, processes: Proces
         join(Path(options["--join"]), own, answers)
     settings = Settings(harness, folder, answers, options.get("--settings"), depth_of(options), kinds_of(options), keeps="--try" in options)
     harness.order = "next" if NEXT in settings.points else harness.order
-    work = Work(note)
+    work = Work(note, note.needs_disk if note else noted(Path(answers.path)).get("needs_disk"))
     try:
-        runner = Runner(harness, work, processes, room_of(options, work.folder.parent))
+        runner = Runner(harness, work, processes, room_of(options, work.place))
         decider = decider_of(runner, settings, "--every-run" in options)
         runner.prepare()
         if "--try" in options:
@@ -126,9 +127,9 @@ def run_harness(loop: str, options: dict[str, str], path: str, processes: Proces
         work.end()
 
 
-def room_of(options: dict[str, str], folder: Path) -> Room:
+def room_of(options: dict[str, str], place: str) -> Room:
     bounds = Bounds(whole_number(options.get("--seconds", "60")), bytes_of(options.get("--bytes", "1G")))
-    return Room(disk_of(str(folder)), bytes_of(options.get("--room", "1G")), bounds, Records())
+    return Room(disk_of(place), bytes_of(options.get("--room", "1G")), bounds, Records())
 
 
 def depth_of(options: dict[str, str]) -> int | None:

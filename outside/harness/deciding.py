@@ -5,7 +5,6 @@ with the other faults is made once, and the rest is laid out from its notes. One
 and must come out alike."""
 
 import hashlib
-import shutil
 import threading
 from dataclasses import dataclass, replace
 from pathlib import Path
@@ -138,10 +137,13 @@ class Decider:
     def run_again(self, text: str, looks_up: LooksUp) -> Outcome:
         return self.room.within(lambda: self.run(text, looks_up))
 
-    def passes(self, **variables: str) -> bool:
-        """Whether the run without faults passes with these variables in the environment of its programs."""
-        decider = Decider(self.runner.with_variables(**variables), self.asking, self.depth, every_run=True)
-        return decider.run_again("none", LooksUp.NONE).verdict == PASS
+    def passes(self, runner: Runner) -> bool:
+        """Whether the run without faults passes if this runner makes it."""
+        return Decider(runner, self.asking, self.depth, every_run=True).run_again("none", LooksUp.NONE).verdict == PASS
+
+    def passes_on_disk(self) -> bool:
+        with self.runner.on_disk() as runner:
+            return self.passes(runner)
 
     def run(self, text: str, looks_up: LooksUp) -> Outcome:
         record = self.runner.make(text)
@@ -214,7 +216,8 @@ class Decider:
             if not record.is_cut:
                 self.tools.cut(record.run, record.data)
             run = record.rewound
-            shutil.rmtree(run, ignore_errors=True)
+            if run.exists():
+                tree.remove(run)
             length = self.tools.rewind(record.run, run, hit, text)
             if length is None:
                 return None

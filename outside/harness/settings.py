@@ -6,6 +6,7 @@ import re
 import tomllib
 from pathlib import Path
 
+from . import tree
 from .answers import Answers, Stopped
 from .definition import Harness
 from .shown import plain, show
@@ -84,9 +85,7 @@ class Settings:
             show(f"loop: full disks and half writes are left out at depth {self.depth}; --kinds tries them")
 
     def write(self) -> None:
-        new = self.path.with_suffix(".new")
-        new.write_text(made_text(self.label, self.codes or ["lost"], self.depth, self.has_kinds), "utf-8")
-        new.rename(self.path)
+        tree.write(self.path, made_text(self.label, self.codes or ["lost"], self.depth, self.has_kinds).encode())
 
     def take_code(self, answer: str) -> None:
         """Adds the code of an answer to the settings, before the answer is recorded."""

@@ -8,6 +8,7 @@ from collections.abc import Iterable, Iterator
 from dataclasses import dataclass
 from pathlib import Path
 
+from . import tree
 from .answers import DIFFERS, Answers, Stopped, changed
 from .campaign import Campaign
 from .deciding import Decider, Differs
@@ -127,10 +128,12 @@ class Whole:
         raise Enough
 
     def tell_trust(self) -> None:
-        """Prints whether the run without faults passes on file systems that promise more about names."""
+        """Prints whether the run without faults passes on a disk, or on file systems that promise more about names."""
+        if (disk := self.decider.runner.work.disk) and self.decider.passes_on_disk():
+            return show(f"loop: the run without faults passes on a disk: set TMPDIR={disk}")
         if "FAULTS_SYNC" in os.environ | self.harness.variables:
             return
-        passing = [word for word in TRUSTS if self.decider.passes(FAULTS_SYNC=word)]
+        passing = [word for word in TRUSTS if self.decider.passes(self.decider.runner.with_variables(FAULTS_SYNC=word))]
         for word in passing:
             show(f"loop: the run without faults passes if you set FAULTS_SYNC={word}: {TRUSTS[word]}")
         if not passing:
@@ -174,9 +177,9 @@ class Whole:
     def report(self) -> int:
         status, report = self.paklour.report(*["--strict"] * self.asked.strict)
         brief = self.paklour.report("--brief", tells=False)[1]
-        (self.folder / "report").write_bytes(report)
+        tree.write(self.folder / "report", report)
         for form in self.asked.forms:
-            (self.folder / FORMS[form]).write_bytes(self.paklour.report(form, tells=False)[1])
+            tree.write(self.folder / FORMS[form], self.paklour.report(form, tells=False)[1])
         write_out(brief if self.asked.brief else report)
         is_same = self.confirm(findings(report, self.settings.codes))
         self.tell_counts()
