@@ -20,7 +20,8 @@ from .records import Key, key_of, lasting_faults
 from .room import TooLarge
 from .run import Runner
 from .scenario import POWER, Scenario, Unreadable, hits_text, keeping, scenario_of
-from .trace import MARKS, points_trace, trace_of
+from .shown import last_lines
+from .trace import MARKS, length_of, points_trace, trace_of
 
 ONE_IN = 20  # of so many derived outcomes one is run as a check
 NAMES = {"create", "mkdir", "symlink", "link", "unlink", "rmdir", "rename", "exchange"}
@@ -198,11 +199,13 @@ class Decider:
     def finish(self, record: Record, hit: int, text: str, looks_up: LooksUp) -> Outcome | None:
         """Cuts the power of a run at that hit, runs `again` if the harness has one, and judges what is left."""
         if record.why:
-            return Outcome(text, Judgement(UNRESOLVED, record.why), trace_of(record.run))
+            return Outcome(text, Judgement(UNRESOLVED, record.why), trace_of(record.run), errors=last_lines(record.folder / "errors"))
         try:
             outcome = self.finished(record, hit, text, looks_up)
         except TooLarge as found:
             return Outcome(text, Judgement(UNRESOLVED, str(found)), trace_of(record.run))
+        if outcome:
+            outcome.status = record.status
         if not self.depth:
             meet(outcome, record.folder)
         return outcome
@@ -243,6 +246,7 @@ class Decider:
     def cut_and_judge(self, folder: Path, run: Path, text: str, said: bytes, looks_up: LooksUp, lays_states: bool) -> Outcome:
         """Judges each state that a power cut may leave, up to the first that breaks a promise."""
         trace = trace_of(run)
+        errors, begun = folder / "errors", length_of(folder / "errors")
         judgements = []
         for state in self.states(run, text, lays_states):
             if not self.tools.cut(run, folder / "data", *state):
@@ -254,9 +258,12 @@ class Decider:
                 break
         judgement = judgements[-1]
         is_known = all(each.is_known for each in judgements)
-        outcome = Outcome(text, Judgement(judgement.verdict, judgement.why, is_known), trace)
+        outcome = Outcome(text, Judgement(judgement.verdict, judgement.why, is_known), trace, said=said)
         if outcome.verdict.startswith("fail"):
             outcome.pending = self.tools.pending(run)
+            outcome.errors = last_lines(errors, begun)
+        else:
+            outcome.errors = last_lines(errors, end=begun)
         return outcome
 
     def states(self, run: Path, text: str, lays_states: bool) -> list[list[str]]:

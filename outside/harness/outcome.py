@@ -14,6 +14,9 @@ class Outcome:
     trace: list[list[str]]
     pending: list[list[str]] = field(default_factory=list)  # the pending changes at its cuts, in order, if it fails
     follows: bool = False  # it was derived from another run, or from a judgement of the same state
+    status: int = 0  # how `run` ended, as a shell has it
+    said: bytes = b""  # the promises
+    errors: str = ""  # the last lines on standard error: of the judge if it fails, otherwise of the program
 
     @property
     def verdict(self) -> str:

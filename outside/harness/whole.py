@@ -7,6 +7,7 @@ from collections import Counter
 from collections.abc import Iterable, Iterator
 from dataclasses import dataclass
 from pathlib import Path
+from typing import NoReturn
 
 from .answers import DIFFERS, Answers, Stopped, changed
 from .campaign import Campaign
@@ -15,7 +16,7 @@ from .definition import Harness
 from .judging import PASS, UNRESOLVED
 from .outcome import Outcome
 from .paklour import Paklour
-from .run import Runner
+from .run import NOT_FOUND, Runner
 from .settings import Settings
 from .shard import Shard, places_in, scenario_in
 from .shown import show, write_out
@@ -114,20 +115,29 @@ class Whole:
 
     def require_pass(self, outcome: Outcome) -> None:
         """Ends the campaign if the run without faults doesn't pass. This run is no answer: the next campaign begins with it again."""
-        if outcome.verdict == PASS:
-            return
         if outcome.verdict == UNRESOLVED:
             self.tell_unresolved(outcome)
-            raise Stopped("the run without faults is unresolved, for the reason above, so nothing else is tried")
+            refuse("the run without faults is unresolved, for the reason above, so nothing else is tried", outcome)
+        if outcome.status:
+            missing = ": a program isn't there" * (outcome.status == NOT_FOUND)
+            refuse(f"the run without faults is refused: `run` ended with {outcome.status}{missing}", outcome)
+        if not outcome.said:
+            refuse("the run without faults is refused: it printed no line, so it promised nothing, and every plan would pass", outcome)
+        if outcome.verdict == PASS:
+            return
         self.tell_failure(outcome)
         self.found = ["none"]  # then no other failure means anything
+        show("\n".join(f"judge: {line}" for line in outcome.errors.splitlines()))
         for change in outcome.pending:
             show(f"pending: {' '.join(change)}")
-        self.tell_trust()
+        self.tell_trust(is_pending=bool(outcome.pending))
         raise Enough
 
-    def tell_trust(self) -> None:
+    def tell_trust(self, is_pending: bool) -> None:
         """Prints whether the run without faults passes on file systems that promise more about names."""
+        if not is_pending:
+            show("loop: no change is pending, so no power cut did this: look at the judge and at the program")
+            return
         if "FAULTS_SYNC" in os.environ | self.harness.variables:
             return
         passing = [word for word in TRUSTS if self.decider.passes(FAULTS_SYNC=word)]
@@ -216,6 +226,11 @@ class Whole:
         else:
             show(f"loop: {changed('hits', hits, tried.hits, tried.scenario)}")
         show("loop: the program or its judge doesn't do the same each time; with --every-run nothing is derived from another run")
+
+
+def refuse(why: str, outcome: Outcome) -> NoReturn:
+    """Ends the campaign, with what the program wrote to standard error."""
+    raise Stopped("\n".join([f"{why}. The last lines on standard error:", outcome.errors]) if outcome.errors else why)
 
 
 def findings(report: bytes, codes: list[str]) -> list[str]:

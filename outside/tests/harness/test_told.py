@@ -83,7 +83,7 @@ class Refused(Campaigns):
         self.assertIn("here", told)
 
     def test_answers_of_another_harness(self):
-        folder = self.harness(run="#!/bin/sh\n: > here\n", judge="#!/bin/sh\ntrue\n")
+        folder = self.harness(run="#!/bin/sh\n: > here; echo here\n", judge="#!/bin/sh\ntrue\n")
         self.assertEqual(self.loop("-j", 2, folder).status, 0)
         (folder / "judge").write_text("#!/bin/sh\ntrue # changed\n")
         self.refused("belongs to a harness with another judge: delete it, and start again\n", folder)
@@ -216,14 +216,14 @@ sleep 0.3
         self.assertIn("loop: the verdict changed from ", done.told)
 
     def test_a_program_that_does_more_each_time(self):
-        run = '#!/bin/sh\necho >> "$HARNESS/count"\nfor each in $(seq $(wc -l < "$HARNESS/count")); do : > "file$each"; done\n'
-        done = self.loop("-j", 1, self.harness(run=run, judge=JUDGES))
+        run = '#!/bin/sh\necho >> "$HARNESS/count"\nfor each in $(seq $(wc -l < "$HARNESS/count")); do : > "file$each"; done; echo done\n'
+        done = self.loop("-j", 1, self.harness(run=run, judge="#!/bin/sh\ntrue\n"))
         self.assertIn(done.status, (2, 5), done.told)
         self.assertRegex(done.told, "hits differ|the hits changed|the verdict changed|not met")
 
     def test_a_program_that_goes_another_way_the_second_time(self):
         """Two plans are answered by what follows from its first run, and then the third by a run."""
-        run = '#!/bin/sh\nmkdir "$HARNESS/begun" 2> "$TMPDIR/said" || mkdir here\n: > file\n'
+        run = '#!/bin/sh\nmkdir "$HARNESS/begun" 2> "$TMPDIR/said" || mkdir here\n: > file; echo done\n'
         done = self.loop("-j", 1, self.harness(run=run, judge="#!/bin/sh\ntrue\n"))
         self.assertEqual(done.status, 2, done.told)
         self.assertRegex(done.told, r"answers: line 4: hits differ from line 1 at hit 1\nloop: line 4 is the run of sys::open=1\*return, which doesn't repeat an earlier run: ")
