@@ -11,29 +11,22 @@ from dataclasses import dataclass, replace
 from pathlib import Path
 
 from . import tree
-from .answers import DIFFERS, Stopped, changed
 from .definition import ALL_STATES, Harness
 from .judging import PASS, UNRESOLVED, Judge, Judgement, LooksUp
 from .outcome import Outcome
 from .record import Record
 from .records import Key, key_of, lasting_faults
+from .repeats import Repeats
 from .room import TooLarge
 from .run import Runner
-from .scenario import POWER, Scenario, Unreadable, hits_text, keeping, scenario_of
+from .scenario import POWER, Scenario, Unreadable, keeping, scenario_of
 from .shown import last_lines
 from .trace import MARKS, length_of, points_trace, trace_of
 
 ONE_IN = 20  # of so many derived outcomes one is run as a check
+MORE_RUNS = 3  # so often a run is made again that does otherwise than the runs before
+OTHERWISE = f"in {MORE_RUNS + 1} runs it did otherwise than the run that it grew from"
 NAMES = {"create", "mkdir", "symlink", "link", "unlink", "rmdir", "rename", "exchange"}
-
-
-class Differs(Exception):
-    """An outcome that was derived from another run differs from the outcome of the scenario's own run."""
-
-    def __init__(self, followed: Outcome, tried: Outcome):
-        super().__init__(followed.scenario)
-        self.followed = followed
-        self.tried = tried
 
 
 @dataclass(frozen=True)
@@ -84,6 +77,8 @@ class Decider:
         self.tried = 0
         self.followed = 0
         self.made_bases: set[Key] = set()
+        self.repeats = Repeats()
+        self.unsteady: set[Key] = set()  # the faults of runs that came out otherwise when they were made again: nothing is derived from these
         self.places: dict[tuple, Ended] = {}  # the outcomes of runs that were ended, by the place where they were
         self.lock = threading.Lock()
 
@@ -91,9 +86,10 @@ class Decider:
         """The known run from which this scenario's outcome can be derived, and the hit at which it ends, if there is such a run."""
         try:
             scenario = Scenario(text)
-            return None if self.every_run or scenario.is_endless() else self.records.base_of(scenario)
+            base = None if self.every_run or scenario.is_endless() else self.records.base_of(scenario)
         except Unreadable:
             return None
+        return base if base and base[0] not in self.unsteady else None
 
     def make_base(self, text: str) -> None:
         """Makes, once, the run from which this scenario's outcome can be derived. A campaign that goes on after a stop has no runs yet."""
@@ -105,8 +101,7 @@ class Decider:
         with self.lock:
             is_new = not self.every_run and not scenario.is_endless() and key != set(scenario.faults()) and key not in self.made_bases
             self.made_bases.add(key)
-        if is_new:
-            record = self.runner.make(scenario_of(key))
+        if is_new and (record := self.steady(key)):
             self.keep(key_of(trace_of(record.run)), record)
 
     def decide(self, text: str) -> Outcome:
@@ -124,17 +119,36 @@ class Decider:
         if outcome is None:
             outcome = self.run(text, LooksUp.NONE if self.every_run else LooksUp.ALL)
         if outcome.follows and is_tried(text):
-            self.try_out(outcome)
-        return outcome
+            return self.tried_out(outcome, base)
+        return self.repeated(outcome)
 
-    def try_out(self, followed: Outcome) -> Outcome:
-        """Runs and judges a scenario whose outcome was derived, and compares the two."""
-        tried = self.run(followed.scenario, LooksUp.NONE)
+    def tried_out(self, followed: Outcome, base: tuple[Key, int] | None) -> Outcome:
+        """The outcome of the own run of a scenario whose outcome was derived. If the two differ, nothing more is derived from that other run."""
         with self.lock:
             self.tried += 1
-        if (tried.verdict, tried.hits) != (followed.verdict, followed.hits):
-            raise Differs(followed, tried)
-        return tried
+        outcome = self.repeated(self.run(followed.scenario, LooksUp.NONE))
+        outcome.follows = (outcome.verdict, outcome.hits) == (followed.verdict, followed.hits)
+        if outcome.knows_hits and not outcome.follows:
+            outcome.differs_from = followed
+            if base:
+                self.unsteady.add(base[0])
+        return outcome
+
+    def repeated(self, outcome: Outcome) -> Outcome:
+        """This outcome. If its run does otherwise than the runs before, that of another run of this scenario, or if none does as they did, an unresolved
+        one. An unresolved run that does otherwise isn't made again, since it may have been ended after a minute."""
+        if not self.depth:
+            return outcome
+        first = parting = self.repeats.take(outcome)
+        for _ in range(MORE_RUNS):
+            if parting and outcome.verdict != UNRESOLVED:
+                outcome = self.run(outcome.scenario, LooksUp.NONE)
+                parting = self.repeats.take(outcome)
+        if parting:
+            why = outcome.judgement.why or OTHERWISE
+            outcome = Outcome(outcome.scenario, Judgement(UNRESOLVED, why), [], knows_hits=False)
+        outcome.parting = first
+        return outcome
 
     def run_again(self, text: str, looks_up: LooksUp) -> Outcome:
         return self.room.within(lambda: self.run(text, looks_up))
@@ -148,13 +162,14 @@ class Decider:
         record = self.runner.make(text)
         outcome = self.finish(record, len(record.points) + 1, text, looks_up)
         outcome.follows = outcome.judgement.is_known
-        self.keep(key_of(trace_of(record.run)[:len(record.points)]), record)
+        outcome.parting = self.repeats.parting(outcome.trace, outcome.verdict) if self.depth else None
+        self.keep(key_of(trace_of(record.run)[:len(record.points)]), record, is_steady=not outcome.parting)
         return outcome
 
-    def keep(self, key: Key, record: Record) -> None:
+    def keep(self, key: Key, record: Record, is_steady: bool = True) -> None:
         ends = any(fault.answer.startswith("panic") for fault in key)
         size = tree.size(record.folder)
-        if record.why or ends or len(key) >= self.depth or self.every_run:
+        if record.why or ends or len(key) >= self.depth or self.every_run or not is_steady:
             tree.remove(record.folder)
             self.room.end(record.folder, size)
         else:
@@ -168,7 +183,9 @@ class Decider:
         if record:
             self.room.begin(record.folder)
         else:
-            record = self.made_again(key)
+            record = self.steady(key)
+        if not record:
+            return None
         outcome = None if record.why else self.ended_at(record, key, hit, text)
         if outcome:
             outcome.follows = True
@@ -187,12 +204,16 @@ class Decider:
             self.places[place] = ended(outcome, hit)
         return outcome
 
-    def made_again(self, key: Key) -> Record:
-        record = self.runner.make(scenario_of(key))
-        before = self.records.points[key]
-        if record.points != before and not record.why:
-            raise Stopped(changed("hits", hits_text(before), hits_text(record.points), record.scenario), DIFFERS)
-        return record
+    def steady(self, key: Key) -> Record | None:
+        """A run with these faults that does as the runs before it. None if several runs do otherwise."""
+        for _ in range(1 + MORE_RUNS):
+            record = self.runner.make(scenario_of(key))
+            is_same = record.points == self.records.points.get(key, record.points)
+            if record.why or is_same and not self.repeats.parting(trace_of(record.run)):
+                return record
+            self.keep(key, record, is_steady=False)
+        self.unsteady.add(key)
+        return None
 
     # ---- from the end of a run to its judgement
 

@@ -7,6 +7,18 @@ from .scenario import hits_text
 from .trace import MOST_HITS
 
 
+@dataclass(frozen=True)
+class Parting:
+    """Where a run does otherwise than a run before it."""
+
+    number: int  # of the hit
+    before: str
+    now: str
+
+    def __str__(self) -> str:
+        return f"hit {self.number} was {self.before}, and now is {self.now}"
+
+
 @dataclass
 class Outcome:
     scenario: str
@@ -17,6 +29,9 @@ class Outcome:
     status: int = 0  # how `run` ended, as a shell has it
     said: bytes = b""  # the promises
     errors: str = ""  # the last lines on standard error: of the judge if it fails, otherwise of the program
+    knows_hits: bool = True
+    parting: Parting | None = None  # where its run, or the first of its runs, did otherwise than the runs before
+    differs_from: "Outcome | None" = None  # what was derived from another run, if the run of its own came out otherwise
 
     @property
     def verdict(self) -> str:
@@ -24,8 +39,8 @@ class Outcome:
 
     @property
     def hits(self) -> str:
-        """The hits as an answer has them, or `-` if there are more than an answer may have."""
-        if len(self.trace) > MOST_HITS:
+        """The hits as an answer has them, or `-` if nobody knows them, or there are more than an answer may have."""
+        if not self.knows_hits or len(self.trace) > MOST_HITS:
             return "-"
         return hits_text([hit[1] for hit in self.trace])
 

@@ -5,6 +5,7 @@ import os
 import subprocess
 import sys
 import threading
+import time
 from dataclasses import replace
 from pathlib import Path
 
@@ -20,7 +21,7 @@ from .shown import show
 from .trace import POINTS, trace_of
 from .work import Work
 
-TIME_IS_UP, CANNOT, NOT_FOUND = 124, 125, 127  # how `within` ends
+TIME_IS_UP, CANNOT, NOT_FOUND = 124, 125, 127  # how `within` ends. A program of the harness may have these statuses too
 
 
 class Runner:
@@ -51,6 +52,7 @@ class Runner:
     def start(self, words: list[str], folder: Path, said: Path, **variables: str) -> tuple[int, str]:
         """Runs a step in the data's folder. Returns its status, and the reason if the run is unresolved by it."""
         (folder / "tmp").mkdir(exist_ok=True)
+        begun = time.monotonic()
         with open(said, "ab") as output, open(folder / "errors", "ab") as errors:
             process = self.processes.start([str(WITHIN), str(self.seconds), "-", *words], cwd=folder / "data", stdin=subprocess.DEVNULL,
                 stdout=output, stderr=errors, env=self.environment(folder, **variables))
@@ -60,10 +62,10 @@ class Runner:
             self.processes.ended(process)
         if passed:
             return process.returncode, passed
-        if process.returncode == TIME_IS_UP:
+        if process.returncode == TIME_IS_UP and time.monotonic() - begun >= self.seconds:
             return process.returncode, f"it was ended after {self.seconds} seconds (--seconds)"
-        if process.returncode in (CANNOT, NOT_FOUND):
-            raise Stopped(f"{words[-1]} can't be run: {last_line(folder / 'errors')}")
+        if process.returncode in (CANNOT, NOT_FOUND) and (told := last_line(folder / "errors")).startswith("within: "):
+            raise Stopped(f"{words[-1]} can't be run: {told}")
         return process.returncode, ""
 
     def judged(self, folder: Path, output: Path, **variables: str) -> tuple[int, str]:

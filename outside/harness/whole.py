@@ -11,7 +11,7 @@ from typing import NoReturn
 
 from .answers import DIFFERS, Answers, Stopped, changed
 from .campaign import Campaign
-from .deciding import Decider, Differs
+from .deciding import OTHERWISE, Decider
 from .definition import Harness
 from .judging import PASS, UNRESOLVED
 from .outcome import Outcome
@@ -19,7 +19,8 @@ from .paklour import Paklour
 from .run import NOT_FOUND, Runner
 from .settings import Settings
 from .shard import Shard, places_in, scenario_in
-from .shown import show, write_out
+from .scenario import scenario_of
+from .shown import show, show_once, write_out
 from .telling import failure, group_of
 from .workers import Workers
 
@@ -68,7 +69,12 @@ class Whole:
         self.workers = Workers(decider, asked.jobs)
         self.found: list[str] = []  # scenarios that fail
         self.unresolved: Counter[str] = Counter()
+        self.flaky: list[str] = []  # what is told of each run that did otherwise than the run that it grew from, until it was made again
+        self.is_same = True  # whether no second run came out otherwise than the first
         self.has_told_size = answers.count > 0
+        if settings.depth:
+            for line in answers.lines():
+                decider.repeats.take_answer(line)
 
     # ---- as an engine
 
@@ -95,6 +101,10 @@ class Whole:
         show(f"loop: {len(asked)} plans" + " with one fault" * (self.settings.depth > 0) + rest)
 
     def tell(self, outcome: Outcome) -> None:
+        if outcome.parting and outcome.knows_hits:
+            self.flaky.append(f"{outcome.parting}: {outcome.scenario}")
+        if outcome.differs_from:
+            self.tell_difference(outcome.differs_from.verdict, outcome.differs_from.hits, outcome)
         if outcome.verdict == UNRESOLVED:
             self.tell_unresolved(outcome)
         if outcome.verdict.startswith("fail"):
@@ -107,7 +117,7 @@ class Whole:
         why = outcome.judgement.why
         self.unresolved[why] += 1
         if self.unresolved[why] == 1:
-            show(f"unresolved: {why}: {outcome.scenario}")
+            show(": ".join(["unresolved", why, *[str(outcome.parting)] * (why == OTHERWISE), outcome.scenario]))
 
     def tell_failure(self, outcome: Outcome) -> None:
         self.found.append(outcome.scenario)
@@ -119,7 +129,8 @@ class Whole:
             self.tell_unresolved(outcome)
             refuse("the run without faults is unresolved, for the reason above, so nothing else is tried", outcome)
         if outcome.status:
-            missing = ": a program isn't there" * (outcome.status == NOT_FOUND)
+            *_, last = ["", *outcome.errors.splitlines()]
+            missing = f", as a shell does if a program isn't there: {last}" * (outcome.status == NOT_FOUND)
             refuse(f"the run without faults is refused: `run` ended with {outcome.status}{missing}", outcome)
         if not outcome.said:
             refuse("the run without faults is refused: it printed no line, so it promised nothing, and every plan would pass", outcome)
@@ -160,9 +171,6 @@ class Whole:
             return self.report() if not self.asked.shard else self.end_of_shard()
         except Enough:
             return self.end_early()
-        except Differs as found:
-            self.tell_difference(found.followed.verdict, found.tried, found.followed.hits)
-            return DIFFERS
 
     def mine(self, asked: list[str]) -> list[str]:
         places = places_in(self.answers)
@@ -172,14 +180,15 @@ class Whole:
         """Runs the failures once more, as a report's findings are. The run without faults was just made, so it isn't made again."""
         self.tell_counts()
         if self.found != ["none"]:
-            return 1 if self.confirm(self.found) else DIFFERS
+            self.confirm(self.found)
+            return self.status(1)
         self.tell_again("none")
         return 1
 
     def end_of_shard(self) -> int:
         """Ends a share of a campaign. It has no report: the campaign that joins the shares writes one, and runs failures once more."""
         self.tell_counts()
-        return 1 if self.answers.failing else 0
+        return self.status(1 if self.answers.failing else 0)
 
     def report(self) -> int:
         status, report = self.paklour.report(*["--strict"] * self.asked.strict)
@@ -188,9 +197,13 @@ class Whole:
         for form in self.asked.forms:
             (self.folder / FORMS[form]).write_bytes(self.paklour.report(form, tells=False)[1])
         write_out(brief if self.asked.brief else report)
-        is_same = self.confirm(findings(report, self.settings.codes))
+        self.confirm(findings(report, self.settings.codes))
         self.tell_counts()
-        return status if is_same else DIFFERS
+        return self.status(status)
+
+    def status(self, of_report: int) -> int:
+        """The exit status: that of the report, unless a run of this call didn't do the same each time, and so nobody knows what it came to."""
+        return DIFFERS if not self.is_same or of_report == 0 and self.unresolved[OTHERWISE] else of_report
 
     def tell_counts(self) -> None:
         for why, count in self.unresolved.items():
@@ -198,34 +211,39 @@ class Whole:
                 more = "1 more plan is" if count == 2 else f"{count - 1} more plans are"
                 show(f"loop: {more} unresolved for this reason: {why}")
         decider = self.decider
+        if self.flaky:
+            show(f"loop: flaky {len(self.flaky)}: so many runs did otherwise than the run that they grew from, until they were made again: {self.flaky[0]}")
+        if decider.unsteady:
+            first = min(map(scenario_of, decider.unsteady), key=len)
+            show(f"loop: runs that didn't come out the same again, and from which nothing more was derived: {len(decider.unsteady)}, the first of them {first}")
         derived = f"{decider.followed} plans were derived from other runs, {decider.tried} of them were run as a check"
         show(f"loop: {decider.runner.count} runs and {decider.judge.count} judgements; {derived}")
 
-    def confirm(self, scenarios: list[str]) -> bool:
-        """Runs each finding and cause, and the run without faults, once more, and prints what the causes have in common. Whether all came out
-        the same."""
+    def confirm(self, scenarios: list[str]) -> None:
+        """Runs each finding and cause, and the run without faults, once more, and prints what the causes have in common."""
         lines = {scenario_in(line): line for line in self.answers.lines()}
         groups: Counter[str] = Counter()
-        is_same = True
         for outcome in self.workers.run_again(["none", *scenarios]):
             line = lines[outcome.scenario]
             if outcome.answer(self.settings.depth > 0) != line:
-                self.tell_difference(line.split("\t")[0], outcome, line.split("\t")[-1])
-                is_same = False
+                self.tell_difference(line.split("\t")[0], line.split("\t")[-1], outcome)
+            elif outcome.parting:
+                self.is_same = False
+                show(f"loop: the run did otherwise than before: {outcome.parting}: {outcome.scenario}")
             elif outcome.scenario != "none":
                 groups[group_of(outcome)] += 1
         for group, count in groups.most_common():
             show(f"{count} failure{'s' * (count > 1)}: {group}")
         if scenarios:
             self.tell_again(scenarios[0])
-        return is_same
 
-    def tell_difference(self, verdict: str, tried: Outcome, hits: str) -> None:
+    def tell_difference(self, verdict: str, hits: str, tried: Outcome) -> None:
+        self.is_same = False
         if verdict != tried.verdict:
             show(f"loop: {changed('verdict', verdict, tried.verdict, tried.scenario)}")
         else:
             show(f"loop: {changed('hits', hits, tried.hits, tried.scenario)}")
-        show("loop: the program or its judge doesn't do the same each time; with --every-run nothing is derived from another run")
+        show_once("loop: the program or its judge doesn't do the same each time; with --every-run nothing is derived from another run")
 
 
 def refuse(why: str, outcome: Outcome) -> NoReturn:

@@ -3,6 +3,7 @@
 import json
 import os
 import re
+import shutil
 import signal
 import subprocess
 import sys
@@ -169,6 +170,14 @@ class Unresolved(Campaigns):
         done = self.loop("--bytes", "1M", folder, "--try", "none")
         self.assertEqual((done.status, done.out.splitlines()[-1]), (0, "unresolved: it wrote more than 1048576 bytes (--bytes): without any fault"), done.told)
 
+    def test_statuses_by_which_others_say_something(self):
+        """Where a call fails `run` ends with the status by which a shell says that a program isn't there, or `timeout` that the time was up."""
+        for status in (124, 125, 127):
+            folder = self.harness(run=f"#!/bin/sh\ntouch here || exit {status}\necho done\n", judge="#!/bin/sh\ntrue\n")
+            done = self.loop("-j", 1, folder)
+            self.assertEqual((done.status, [line.split("\t")[0] for line in self.answers(folder)]), (0, ["pass"] * 4), done.told)
+            shutil.rmtree(folder)
+
     def test_what_it_began_is_ended(self):
         folder = self.harness(run=f"#!/bin/sh\n: > here; setsid sleep 77 & echo $! > {self.here}/pid; sleep 30\n", judge=JUDGES)
         self.assertEqual(self.loop("--seconds", 1, folder).status, 2)
@@ -195,7 +204,7 @@ echo $what >> "$HARNESS/seen"
         done = self.loop("-j", 1, "--depth", 2, folder)
         self.assertEqual(done.status, 5, done.told)
         self.assertIn("loop: the verdict changed from pass to fail again: ", done.told)
-        self.assertFalse((folder / "report").exists())
+        self.assertTrue((folder / "report").exists())
 
     def test_a_first_failure_that_does_not_fail_again(self):
         """A judge that doesn't look at where nothing was said, but for the first time."""
@@ -225,8 +234,10 @@ sleep 0.3
         """Two plans are answered by what follows from its first run, and then the third by a run."""
         run = '#!/bin/sh\nmkdir "$HARNESS/begun" 2> "$TMPDIR/said" || mkdir here\n: > file; echo done\n'
         done = self.loop("-j", 1, self.harness(run=run, judge="#!/bin/sh\ntrue\n"))
-        self.assertEqual(done.status, 2, done.told)
-        self.assertRegex(done.told, r"answers: line 4: hits differ from line 1 at hit 1\nloop: line 4 is the run of sys::open=1\*return, which doesn't repeat an earlier run: ")
+        self.assertEqual(done.status, 5, done.told)
+        self.assertIn("\nunresolved: in 4 runs it did otherwise than the run that it grew from: "
+            "hit 1 was sys::open (file), and now is sys::mkdir (here): sys::open=1*return\n", done.told)
+        self.assertIn("\nloop: the hits changed from sys::open;power::keep to sys::mkdir;sys::open;2*power::keep: none\n", done.told)
 
 
 class Shown(Campaigns):

@@ -31,7 +31,9 @@ class Refused(Campaigns):
             "The last lines on standard error:\nwhy not\n")
 
     def test_a_program_that_is_not_there_is_named(self):
-        self.assertEqual(self.refused("#!/bin/sh\n: > spool; ./gone young || exit\n"), "loop: harness/run can't be run: harness/run: 2: ./gone: not found\n")
+        told = self.refused("#!/bin/sh\n: > spool; ./gone young || exit\n")
+        self.assertTrue(told.startswith("loop: the run without faults is refused: `run` ended with 127, as a shell does if a program isn't there: "
+            "harness/run: 2: ./gone: not found. "), told)
 
     def test_a_program_that_is_not_there_before_any_call(self):
         told = self.refused("#!/bin/sh\nexec ../gone young\n")
