@@ -116,7 +116,7 @@ def run_harness(loop: str, options: dict[str, str], path: str, processes: Proces
     work = Work(note)
     try:
         runner = Runner(harness, work, processes, room_of(options, work.folder.parent))
-        decider = decider_of(runner, settings, "--every-run" in options)
+        decider = decider_of(runner, settings, "--every-run" in options, answers)
         runner.prepare()
         if "--try" in options:
             return watched(decider, options["--try"])

@@ -11,8 +11,9 @@ from dataclasses import dataclass, replace
 from pathlib import Path
 
 from . import tree
+from .crashes import noted_crash, told_crash
 from .definition import ALL_STATES, Harness
-from .judging import PASS, UNRESOLVED, Judge, Judgement, LooksUp
+from .judging import CRASHED, HUNG, PASS, UNRESOLVED, Judge, Judgement, LooksUp
 from .outcome import Outcome
 from .record import Record
 from .records import Key, key_of, lasting_faults
@@ -136,12 +137,12 @@ class Decider:
 
     def repeated(self, outcome: Outcome) -> Outcome:
         """This outcome. If its run does otherwise than the runs before, that of another run of this scenario, or if none does as they did, an unresolved
-        one. An unresolved run that does otherwise isn't made again, since it may have been ended after a minute."""
+        one. A run without a verdict, or that was ended at its time, isn't made again."""
         if not self.depth:
             return outcome
         first = parting = self.repeats.take(outcome)
         for _ in range(MORE_RUNS):
-            if parting and outcome.verdict != UNRESOLVED:
+            if parting and outcome.verdict != UNRESOLVED and not outcome.is_late:
                 outcome = self.run(outcome.scenario, LooksUp.NONE)
                 parting = self.repeats.take(outcome)
         if parting:
@@ -196,7 +197,7 @@ class Decider:
         """The outcome of a run that ends at a hit. If there is no change between two hits, such as two reads, a run that ends at either leaves the same."""
         if "again" in self.harness.steps or hit > len(record.points):
             return self.finish(record, hit, text, LooksUp.ALL)
-        place = key, *record.place(hit), *(piece for piece in text.split(";") if piece.strip().startswith(POWER))
+        place = key, *record.place(hit), noted_crash(record.run, hit), *(piece for piece in text.split(";") if piece.strip().startswith(POWER))
         if place in self.places:
             return self.places[place].outcome_at(hit, text, trace_of(record.run)[:hit])
         outcome = self.finish(record, hit, text, LooksUp.ALL)
@@ -220,7 +221,7 @@ class Decider:
     def finish(self, record: Record, hit: int, text: str, looks_up: LooksUp) -> Outcome | None:
         """Cuts the power of a run at that hit, runs `again` if the harness has one, and judges what is left."""
         if record.why:
-            return Outcome(text, Judgement(UNRESOLVED, record.why), trace_of(record.run), errors=last_lines(record.folder / "errors"))
+            return self.ended_early(text, record.why, record.run)
         try:
             outcome = self.finished(record, hit, text, looks_up)
         except TooLarge as found:
@@ -229,6 +230,25 @@ class Decider:
             outcome.status = record.status
         if not self.depth:
             meet(outcome, record.folder)
+        return outcome
+
+    def ended_early(self, text: str, why: str, run: Path) -> Outcome:
+        """The outcome of a run that was ended for this reason. If it took too long, and the run that it grew from ended by itself, it hangs."""
+        trace, is_late = trace_of(run), why == self.runner.late
+        hangs = is_late and self.depth and "hung" not in self.harness.allowed and self.repeats.grows_from_whole(trace)
+        return Outcome(text, Judgement(HUNG if hangs else UNRESOLVED, why), trace, errors=last_lines(run.parent / "errors"), is_late=is_late)
+
+    def crash(self, record: Record, hit: int) -> str:
+        """The crash of a process in a run that ends at that hit, or an empty text."""
+        if hit <= len(record.points):
+            return noted_crash(record.run, hit)
+        return noted_crash(record.run) or told_crash("run", record.status, record.folder / "errors", 0, record.wrote)
+
+    def with_crash(self, outcome: Outcome, run: Path, crash: str) -> Outcome:
+        """The outcome of a run of which a process crashed, or none if the text is empty. What a judge says of it comes first."""
+        if crash and outcome.verdict == PASS and "crashed" not in self.harness.allowed:
+            outcome.judgement = replace(outcome.judgement, verdict=CRASHED, why=crash)
+            outcome.pending += self.tools.pending(run)
         return outcome
 
     def finished(self, record: Record, hit: int, text: str, looks_up: LooksUp) -> Outcome | None:
@@ -245,24 +265,28 @@ class Decider:
             said = said if length < 0 else said[:length]
         record.is_cut = True
         if "again" in self.harness.steps:
-            return self.go_on(record, run, text, said, looks_up)
-        return self.cut_and_judge(record.folder, run, text, said, looks_up, lays_states=is_end)
+            outcome = self.go_on(record, run, text, said, looks_up)
+        else:
+            outcome = self.cut_and_judge(record.folder, run, text, said, looks_up, lays_states=is_end)
+        return self.with_crash(outcome, run, self.crash(record, hit))
 
     def go_on(self, record: Record, run: Path, text: str, said: bytes, looks_up: LooksUp) -> Outcome:
         """Runs recovery under the same scenario, from what the power cut left."""
-        more = record.said_again
+        more, errors = record.said_again, record.folder / "errors"
         more.unlink(missing_ok=True)
+        begun = length_of(errors)
         state = [self.asking, text] if self.asking else ["lasting"]
         pending = self.tools.pending(run) if "power::" in text else []
         if not self.tools.cut(run, record.data, *state, goes_on=True):
             return Outcome(text, Judgement(UNRESOLVED, "the scenario has a pause"), trace_of(run))
         (run / MARKS).touch()
-        _, why = self.runner.under("again", run, record.folder, text, more)
+        status, why = self.runner.under("again", run, record.folder, text, more)
         if why:
-            return Outcome(text, Judgement(UNRESOLVED, why), trace_of(run))
+            return self.ended_early(text, why, run)
+        crash = noted_crash(run) or told_crash("again", status, errors, begun, length_of(errors))
         outcome = self.cut_and_judge(record.folder, run, text, said + more.read_bytes(), looks_up, lays_states=True)
         outcome.pending = pending + outcome.pending
-        return outcome
+        return self.with_crash(outcome, run, crash)
 
     def cut_and_judge(self, folder: Path, run: Path, text: str, said: bytes, looks_up: LooksUp, lays_states: bool) -> Outcome:
         """Judges each state that a power cut may leave, up to the first that breaks a promise."""

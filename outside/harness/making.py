@@ -14,7 +14,7 @@ from .shown import show, until_nobody_reads, write_out
 from .words import ASK_HELP, Usage, as_called, usage_of, write_help
 
 CANNOT = 1  # the exit status if the folder can't be made, or the command can't be run
-NAMES = {"prepare", "run", "again", "judge", "unjudged", "harness.py", "settings.toml", "expected", "message", *WRITTEN}  # that have a meaning in a harness
+NAMES = {"prepare", "run", "again", "judge", "unjudged", "allowed", "harness.py", "settings.toml", "expected", "message", *WRITTEN}  # that have a meaning in a harness
 
 PREPARE = """#!/bin/sh
 # Fills the folder of the data, in which this script starts. What is there when it ends is on the disk, and each run begins with a copy of it.

@@ -30,6 +30,7 @@ class Outcome:
     said: bytes = b""  # the promises
     errors: str = ""  # the last lines on standard error: of the judge if it fails, otherwise of the program
     knows_hits: bool = True
+    is_late: bool = False  # its run was ended at its time, so its hits are those up to that moment
     parting: Parting | None = None  # where its run, or the first of its runs, did otherwise than the runs before
     differs_from: "Outcome | None" = None  # what was derived from another run, if the run of its own came out otherwise
 

@@ -8,6 +8,7 @@ The runs so far are a tree, as `paklour` makes one of their answers. Its first b
 import threading
 from dataclasses import dataclass, field
 
+from .judging import HUNG, UNRESOLVED
 from .outcome import Outcome, Parting
 from .scenario import Scenario, Unreadable, points_of
 
@@ -122,6 +123,13 @@ class Repeats:
                 return parting
             begin += len(part)
         return None
+
+    def grows_from_whole(self, trace: Trace) -> bool:
+        """Whether the run that this one grew from ended by itself, with a verdict. It is the last known one that has all of its faults but some of
+        the last: a sticky fault grows from the run with the fault once."""
+        parts = parts_of(trace)
+        before = [branch.verdict for branch in self.path(parts)[:len(parts) - 1] if branch.verdict]
+        return bool(before) and before[-1] not in (UNRESOLVED, HUNG)
 
     def path(self, parts: list[Trace]) -> list[Branch]:
         """The branches that a run follows, as far as there are any."""

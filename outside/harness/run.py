@@ -18,7 +18,7 @@ from .record import Record
 from .room import Room, TooLarge
 from .served import Served
 from .shown import show
-from .trace import POINTS, trace_of
+from .trace import POINTS, length_of, trace_of
 from .work import Work
 
 TIME_IS_UP, CANNOT, NOT_FOUND = 124, 125, 127  # how `within` ends. A program of the harness may have these statuses too
@@ -33,6 +33,7 @@ class Runner:
         self.processes = processes
         self.room = room
         self.seconds = room.bounds.seconds
+        self.late = f"it was ended after {self.seconds} seconds (--seconds)"  # why a run is unresolved that took too long
         self.outer = dict(os.environ)
         self.tools = Tools(room)
         self.count = 0
@@ -63,7 +64,7 @@ class Runner:
         if passed:
             return process.returncode, passed
         if process.returncode == TIME_IS_UP and time.monotonic() - begun >= self.seconds:
-            return process.returncode, f"it was ended after {self.seconds} seconds (--seconds)"
+            return process.returncode, self.late
         if process.returncode in (CANNOT, NOT_FOUND) and (told := last_line(folder / "errors")).startswith("within: "):
             raise Stopped(f"{words[-1]} can't be run: {told}")
         return process.returncode, ""
@@ -112,7 +113,7 @@ class Runner:
             raise Stopped(f"the files that prepare made: {found}") from found
         status, why = self.under("run", folder / "run", folder, scenario, folder / "said")
         points = [sys.intern(hit[1]) for hit in trace_of(folder / "run")]  # interned, since each run keeps such a list of the same few texts
-        return Record(folder, scenario, status, why, points)
+        return Record(folder, scenario, status, why, points, length_of(folder / "errors"))
 
 
 def last_line(path: Path) -> str:

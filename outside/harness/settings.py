@@ -7,7 +7,7 @@ import tomllib
 from pathlib import Path
 
 from .answers import Answers, Stopped
-from .definition import Harness
+from .definition import FAILURES, Harness
 from .shown import plain, show
 
 MADE_BY = "# Made by paklour-loop."
@@ -93,6 +93,8 @@ class Settings:
         if not answer.startswith("fail ") or (code := code_of(answer)) in self.codes:
             return
         if not self.is_made:
+            if code in FAILURES:
+                raise Stopped(f"a run {code}: add the code {code} to the codes of {self.path}, or name it in `allowed` of the harness")
             raise Stopped(f"the judge printed the code {code}: add it to the codes of {self.path}")
         if len(self.codes) == MOST_CODES:
             raise Stopped(f"the judge printed the code {code}, but settings have at most {MOST_CODES} codes: its first line should only name the promise that "

@@ -13,7 +13,7 @@ from .answers import DIFFERS, Answers, Stopped, changed
 from .campaign import Campaign
 from .deciding import OTHERWISE, Decider
 from .definition import Harness
-from .judging import PASS, UNRESOLVED
+from .judging import CRASHED, PASS, UNRESOLVED
 from .outcome import Outcome
 from .paklour import Paklour
 from .run import NOT_FOUND, Runner
@@ -72,9 +72,6 @@ class Whole:
         self.flaky: list[str] = []  # what is told of each run that did otherwise than the run that it grew from, until it was made again
         self.is_same = True  # whether no second run came out otherwise than the first
         self.has_told_size = answers.count > 0
-        if settings.depth:
-            for line in answers.lines():
-                decider.repeats.take_answer(line)
 
     # ---- as an engine
 
@@ -141,7 +138,8 @@ class Whole:
         show("\n".join(f"judge: {line}" for line in outcome.errors.splitlines()))
         for change in outcome.pending:
             show(f"pending: {' '.join(change)}")
-        self.tell_trust(is_pending=bool(outcome.pending))
+        if outcome.verdict != CRASHED:
+            self.tell_trust(is_pending=bool(outcome.pending))
         raise Enough
 
     def tell_trust(self, is_pending: bool) -> None:
@@ -225,9 +223,9 @@ class Whole:
         groups: Counter[str] = Counter()
         for outcome in self.workers.run_again(["none", *scenarios]):
             line = lines[outcome.scenario]
-            if outcome.answer(self.settings.depth > 0) != line:
+            if outcome.answer(self.settings.depth > 0) != line and not (outcome.is_late and line.startswith(f"{outcome.verdict}\t")):
                 self.tell_difference(line.split("\t")[0], line.split("\t")[-1], outcome)
-            elif outcome.parting:
+            elif outcome.parting and not outcome.is_late:
                 self.is_same = False
                 show(f"loop: the run did otherwise than before: {outcome.parting}: {outcome.scenario}")
             elif outcome.scenario != "none":
@@ -265,5 +263,9 @@ def findings(report: bytes, codes: list[str]) -> list[str]:
     return list(dict.fromkeys(found))
 
 
-def decider_of(runner: Runner, settings: Settings, every_run: bool) -> Decider:
-    return Decider(runner, settings.asking(), settings.depth, every_run)
+def decider_of(runner: Runner, settings: Settings, every_run: bool, answers: Answers) -> Decider:
+    decider = Decider(runner, settings.asking(), settings.depth, every_run)
+    if settings.depth:
+        for line in answers.lines():
+            decider.repeats.take_answer(line)
+    return decider
