@@ -15,7 +15,7 @@ from .deciding import OTHERWISE, Decider
 from .definition import Harness
 from .judging import CRASHED, PASS, UNRESOLVED
 from .outcome import Outcome
-from .paklour import Paklour
+from .paklour import MOST_PLANS, Paklour, TooManyPlans
 from .run import NOT_FOUND, Runner
 from .settings import Settings
 from .shard import Shard, places_in, scenario_in
@@ -96,6 +96,8 @@ class Whole:
         more = sum(2 * math.comb(hits, faults) for faults in range(2, self.settings.depth + 1))
         rest = f", and perhaps {more} more up to depth {self.settings.depth}" if more else ""
         show(f"loop: {len(asked)} plans" + " with one fault" * (self.settings.depth > 0) + rest)
+        if more + len(asked) >= MOST_PLANS:
+            show(f"loop: a campaign may have {MOST_PLANS} plans. If there are more, the report is of a lower depth: so take one, or fewer points or kinds")
 
     def tell(self, outcome: Outcome) -> None:
         if outcome.parting and outcome.knows_hits:
@@ -165,10 +167,24 @@ class Whole:
         for point, why in self.settings.refused_points():
             raise Stopped(f"{self.settings.path}: {point}: {why}")
         try:
-            campaign.grow(mine=self.mine if self.asked.shard else None)
+            self.grow(campaign)
             return self.report() if not self.asked.shard else self.end_of_shard()
         except Enough:
             return self.end_early()
+
+    def grow(self, campaign: Campaign) -> None:
+        """Tries scenarios until none is left. If there are more plans than a campaign may have, it goes on to a lower depth."""
+        while True:
+            try:
+                return campaign.grow(mine=self.mine if self.asked.shard else None)
+            except TooManyPlans:
+                if self.settings.depth < 2:
+                    raise
+                self.settings.lower()
+                self.paklour.settings = str(self.settings.path)
+                depth = self.settings.depth
+                show(f"loop: depth {depth + 1} has more than {MOST_PLANS} plans, so this campaign goes to depth {depth}: plans with up to {depth} "
+                    f"fault{'s' * (depth > 1)} are tried whole, and the report is of these")
 
     def mine(self, asked: list[str]) -> list[str]:
         places = places_in(self.answers)
