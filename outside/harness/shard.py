@@ -31,9 +31,9 @@ class Shard:
 def shard_of(text: str) -> Shard:
     """Reads a share such as 2/8."""
     number, _, count = text.partition("/")
-    shard = Shard(whole_number(number), whole_number(count))
+    shard = Shard(whole_number(number, "--shard"), whole_number(count, "--shard"))
     if shard.number > shard.count:
-        raise Usage(text)
+        raise Usage(f"--shard {text}: there are only {shard.count} shares")
     return shard
 
 

@@ -458,7 +458,7 @@ class Stopped(Campaigns):
 
     def test_by_a_signal(self):
         """All that runs is ended, and no folder of a run is left."""
-        self.assertEqual(self.stopped(signal.SIGTERM), 2)
+        self.assertEqual(self.stopped(signal.SIGTERM), 128 + signal.SIGTERM)
         self.assertFalse(self.is_running())
         self.assertEqual(list(self.here.glob("paklour-*")), [])
 
