@@ -3,7 +3,8 @@
 For example, six threads that write six files in another order each time have the same hits, but not on the same files. A program may also make files
 of names that no other run has, such as names with a time in them: such a name only has to stand for the same name each time.
 
-The runs so far are a tree, as `paklour` makes one of their answers. Its first branch is the run without faults, and where a fault acts another branch begins."""
+The runs so far are a tree, as `paklour` makes one of their answers. Its first branch is the run without faults, and where a fault acts another branch
+begins."""
 
 import threading
 from dataclasses import dataclass, field

@@ -28,8 +28,8 @@ LOOK_SHARE = 200  # checking the answers takes one part in so many of the time: 
 ALWAYS = "--page"
 FORMS = {ALWAYS: "page.html", "--junit": "junit.xml", "--json": "report.json"}
 TRUSTS = {  # what FAULTS_SYNC may be, and what that means
-    "journal": "a sync of anything makes earlier changes of names last, as ext4, XFS and Btrfs do by default",
-    "names": "a file's own sync makes its name last too",
+    "names": "a file's own sync makes its name last too, and no other, as on Btrfs",
+    "journal": "any sync makes earlier changes of names last, as an fsync of a file that was changed does on ext4 and XFS, but not on Btrfs",
 }
 
 

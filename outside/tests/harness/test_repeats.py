@@ -40,7 +40,8 @@ class NotTheSame(Campaigns):
     def test_hits_that_differ_from_the_second_run_on(self):
         done, answers, _ = self.campaign("[ $count -eq 1 ] || mkdir more\n" + WRITES)
         self.assertEqual(done.status, 5, done.told)
-        self.assertEqual({scenario for scenario, verdict in answers.items() if verdict == "unresolved"}, {"sys::open=1*return", "sys::open=1*off->1*return", "power::keep=return"})
+        unresolved = {scenario for scenario, verdict in answers.items() if verdict == "unresolved"}
+        self.assertEqual(unresolved, {"sys::open=1*return", "sys::open=1*off->1*return", "power::keep=return"})
         self.assertIn("\nunresolved: in 4 runs it did otherwise than the run that it grew from: "
             "hit 1 was sys::open (a), and now is sys::mkdir (more): sys::open=1*return\n", done.told)
         self.assertIn("\nloop: 2 more plans are unresolved for this reason: ", done.told)
@@ -117,7 +118,8 @@ class Steps(unittest.TestCase):
         self.assertEqual(self.parting("open y1", "open x1", "sync x1"), "hit 1 was open (x1), and now is open (y1)")
 
     def test_answers_of_an_earlier_call_have_no_files(self):
-        for line in ("pass\tnone\topen;write;sync", "pass\twrite=1*return\topen;write;unlink", "unresolved\topen=return\t-", "pass\ta=50%return\ta", "pass\tb=1*return"):
+        for line in ("pass\tnone\topen;write;sync", "pass\twrite=1*return\topen;write;unlink", "unresolved\topen=return\t-", "pass\ta=50%return\ta",
+                "pass\tb=1*return"):
             self.assertIsNone(self.repeats.take_answer(line))
         self.assertEqual(str(self.repeats.take_answer("pass\tsync=1*return\topen;sync")), "hit 2 was write, and now is sync")
         self.assertEqual(self.parting("open a", "write a return", "unlink a"), "")
