@@ -137,9 +137,9 @@ class Whole:
             return
         self.tell_failure(outcome)
         self.found = ["none"]  # then no other failure means anything
-        show("\n".join(f"judge: {line}" for line in outcome.errors.splitlines()))
         for change in outcome.pending:
             show(f"pending: {' '.join(change)}")
+        show("\n".join(f"judge: {line}" for line in outcome.errors.splitlines()))
         if outcome.verdict != CRASHED:
             self.tell_trust(is_pending=bool(outcome.pending))
         raise Enough

@@ -55,7 +55,7 @@ class Fails(Campaigns):
         judge = JUDGES.replace("{ echo lost", "{ echo no note >&2; echo lost")
         folder = self.harness(run=SAVES.replace(" && sync .", ""), judge=judge)
         told = self.loop("-j", 2, folder).told
-        self.assertIn("judge: no note\npending: ", told.replace("judge: cat: note: No such file or directory\n", ""))
+        self.assertRegex(told, r"\npending: .*\njudge: cat: note: No such file or directory\njudge: no note\nloop: ")
         self.assertNotIn("no change is pending", told)
 
 
