@@ -14,11 +14,11 @@ from .processes import WITHIN
 from .programs import check_built
 from .run import TIME_IS_UP
 from .shown import show, until_nobody_reads, write_out
-from .words import ASK_HELP, Usage, as_called, usage_of, write_help
+from .words import ASK_HELP, Usage, as_called, refused, write_help
 
 CANNOT = 1  # the exit status if the folder can't be made, or the command can't be run
 SECONDS = 60  # that a run without faults may take, as in a campaign without --seconds
-NAMES = {"prepare", "run", "again", "judge", "unjudged", "harness.py", "settings.toml", "expected", "message", *WRITTEN}  # that have a meaning in a harness
+NAMES = {"prepare", "run", "again", "judge", "unjudged", "allowed", "harness.py", "settings.toml", "expected", "message", *WRITTEN}  # that have a meaning in a harness
 
 PREPARE = """#!/bin/sh
 # Fills the folder of the data, in which this script starts. What is there when it ends is on the disk, and each run begins with a copy of it.
@@ -155,11 +155,15 @@ def link(program: str, folder: Path) -> None:
 def words_of(words: list[str]) -> tuple[str, str, Path, list[str]]:
     """The form of the harness, the line that says that a server is ready, the harness's folder, and the command."""
     form, line = "command", ""
+    if words == ["--server"]:
+        raise Usage("--server: its value is missing")
     if words[:1] == ["--server"]:
-        form, line, words = "server", *words[1:2], words[2:]
+        form, line, words = "server", words[1], words[2:]
     elif words[:1] == ["--mail"]:
         form, words = "mail", words[1:]
-    if len(words) < 2 or words[0].startswith("-"):
+    if words and words[0].startswith("-"):
+        raise Usage(f"{words[0]}: there is no such option")
+    if len(words) < 2:
         raise Usage
     if not (program := shutil.which(words[1])):
         raise Stopped(f"there is no such program: {words[1]}", CANNOT)
@@ -212,9 +216,8 @@ def perform(new: str, words: list[str]) -> int:
         check_built()
         make(form, line, folder, command)
         write_out(f"{shlex.join([loop_beside(new), str(folder)])}\n".encode("utf-8", "surrogateescape"))
-    except (Usage, ValueError):
-        show(usage_of(new))
-        return 2
+    except Usage as usage:
+        return refused(new, usage)
     except Stopped as stopped:
         show(f"new: {stopped.line}")
         return stopped.status

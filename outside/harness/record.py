@@ -5,13 +5,6 @@ from pathlib import Path
 
 from .trace import MARKS
 
-LAST = 3  # so many lines of a step's standard error are shown
-
-
-def lines_from(path: Path, at: int = 0) -> list[str]:
-    """The lines of a file from that byte on, if the file is there, without the blank ones at its end."""
-    return path.read_bytes()[at:].decode("utf-8", "replace").strip().splitlines() if path.exists() else []
-
 
 @dataclass
 class Record:
@@ -20,6 +13,7 @@ class Record:
     status: int
     why: str  # why the run has no verdict, or an empty text
     points: list[str]
+    wrote: int = 0  # the bytes that `run` wrote to standard error
     is_cut: bool = False
 
     @property
@@ -46,7 +40,3 @@ class Record:
 
     def said(self) -> bytes:
         return (self.folder / "said").read_bytes()
-
-    def last_errors(self) -> list[str]:
-        """The last lines that its programs wrote to standard error."""
-        return lines_from(self.folder / "errors")[-LAST:]

@@ -6,6 +6,7 @@ import os
 import subprocess
 import sys
 import threading
+import time
 from collections.abc import Iterator
 from dataclasses import replace
 from pathlib import Path
@@ -16,16 +17,16 @@ from .definition import Harness
 from .disk import disk_of
 from .processes import WITHIN, Processes
 from .programs import Tools
-from .record import LAST, Record, lines_from
+from .record import Record
 from .room import Room, TooLarge
 from .served import Served
-from .shown import show
+from .shown import last_lines, show
 from .trace import POINTS, length_of, trace_of
 from .work import CLOSED, OPEN, Work, is_taken_away
 
 PREPARED = "prepared"  # the folder in which `prepare` was run
-TIME_IS_UP, CANNOT, NOT_FOUND = 124, 125, 127  # how `within` ends
-MAPPED = "each store into the mapping of"  # as the supervisor says that a program maps a file
+TIME_IS_UP, CANNOT, NOT_FOUND = 124, 125, 127  # how `within` ends. A program of the harness may have these statuses too
+MAPPED = b"each store into the mapping of"  # as the supervisor says that a program maps a file
 NO_CALL = "any call under FAULTS_ROOT"  # as it says that a step never used its data
 
 
@@ -38,6 +39,7 @@ class Runner:
         self.processes = processes
         self.room = room
         self.seconds = room.bounds.seconds
+        self.late = f"it was ended after {self.seconds} seconds (--seconds)"  # why a run is unresolved that took too long
         self.outer = dict(os.environ)
         self.tools = Tools(room)
         self.count = 0
@@ -72,6 +74,7 @@ class Runner:
 
     def start(self, words: list[str], folder: Path, said: Path, **variables: str) -> tuple[int, str]:
         """Runs a step in the data's folder. Returns its status, and the reason if the run is unresolved by it."""
+        begun = time.monotonic()
         with self.step(folder, **variables) as environment:
             with open(said, "ab") as output, open(folder / "errors", "ab") as errors:
                 process = self.processes.start([str(WITHIN), str(self.seconds), "-", *words], cwd=folder / "data", stdin=subprocess.DEVNULL,
@@ -82,10 +85,10 @@ class Runner:
                 self.processes.ended(process)
         if passed:
             return process.returncode, passed
-        if process.returncode == TIME_IS_UP:
-            return process.returncode, f"it was ended after {self.seconds} seconds (--seconds)"
-        if process.returncode in (CANNOT, NOT_FOUND):
-            raise Stopped(f"{words[-1]} can't be run: {last_of(lines_from(folder / 'errors'))}")
+        if process.returncode == TIME_IS_UP and time.monotonic() - begun >= self.seconds:
+            return process.returncode, self.late
+        if process.returncode in (CANNOT, NOT_FOUND) and last_line(folder / "errors").startswith("within: "):
+            raise Stopped(f"{words[-1]} can't be run: {in_a_line(last_lines(folder / 'errors'))}")
         return process.returncode, ""
 
     def judged(self, folder: Path, output: Path, **variables: str) -> tuple[int, str]:
@@ -103,7 +106,7 @@ class Runner:
         if "prepare" in self.harness.steps:
             status, why = self.start(self.harness.steps["prepare"], folder, folder / "said")
             if status or why:
-                raise Stopped(f"prepare failed: {why or f'it ended with {status}'}: {last_of(lines_from(folder / 'errors'))}")
+                raise Stopped(f"prepare failed: {why or f'it ended with {status}'}: {in_a_line(last_lines(folder / 'errors'))}")
         folder.rename(self.work.folder / PREPARED)
         self.room.hold(tree.size(self.prepared))
         self.room.end(folder, 0)
@@ -114,7 +117,8 @@ class Runner:
         """Makes the run without faults in memory, and lets runs lie on a disk if the program maps its files. For example, MariaDB takes a log in memory
         for persistent memory, and never syncs it."""
         self.first = self.room.within(lambda: self.make("none"))
-        maps = any(MAPPED in line for line in lines_from(self.first.folder / "errors"))
+        with open(self.first.folder / "errors", "rb") as errors:
+            maps = any(MAPPED in line for line in errors)
         self.work.decide(needs_disk=maps)
         if maps:
             self.room.end(self.first.folder, 0)
@@ -144,7 +148,7 @@ class Runner:
         status, why = self.start(words, folder, said, FAILPOINTS=scenario, FAULTS_ROOT=str(folder / "data"), FAULTS_RUN=str(run),
             POINTS_TRACE=str(folder / POINTS))
         if status == programs.REFUSED:
-            why = why_refused(step, lines_from(folder / "errors", before))
+            why = why_refused(step, last_lines(folder / "errors", before))
         if status == programs.PAUSED:
             why = "the scenario has a pause"
         return status, why
@@ -167,22 +171,24 @@ class Runner:
             raise Stopped(f"the files that prepare made: {found}") from found
         status, why = self.under("run", folder / "run", folder, scenario, folder / "said")
         points = [sys.intern(hit[1]) for hit in trace_of(folder / "run")]  # interned, since each run keeps such a list of the same few texts
-        return Record(folder, scenario, status, why, points)
+        return Record(folder, scenario, status, why, points, length_of(folder / "errors"))
 
 
 def last_line(path: Path) -> str:
-    lines = lines_from(path)
-    return lines[-1] if lines else ""
+    return last_lines(path).rpartition("\n")[2]
 
 
-def last_of(lines: list[str]) -> str:
-    return "; ".join(lines[-LAST:])
+def in_a_line(lines: str) -> str:
+    return "; ".join(lines.splitlines())
 
 
-def why_refused(step: str, errors: list[str]) -> str:
-    """Why the supervisor refused a step. If the step never used its data, the lines before say more, such as that its program isn't there."""
-    *before, last = errors or [f"{step} ended with {programs.REFUSED}"]
-    return f"{step} made no call on its data: {last_of(before)}" if before and NO_CALL in last else last
+def why_refused(step: str, errors: str) -> str:
+    """Why the supervisor refused a step, by its last lines. If the step never used its data, the lines before say more, such as that its program isn't
+    there."""
+    before, _, last = errors.rpartition("\n")
+    if before and NO_CALL in last:
+        return f"{step} made no call on its data: {in_a_line(before)}"
+    return last or f"{step} ended with {programs.REFUSED}"
 
 
 def tell_errors(path: Path) -> None:

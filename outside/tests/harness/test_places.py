@@ -32,6 +32,11 @@ printf new > note
 [ "$(stat -c %d .)" = "$(stat -c %d /dev/shm)" ] || sync note .
 echo saved
 """
+# As one whose call the file system in memory doesn't have.
+FAILS_IN_MEMORY = """#!/bin/sh
+[ "$(stat -c %d .)" = "$(stat -c %d /dev/shm)" ] && : > note && exit 3
+printf new > note && sync note . && echo saved
+"""
 
 
 class Places(Campaigns):
@@ -74,7 +79,14 @@ class Places(Campaigns):
     def test_a_program_that_does_something_else_in_memory(self):
         done = self.loop("-j", 2, "--no-kinds", self.harness(run=UNSYNCED_IN_MEMORY, judge=JUDGES))
         self.assertEqual(done.status, 1)
-        self.assertIn(f"pending: 1 create note -\npending: 2 write note 3 at 0\nloop: the run without faults passes on a disk: set TMPDIR={self.places[1]}\n",
+        self.assertIn("pending: 1 create note -\npending: 2 write note 3 at 0\njudge: ", done.told)
+        self.assertIn(f"\nloop: the run without faults passes on a disk: set TMPDIR={self.places[1]}\n", done.told)
+
+    def test_a_program_that_fails_in_memory(self):
+        """It is refused, with the hint."""
+        done = self.loop("-j", 2, "--no-kinds", self.harness(run=FAILS_IN_MEMORY, judge=JUDGES))
+        self.assertEqual(done.status, 2)
+        self.assertIn(f"loop: the run without faults passes on a disk: set TMPDIR={self.places[1]}\nloop: the run without faults is refused: `run` ended with 3",
             done.told)
 
     def test_any_other_program(self):

@@ -9,6 +9,7 @@ for number in 1 2 3; do
     echo $number > "$TMPDIR/number"
     echo $number > "file$number"
 done
+echo left
 """
 FINDS = '#!/bin/sh\n[ -z "$(ls -A "$TMPDIR")" ] || { echo "found$(cat "$TMPDIR"/*)"; exit 1; }\necho judged > "$TMPDIR/number"\n'
 FINDS_IN_PYTHON = """import os
