@@ -1,4 +1,5 @@
-/* within SECONDS BYTES COMMAND [WORD..]: runs a command in a session of its own, and when that ends, ends all that it started, in any session.
+/* within SECONDS BYTES COMMAND [WORD..]: runs a command in a session of its own, and when that ends, ends all that it started, in any session. If root
+   runs it, the command also has shared memory, semaphores and message queues (System V) of its own, which end with its last process.
 
    After SECONDS the command's group gets a TERM. If the command hasn't ended five seconds later, everything is killed. The same happens if this
    program gets a HUP, INT or TERM, if the process that started it has ended, or if descriptor 3 is a pipe that nobody reads any more. Processes
@@ -14,6 +15,7 @@
 #include <errno.h>
 #include <fcntl.h>
 #include <poll.h>
+#include <sched.h>
 #include <signal.h>
 #include <stdbool.h>
 #include <stdio.h>
@@ -61,6 +63,7 @@ static void start(struct run *run, char **words, const sigset_t *signals_before)
         return;
     }
     setsid();
+    unshare(CLONE_NEWIPC); /* only root may; for other users the command goes on with the shared memory of the system */
     sigprocmask(SIG_SETMASK, signals_before, NULL);
     if (ends[1] >= 0) dup2(ends[1], STDOUT_FILENO);
     execvp(words[0], words);

@@ -49,7 +49,7 @@ static void write_name(FILE *out, int folder, const char *name, const struct key
     char kind = S_ISDIR(key->mode) ? 'd' : S_ISREG(key->mode) ? 'c' : S_ISLNK(key->mode) ? 'l' : 0;
     if (!kind) return; /* a socket or a device */
     write_key(text, key);
-    fprintf(out, "%c %o %s %s%c", kind, key->mode & 07777, text, name, 0);
+    fprintf(out, "%c %o %u %u %s %s%c", kind, key->mode & 07777, key->owner, key->group, text, name, 0);
     if (kind != 'l') return;
     ssize_t end = readlinkat(folder, name, target, sizeof target - 1);
     must(end >= 0, name);

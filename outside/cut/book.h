@@ -1,6 +1,6 @@
 /* A book records what a tree of files holds at one time. It is a folder with
      c/KEY   a file's contents
-     d/KEY   a folder's names: for each `KIND MODE KEY NAME` and a byte of zero, for a symbolic link then its target and
+     d/KEY   a folder's names: for each `KIND MODE OWNER GROUP KEY NAME` and a byte of zero, for a symbolic link then its target and
              another one; KIND is c, d or l
    KEY is the file's inode number and its time of birth, since numbers are used again. */
 #ifndef BOOK_H

@@ -40,22 +40,39 @@ void copy_whole(int in, int out, const char *path) {
     must(!ftruncate(out, (off_t)length), path);
 }
 
-/* The first place from `at` on at which one of the two has bytes, which may be zeros. */
-static uint64_t data_of_either(int one, int other, uint64_t at) {
-    uint64_t first = UINT64_MAX, second = UINT64_MAX, to;
-    next_data(one, at, &first, &to);
-    next_data(other, at, &second, &to);
-    return first < second ? first : second;
+/* A part of a file that isn't a hole. */
+struct data {
+    uint64_t from, to;
+};
+
+/* Goes on to the part that is at `at`, or behind it. A file system may look at all of a file to find its next hole, so it is asked once for each. */
+static void go_on_to(int file, uint64_t at, struct data *data) {
+    if (at >= data->to && !next_data(file, at, &data->from, &data->to)) *data = (struct data){UINT64_MAX, UINT64_MAX};
 }
 
+static bool same_part(int one, int other, uint64_t at, uint64_t end) {
+    char first[65536], second[sizeof first];
+    for (ssize_t got; at < end; at += (uint64_t)got) {
+        size_t length = end - at < sizeof first ? end - at : sizeof first;
+        got = pread(one, first, length, (off_t)at);
+        if (got <= 0 || got != pread(other, second, length, (off_t)at) || memcmp(first, second, (size_t)got)) return false;
+    }
+    return true;
+}
+
+/* Compares what isn't a hole in both of them. */
 bool same_bytes(int one, int other) {
-    char first[16384], second[16384];
+    struct data first = {0}, second = {0};
     uint64_t length = length_of(one, ""), at = 0;
     if (length != length_of(other, "")) return false;
-    while ((at = data_of_either(one, other, at)) < length) {
-        ssize_t got = pread(one, first, sizeof first, (off_t)at);
-        if (got <= 0 || got != pread(other, second, sizeof second, (off_t)at) || memcmp(first, second, (size_t)got)) return false;
-        at += (uint64_t)got;
+    while (at < length) {
+        go_on_to(one, at, &first);
+        go_on_to(other, at, &second);
+        uint64_t from = first.from < second.from ? first.from : second.from, end = first.to < second.to ? first.to : second.to;
+        if (at < from) at = from;
+        if (end > length) end = length;
+        if (at < end && !same_part(one, other, at, end)) return false;
+        at = end;
     }
     return true;
 }

@@ -84,6 +84,12 @@ struct laying {
     char path[LONG_PATH]; /* the path below the root of what is laid out now */
 };
 
+/* Gives a name its owner. This needs the rights of root, or an owner that the name has already; otherwise it belongs to who cuts. */
+static void give_owner(const struct file *file, int folder, const char *name, const char *path) {
+    int given = fchownat(folder, name, file->key.owner, file->key.group, AT_SYMLINK_NOFOLLOW);
+    must(!given || errno == EPERM || errno == EINVAL, path);
+}
+
 static void lay_file(const struct laying *laying, struct file *file, int folder, const char *name) {
     const struct replay *replay = laying->replay;
     int in, out = openat(folder, name, O_RDWR | O_CREAT | O_EXCL | O_NOFOLLOW | O_CLOEXEC, 0600);
@@ -94,6 +100,7 @@ static void lay_file(const struct laying *laying, struct file *file, int folder,
     } else {
         write_contents(replay, file, laying->contents == AS_THEY_ARE, out, laying->path);
     }
+    give_owner(file, folder, name, laying->path);
     must(!fchmod(out, file->key.mode & 07777) && !close(out), laying->path);
     file->laid = strdup(laying->path);
 }
@@ -104,6 +111,7 @@ static void lay_name(struct laying *laying, struct file *file, int folder, const
     const char *path = laying->path;
     if (S_ISLNK(file->key.mode)) {
         must(!symlinkat(file->target, folder, name), path);
+        give_owner(file, folder, name, path);
     } else if (!S_ISDIR(file->key.mode)) {
         if (file->laid) must(!linkat(laying->tree->folder, file->laid, folder, name, 0), path);
         else lay_file(laying, file, folder, name);
@@ -111,6 +119,7 @@ static void lay_name(struct laying *laying, struct file *file, int folder, const
         must(!mkdirat(folder, name, 0700), path);
         int below = open_below(laying->tree, folder, name);
         lay_folder(laying, file, below);
+        give_owner(file, folder, name, path);
         must(!fchmod(below, file->key.mode & 07777) && !close(below), path);
     }
 }

@@ -7,7 +7,7 @@
    folder's sync. A write of more than FAULTS_BLOCK bytes is one change for each aligned block, since a disk may tear it. A write with O_DSYNC or
    O_SYNC makes itself last, with the file's length and older writes inside of it. What else is in its block may last or not. A cut lays out the
    files as they were at the beginning, and over them, in order, the changes that last or are kept. Bytes before a kept write that nothing wrote are
-   zeros. Modes are those that the files have at the cut.
+   zeros. Modes and owners are those that the files have at the cut.
 
    A torn write: if `abcdefg` is kept and torn, `abc` is there, and a file that this write makes longer ends behind the `c`. For each kept write or
    store of two bytes or more, and for each block of a long write, the state `tear` hits power::tear behind power::keep. A return there leaves only

@@ -63,13 +63,13 @@ static void read_folder(struct replay *replay, struct file *folder, const char *
 static void read_name(struct replay *replay, FILE *note, const char *line, struct file *folder, const char *book, bool is_base) {
     char kind, text[KEY_TEXT];
     struct key key;
-    unsigned mode;
     int end = 0;
-    bool read = sscanf(line, "%c %o %63s%n", &kind, &mode, text, &end) == 3 && line[end] == ' ' && read_key(text, &key);
+    bool read = sscanf(line, "%c %o %u %u %63s%n", &kind, &key.mode, &key.owner, &key.group, text, &end) == 5 && line[end] == ' ' && read_key(text, &key);
     if (!read) refuse(line, "this note is damaged");
+    key.mode |= kind == 'd' ? S_IFDIR : kind == 'l' ? S_IFLNK : S_IFREG;
     struct file *file = file_of(replay, &key);
     struct name *name = name_of(replay, folder, line + end + 1);
-    if (!is_base || !file->key.mode) file->key.mode = mode | (kind == 'd' ? S_IFDIR : kind == 'l' ? S_IFLNK : S_IFREG);
+    if (!is_base) file->key = key;
     name->file = file;
     if (is_base) file->in_base = true;
     if (!file->known_folder) file->known_folder = folder, file->known_name = name->text;
@@ -212,7 +212,7 @@ static void add_names(struct replay *replay, const struct record *record) {
     struct file *file = file_of(replay, &note->file), *folder = file_of(replay, &note->folder);
     bool has_two = note->kind == RENAMED || note->kind == EXCHANGED;
     struct change change = {.kind = note->kind, .file = file, .folder = folder, .name = name, .noted = record->at};
-    file->key.mode = note->file.mode;
+    file->key = note->file;
     if (has_two) {
         change.other_folder = file_of(replay, &note->other_folder);
         change.other_name = other_name;

@@ -40,7 +40,7 @@ static void look_at(int folder, const char *name, struct statx *told) {
 static struct identity identity_of(const struct statx *told) {
     return (struct identity){
         .device = (uint64_t)told->stx_dev_major << 32 | told->stx_dev_minor,
-        .key = {told->stx_ino, told->stx_btime.tv_sec, told->stx_btime.tv_nsec, told->stx_mode},
+        .key = told_key(told),
     };
 }
 

@@ -118,7 +118,7 @@ void check_unseen(struct replay *replay, const struct state *state) {
     struct paths paths = unseen_paths(replay);
     if (!paths.count) return;
     const char *why = state->torn ? "the supervisor was killed as it noted a change"
-                                  : "by a program that wasn't under the supervisor, or by the script"
+                                  : "by a program that wasn't under the supervisor, by a call that it doesn't see, or by the script"
                                     " (then: powercut expect RUN NAME..)";
     fprintf(stderr, "powercut: changed, and nobody saw how: %s: %s\n", told_paths(&paths), why);
     if (!state->torn) exit(2);

@@ -1,8 +1,10 @@
 """The command `loop`: its arguments and its exit status."""
 
+import contextlib
 import os
 import shlex
 import signal
+from collections.abc import Iterator
 from pathlib import Path
 
 from . import definition, programs, script
@@ -10,6 +12,7 @@ from .answers import DIFFERS, Answers, Stopped, stopped_by
 from .bounds import Bounds
 from .campaign import Campaign
 from .disk import disk_of
+from .identity import noted
 from .paklour import Paklour
 from .processes import OUTSIDE, WITHIN, Processes
 from .records import Records
@@ -20,7 +23,7 @@ from .shard import join, shard_of
 from .shown import show, until_nobody_reads, write_out
 from .watching import watched
 from .whole import ALWAYS, FORMS, Asked, Whole, decider_of
-from .words import ASK_HELP, Usage, as_called, bytes_of, shows_progress, split, usage_of, whole_number, write_help
+from .words import ASK_HELP, Usage, as_called, bytes_of, refused, shows_progress, split, whole_number, write_help
 from .work import Note, Work
 
 OF_HARNESS = {"--depth", "--kinds", "--no-kinds", "--settings", "--into", "-x", "--failures", "--try", "--whole", "--page", "--junit", "--json",
@@ -31,8 +34,22 @@ WITH_VALUE = {"-j", "--seconds", "--engine", "--script", "--depth", "--try", "--
 FLAGS = {*ASK_HELP, "--strict", "--progress", *(OF_HARNESS | OF_SCRIPT) - WITH_VALUE}
 
 
+class Interrupted(Stopped):
+    """A signal ends the loop."""
+
+
 def on_signal(number: int, frame: object) -> None:
-    raise Stopped("")
+    raise Interrupted(f"stopped by {signal.Signals(number).name}", 128 + number)
+
+
+@contextlib.contextmanager
+def tells_what_is_kept(answers: Answers) -> Iterator[None]:
+    """If a signal ends the loop meanwhile, the line for a person says how many runs needn't be made again."""
+    try:
+        yield
+    except Interrupted as stopped:
+        stopped.line += f": {answers.count} answers are kept in {answers.path}, of which {answers.failing} fail; the same command goes on from there"
+        raise
 
 
 def tell_unbuilt() -> None:
@@ -51,7 +68,9 @@ def script_words(options: dict[str, str], rest: list[str]) -> tuple[str, str, st
     given, behind = (rest[:rest.index("--")], rest[rest.index("--") + 1:]) if "--" in rest else (rest, [])
     if "--script" in options:
         given = [*given, options["--script"]]
-    if len(given) != 3 or (behind and options.get("--engine") != "parallel"):
+    if behind and options.get("--engine") != "parallel":
+        raise Usage("--: words can stand behind it only with --engine parallel")
+    if len(given) != 3:
         raise Usage
     return given[0], given[1], given[2], behind
 
@@ -59,10 +78,9 @@ def script_words(options: dict[str, str], rest: list[str]) -> tuple[str, str, st
 def run_script(options: dict[str, str], rest: list[str], processes: Processes) -> int:
     settings, kept, name, behind = script_words(options, rest)
     refuse_others(options, OF_HARNESS, "a harness")
-    jobs = whole_number(options.get("-j", os.environ.get("PROCESSES") or "4"))
-    seconds = whole_number(options.get("--seconds", "300"))
+    jobs, seconds = jobs_of(options), number_of(options, "--seconds", "300")
     if options.get("--engine", "xargs") not in ("xargs", "parallel"):
-        raise Usage
+        raise Usage(f"--engine {options['--engine']}: the only engine is parallel")
     tell_unbuilt()
     answers = Answers(kept)
     paklour = Paklour(settings, answers)
@@ -73,8 +91,9 @@ def run_script(options: dict[str, str], rest: list[str], processes: Processes) -
         tries = script.Here(name, seconds, jobs, hits, processes=processes)
     campaign = Campaign(paklour, answers, tries, shows_progress(options))
     try:
-        campaign.grow()
-        return script_report(options, campaign, tries)
+        with tells_what_is_kept(answers):
+            campaign.grow()
+            return script_report(options, campaign, tries)
     finally:
         tries.end()
 
@@ -90,9 +109,9 @@ def script_report(options: dict[str, str], campaign: Campaign, tries: script.Tri
 
 
 def asked_of(loop: str, options: dict[str, str], path: str) -> Asked:
-    failures = 1 if "-x" in options else whole_number(options["--failures"]) if "--failures" in options else None
+    failures = 1 if "-x" in options else number_of(options, "--failures")
     words = [as_called(loop), path, *[word for name in ("--settings", "--into") if name in options for word in (name, options[name])]]
-    return Asked(shlex.join(words), whole_number(options.get("-j", os.environ.get("PROCESSES") or "4")), shows_progress(options),
+    return Asked(shlex.join(words), jobs_of(options), shows_progress(options),
         "--whole" not in options, "--strict" in options, [form for form in FORMS if form in {ALWAYS, *options}], failures,
         shard_of(options["--shard"]) if "--shard" in options else None)
 
@@ -111,32 +130,51 @@ def run_harness(loop: str, options: dict[str, str], path: str, processes: Proces
     note = None if "--try" in options else Note(answers, own, "--every-run" in options)
     if "--join" in options:
         join(Path(options["--join"]), own, answers)
-    settings = Settings(harness, folder, answers, options.get("--settings"), depth_of(options), kinds_of(options), keeps="--try" in options)
+    settings = Settings(harness, folder, answers, options.get("--settings"), number_of(options, "--depth"), kinds_of(options), keeps="--try" in options)
     harness.order = "next" if NEXT in settings.points else harness.order
-    work = Work(note)
+    work = Work(note, note.needs_disk if note else noted(Path(answers.path)).get("needs_disk"))
     try:
-        runner = Runner(harness, work, processes, room_of(options, work.folder.parent))
-        decider = decider_of(runner, settings, "--every-run" in options)
-        runner.prepare()
+        runner = Runner(harness, work, processes, room_of(options, work.place))
+        decider = decider_of(runner, settings, "--every-run" in options, answers)
         if "--try" in options:
+            runner.prepare()
             return watched(decider, options["--try"])
-        return Whole(harness, settings, decider, answers, asked).run()
+        with tells_what_is_kept(answers):
+            runner.prepare()
+            return Whole(harness, settings, decider, answers, asked).run()
     finally:
         processes.end()
         work.end()
 
 
-def room_of(options: dict[str, str], folder: Path) -> Room:
-    bounds = Bounds(whole_number(options.get("--seconds", "60")), bytes_of(options.get("--bytes", "1G")))
-    return Room(disk_of(str(folder)), bytes_of(options.get("--room", "1G")), bounds, Records())
+def room_of(options: dict[str, str], place: str) -> Room:
+    bounds = Bounds(number_of(options, "--seconds", "60"), bytes_of(options.get("--bytes", "1G"), "--bytes"))
+    return Room(disk_of(place), bytes_of(options.get("--room", "1G"), "--room"), bounds, Records())
 
 
-def depth_of(options: dict[str, str]) -> int | None:
-    return whole_number(options["--depth"]) if "--depth" in options else None
+def number_of(options: dict[str, str], name: str, default: str = "") -> int | None:
+    text = options.get(name, default)
+    return whole_number(text, name) if text or name in options else None
+
+
+def jobs_of(options: dict[str, str]) -> int:
+    name = "-j" if "-j" in options else "PROCESSES"
+    return whole_number(options.get("-j") or os.environ.get(name) or "4", name)
 
 
 def kinds_of(options: dict[str, str]) -> bool | None:
     return True if "--kinds" in options else False if "--no-kinds" in options else None
+
+
+def check_numbers(options: dict[str, str]) -> None:
+    """Refuses numbers that aren't any, before something is made."""
+    jobs_of(options)
+    for name in ("--seconds", "--depth", "--failures"):
+        number_of(options, name)
+    for name in {"--room", "--bytes"} & options.keys():
+        bytes_of(options[name], name)
+    if "--shard" in options:
+        shard_of(options["--shard"])
 
 
 def main(loop: str, words: list[str]) -> int:
@@ -148,6 +186,7 @@ def perform_words(loop: str, words: list[str], processes: Processes) -> int:
         options, rest = split(words, WITH_VALUE, FLAGS)
         if options.keys() & set(ASK_HELP):
             return write_help(loop)
+        check_numbers(options)
         if len(rest) == 1 and "--script" not in options:
             return run_harness(loop, options, rest[0], processes)
         return run_script(options, rest, processes)
@@ -161,9 +200,8 @@ def perform(loop: str, words: list[str]) -> int:
         signal.signal(number, on_signal)
     try:
         return perform_words(loop, words, processes)
-    except Usage:
-        show(usage_of(loop))
-        return 2
+    except Usage as usage:
+        return refused(loop, usage)
     except Stopped as stopped:
         if stopped.line:
             show(f"loop: {stopped.line}")

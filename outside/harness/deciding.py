@@ -5,34 +5,28 @@ with the other faults is made once, and the rest is laid out from its notes. One
 and must come out alike."""
 
 import hashlib
-import shutil
 import threading
 from dataclasses import dataclass, replace
 from pathlib import Path
 
 from . import tree
-from .answers import DIFFERS, Stopped, changed
+from .crashes import noted_crash, told_crash
 from .definition import ALL_STATES, Harness
-from .judging import PASS, UNRESOLVED, Judge, Judgement, LooksUp
+from .judging import CRASHED, HUNG, PASS, UNRESOLVED, Judge, Judgement, LooksUp
 from .outcome import Outcome
 from .record import Record
 from .records import Key, key_of, lasting_faults
+from .repeats import Repeats
 from .room import TooLarge
 from .run import Runner
-from .scenario import POWER, Scenario, Unreadable, hits_text, keeping, scenario_of
-from .trace import MARKS, points_trace, trace_of
+from .scenario import POWER, Scenario, Unreadable, keeping, scenario_of
+from .shown import last_lines
+from .trace import MARKS, length_of, points_trace, trace_of
 
 ONE_IN = 20  # of so many derived outcomes one is run as a check
+MORE_RUNS = 3  # so often a run is made again that does otherwise than the runs before
+OTHERWISE = f"in {MORE_RUNS + 1} runs it did otherwise than the run that it grew from"
 NAMES = {"create", "mkdir", "symlink", "link", "unlink", "rmdir", "rename", "exchange"}
-
-
-class Differs(Exception):
-    """An outcome that was derived from another run differs from the outcome of the scenario's own run."""
-
-    def __init__(self, followed: Outcome, tried: Outcome):
-        super().__init__(followed.scenario)
-        self.followed = followed
-        self.tried = tried
 
 
 @dataclass(frozen=True)
@@ -83,6 +77,8 @@ class Decider:
         self.tried = 0
         self.followed = 0
         self.made_bases: set[Key] = set()
+        self.repeats = Repeats()
+        self.unsteady: set[Key] = set()  # the faults of runs that came out otherwise when they were made again: nothing is derived from these
         self.places: dict[tuple, Ended] = {}  # the outcomes of runs that were ended, by the place where they were
         self.lock = threading.Lock()
 
@@ -90,9 +86,10 @@ class Decider:
         """The known run from which this scenario's outcome can be derived, and the hit at which it ends, if there is such a run."""
         try:
             scenario = Scenario(text)
-            return None if self.every_run or scenario.is_endless() else self.records.base_of(scenario)
+            base = None if self.every_run or scenario.is_endless() else self.records.base_of(scenario)
         except Unreadable:
             return None
+        return base if base and base[0] not in self.unsteady else None
 
     def make_base(self, text: str) -> None:
         """Makes, once, the run from which this scenario's outcome can be derived. A campaign that goes on after a stop has no runs yet."""
@@ -104,8 +101,7 @@ class Decider:
         with self.lock:
             is_new = not self.every_run and not scenario.is_endless() and key != set(scenario.faults()) and key not in self.made_bases
             self.made_bases.add(key)
-        if is_new:
-            record = self.runner.make(scenario_of(key))
+        if is_new and (record := self.steady(key)):
             self.keep(key_of(trace_of(record.run)), record)
 
     def decide(self, text: str) -> Outcome:
@@ -123,37 +119,60 @@ class Decider:
         if outcome is None:
             outcome = self.run(text, LooksUp.NONE if self.every_run else LooksUp.ALL)
         if outcome.follows and is_tried(text):
-            self.try_out(outcome)
-        return outcome
+            return self.tried_out(outcome, base)
+        return self.repeated(outcome)
 
-    def try_out(self, followed: Outcome) -> Outcome:
-        """Runs and judges a scenario whose outcome was derived, and compares the two."""
-        tried = self.run(followed.scenario, LooksUp.NONE)
+    def tried_out(self, followed: Outcome, base: tuple[Key, int] | None) -> Outcome:
+        """The outcome of the own run of a scenario whose outcome was derived. If the two differ, nothing more is derived from that other run."""
         with self.lock:
             self.tried += 1
-        if (tried.verdict, tried.hits) != (followed.verdict, followed.hits):
-            raise Differs(followed, tried)
-        return tried
+        outcome = self.repeated(self.run(followed.scenario, LooksUp.NONE))
+        outcome.follows = (outcome.verdict, outcome.hits) == (followed.verdict, followed.hits)
+        if outcome.knows_hits and not outcome.follows:
+            outcome.differs_from = followed
+            if base:
+                self.unsteady.add(base[0])
+        return outcome
+
+    def repeated(self, outcome: Outcome) -> Outcome:
+        """This outcome. If its run does otherwise than the runs before, that of another run of this scenario, or if none does as they did, an unresolved
+        one. A run without a verdict, or that was ended at its time, isn't made again."""
+        if not self.depth:
+            return outcome
+        first = parting = self.repeats.take(outcome)
+        for _ in range(MORE_RUNS):
+            if parting and outcome.verdict != UNRESOLVED and not outcome.is_late:
+                outcome = self.run(outcome.scenario, LooksUp.NONE)
+                parting = self.repeats.take(outcome)
+        if parting:
+            why = outcome.judgement.why or OTHERWISE
+            outcome = Outcome(outcome.scenario, Judgement(UNRESOLVED, why), [], knows_hits=False)
+        outcome.parting = first
+        return outcome
 
     def run_again(self, text: str, looks_up: LooksUp) -> Outcome:
         return self.room.within(lambda: self.run(text, looks_up))
 
-    def passes(self, **variables: str) -> bool:
-        """Whether the run without faults passes with these variables in the environment of its programs."""
-        decider = Decider(self.runner.with_variables(**variables), self.asking, self.depth, every_run=True)
-        return decider.run_again("none", LooksUp.NONE).verdict == PASS
+    def works(self, runner: Runner) -> bool:
+        """Whether the program works without faults if this runner makes its run."""
+        return Decider(runner, self.asking, self.depth, every_run=True).run_again("none", LooksUp.NONE).works
+
+    def works_on_disk(self) -> bool:
+        with self.runner.on_disk() as runner:
+            return self.works(runner)
 
     def run(self, text: str, looks_up: LooksUp) -> Outcome:
         record = self.runner.make(text)
         outcome = self.finish(record, len(record.points) + 1, text, looks_up)
         outcome.follows = outcome.judgement.is_known
-        self.keep(key_of(trace_of(record.run)[:len(record.points)]), record)
+        outcome.parting = self.repeats.parting(outcome.trace, outcome.verdict) if self.depth else None
+        self.keep(key_of(trace_of(record.run)[:len(record.points)]), record, is_steady=not outcome.parting)
         return outcome
 
-    def keep(self, key: Key, record: Record) -> None:
+    def keep(self, key: Key, record: Record, is_steady: bool = True) -> None:
         ends = any(fault.answer.startswith("panic") for fault in key)
         size = tree.size(record.folder)
-        if record.why or ends or len(key) >= self.depth or self.every_run:
+        if record.why or ends or len(key) >= self.depth or self.every_run or not is_steady:
             tree.remove(record.folder)
             self.room.end(record.folder, size)
         else:
@@ -167,7 +186,9 @@ class Decider:
         if record:
             self.room.begin(record.folder)
         else:
-            record = self.made_again(key)
+            record = self.steady(key)
+        if not record:
+            return None
         outcome = None if record.why else self.ended_at(record, key, hit, text)
         if outcome:
             outcome.follows = True
@@ -178,7 +199,7 @@ class Decider:
         """The outcome of a run that ends at a hit. If there is no change between two hits, such as two reads, a run that ends at either leaves the same."""
         if "again" in self.harness.steps or hit > len(record.points):
             return self.finish(record, hit, text, LooksUp.ALL)
-        place = key, *record.place(hit), *(piece for piece in text.split(";") if piece.strip().startswith(POWER))
+        place = key, *record.place(hit), noted_crash(record.run, hit), *(piece for piece in text.split(";") if piece.strip().startswith(POWER))
         if place in self.places:
             return self.places[place].outcome_at(hit, text, trace_of(record.run)[:hit])
         outcome = self.finish(record, hit, text, LooksUp.ALL)
@@ -186,25 +207,50 @@ class Decider:
             self.places[place] = ended(outcome, hit)
         return outcome
 
-    def made_again(self, key: Key) -> Record:
-        record = self.runner.make(scenario_of(key))
-        before = self.records.points[key]
-        if record.points != before and not record.why:
-            raise Stopped(changed("hits", hits_text(before), hits_text(record.points), record.scenario), DIFFERS)
-        return record
+    def steady(self, key: Key) -> Record | None:
+        """A run with these faults that does as the runs before it. None if several runs do otherwise."""
+        for _ in range(1 + MORE_RUNS):
+            record = self.runner.make(scenario_of(key))
+            is_same = record.points == self.records.points.get(key, record.points)
+            if record.why or is_same and not self.repeats.parting(trace_of(record.run)):
+                return record
+            self.keep(key, record, is_steady=False)
+        self.unsteady.add(key)
+        return None
 
     # ---- from the end of a run to its judgement
 
     def finish(self, record: Record, hit: int, text: str, looks_up: LooksUp) -> Outcome | None:
         """Cuts the power of a run at that hit, runs `again` if the harness has one, and judges what is left."""
         if record.why:
-            return Outcome(text, Judgement(UNRESOLVED, record.why), trace_of(record.run))
+            return self.ended_early(text, record.why, record.run)
         try:
             outcome = self.finished(record, hit, text, looks_up)
         except TooLarge as found:
             return Outcome(text, Judgement(UNRESOLVED, str(found)), trace_of(record.run))
+        if outcome:
+            outcome.status = record.status
         if not self.depth:
             meet(outcome, record.folder)
+        return outcome
+
+    def ended_early(self, text: str, why: str, run: Path) -> Outcome:
+        """The outcome of a run that was ended for this reason. If it took too long, and the run that it grew from ended by itself, it hangs."""
+        trace, is_late = trace_of(run), why == self.runner.late
+        hangs = is_late and self.depth and "hung" not in self.harness.allowed and self.repeats.grows_from_whole(trace)
+        return Outcome(text, Judgement(HUNG if hangs else UNRESOLVED, why), trace, errors=last_lines(run.parent / "errors"), is_late=is_late)
+
+    def crash(self, record: Record, hit: int) -> str:
+        """The crash of a process in a run that ends at that hit, or an empty text."""
+        if hit <= len(record.points):
+            return noted_crash(record.run, hit)
+        return noted_crash(record.run) or told_crash("run", record.status, record.folder / "errors", 0, record.wrote)
+
+    def with_crash(self, outcome: Outcome, run: Path, crash: str) -> Outcome:
+        """The outcome of a run of which a process crashed, or none if the text is empty. What a judge says of it comes first."""
+        if crash and outcome.verdict == PASS and "crashed" not in self.harness.allowed:
+            outcome.judgement = replace(outcome.judgement, verdict=CRASHED, why=crash)
+            outcome.pending += self.tools.pending(run)
         return outcome
 
     def finished(self, record: Record, hit: int, text: str, looks_up: LooksUp) -> Outcome | None:
@@ -214,35 +260,41 @@ class Decider:
             if not record.is_cut:
                 self.tools.cut(record.run, record.data)
             run = record.rewound
-            shutil.rmtree(run, ignore_errors=True)
+            if run.exists():
+                tree.remove(run)
             length = self.tools.rewind(record.run, run, hit, text)
             if length is None:
                 return None
             said = said if length < 0 else said[:length]
         record.is_cut = True
         if "again" in self.harness.steps:
-            return self.go_on(record, run, text, said, looks_up)
-        return self.cut_and_judge(record.folder, run, text, said, looks_up, lays_states=is_end)
+            outcome = self.go_on(record, run, text, said, looks_up)
+        else:
+            outcome = self.cut_and_judge(record.folder, run, text, said, looks_up, lays_states=is_end)
+        return self.with_crash(outcome, run, self.crash(record, hit))
 
     def go_on(self, record: Record, run: Path, text: str, said: bytes, looks_up: LooksUp) -> Outcome:
         """Runs recovery under the same scenario, from what the power cut left."""
-        more = record.said_again
+        more, errors = record.said_again, record.folder / "errors"
         more.unlink(missing_ok=True)
+        begun = length_of(errors)
         state = [self.asking, text] if self.asking else ["lasting"]
         pending = self.tools.pending(run) if "power::" in text else []
         if not self.tools.cut(run, record.data, *state, goes_on=True):
             return Outcome(text, Judgement(UNRESOLVED, "the scenario has a pause"), trace_of(run))
         (run / MARKS).touch()
-        _, why = self.runner.under("again", run, record.folder, text, more)
+        status, why = self.runner.under("again", run, record.folder, text, more)
         if why:
-            return Outcome(text, Judgement(UNRESOLVED, why), trace_of(run))
+            return self.ended_early(text, why, run)
+        crash = noted_crash(run) or told_crash("again", status, errors, begun, length_of(errors))
         outcome = self.cut_and_judge(record.folder, run, text, said + more.read_bytes(), looks_up, lays_states=True)
         outcome.pending = pending + outcome.pending
-        return outcome
+        return self.with_crash(outcome, run, crash)
 
     def cut_and_judge(self, folder: Path, run: Path, text: str, said: bytes, looks_up: LooksUp, lays_states: bool) -> Outcome:
         """Judges each state that a power cut may leave, up to the first that breaks a promise."""
         trace = trace_of(run)
+        errors, begun = folder / "errors", length_of(folder / "errors")
         judgements = []
         for state in self.states(run, text, lays_states):
             if not self.tools.cut(run, folder / "data", *state):
@@ -254,9 +306,12 @@ class Decider:
                 break
         judgement = judgements[-1]
         is_known = all(each.is_known for each in judgements)
-        outcome = Outcome(text, Judgement(judgement.verdict, judgement.why, is_known), trace)
+        outcome = Outcome(text, Judgement(judgement.verdict, judgement.why, is_known), trace, said=said)
         if outcome.verdict.startswith("fail"):
             outcome.pending = self.tools.pending(run)
+            outcome.errors = last_lines(errors, begun)
+        else:
+            outcome.errors = last_lines(errors, end=begun)
         return outcome
 
     def states(self, run: Path, text: str, lays_states: bool) -> list[list[str]]:

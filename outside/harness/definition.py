@@ -17,6 +17,7 @@ STEP = Path(__file__).resolve().with_name("step.py")
 PYTHON_FILE = "harness.py"
 ALL_STATES = ("lasting", "names", "contents", "live")
 ORDERS = ("settled", "arrival")
+FAILURES = ("crashed", "hung")  # of any program, whatever its judge says
 VARIABLES = ("FAULTS_SYNC", "FAULTS_BLOCK", "FAULTS_FSYNC", "FAULTS_POINTS", "FAULTS_SOCKETS")
 
 
@@ -34,6 +35,7 @@ class Harness:
     order: str = "settled"
     pins: bool = True
     unjudged: tuple[str, ...] = ()  # patterns of names of files into which the judge doesn't look, such as logs with times
+    allowed: tuple[str, ...] = ()  # those of FAILURES that are none of this program
 
     def identity(self, into: Path) -> Identity:
         """What answers depend on, for a campaign that writes its own files into that folder."""
@@ -41,7 +43,7 @@ class Harness:
         files = [*files_in(self.folder, into)] if is_folder else [self.file]
         named = {name: os.environ[name] for name in VARIABLES if name in os.environ}
         return {"files": digests(self.folder, [*files, *self.others]), "commands": self.commands, "variables": named | self.variables,
-            "states": list(self.states), "order": self.order, "pin": self.pins, "unjudged": list(self.unjudged)}
+            "states": list(self.states), "order": self.order, "pin": self.pins, "unjudged": list(self.unjudged), "allowed": sorted(self.allowed)}
 
 
 def read(path: str) -> Harness:
@@ -52,6 +54,7 @@ def read(path: str) -> Harness:
     harness = read_folder(file.parent) if file.name == PYTHON_FILE else Harness(file.stem, file.parent, {})
     if file.exists():
         read_file(file, harness)
+    refuse_unknown(path, "failure", harness.allowed, FAILURES)
     for needed in ("run", "judge"):
         if needed not in harness.steps:
             raise Stopped(f"{path}: `{needed}` is missing: a harness has a program of this name, or a file of Python that defines it")
@@ -64,10 +67,17 @@ def read_folder(place: Path) -> Harness:
         if not os.access(file, os.X_OK):
             raise Stopped(f"{file} isn't executable: call chmod +x {shlex.quote(str(file))}")
     harness = Harness(place.name, place, {file.name: [str(file)] for file in files})
-    patterns = place / "unjudged"
-    if patterns.exists():
-        harness.unjudged = tuple(patterns.read_text("utf-8").split())
+    harness.unjudged, harness.allowed = words_in(place / "unjudged"), words_in(place / "allowed")
     return harness
+
+
+def words_in(file: Path) -> tuple[str, ...]:
+    return tuple(file.read_text("utf-8").split()) if file.exists() else ()
+
+
+def refuse_unknown(path: str | Path, what: str, words: tuple[str, ...], known: tuple[str, ...]) -> None:
+    if unknown := set(words) - set(known):
+        raise Stopped(f"{path}: no such {what}: {', '.join(sorted(unknown))}; the {what}s are {', '.join(known)}")
 
 
 def read_file(file: Path, harness: Harness) -> None:
@@ -86,10 +96,9 @@ def read_file(file: Path, harness: Harness) -> None:
     harness.variables = told.get("environment", {})
     harness.states, harness.order, harness.pins = tuple(told.get("states", ())), told.get("order", "settled"), told.get("pin", True)
     harness.unjudged += tuple(told.get("unjudged", ()))
-    if unknown := set(harness.states) - set(ALL_STATES):
-        raise Stopped(f"{file}: no such state: {', '.join(sorted(unknown))}; the states are {', '.join(ALL_STATES)}")
-    if harness.order not in ORDERS:
-        raise Stopped(f"{file}: no such order: {harness.order}; the orders are {', '.join(ORDERS)}")
+    harness.allowed += tuple(told.get("allowed", ()))
+    refuse_unknown(file, "state", harness.states, ALL_STATES)
+    refuse_unknown(file, "order", (harness.order,), ORDERS)
 
 
 def words_of(file: Path, step: str, command: str | list[str] | None) -> list[str]:

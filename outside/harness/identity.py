@@ -11,7 +11,8 @@ from typing import NoReturn
 from .answers import Stopped
 
 NOTE = "campaign.json"  # beside the answers: says to which harness they belong
-WRITTEN = {"answers", NOTE, "campaign.new", "settings.new", "report", "page.html", "junit.xml", "report.json"}  # files that the loop writes beside a harness
+WRITTEN = {"answers", NOTE, "report", "page.html", "junit.xml", "report.json",  # files that the loop writes beside a harness
+    *(f"{name}.new" for name in ("campaign", "settings", "report", "page", "junit"))}  # and what it renames to these
 TOLD = 3  # at most so many names of what differs are printed
 
 Identity = dict[str, object]  # as JSON has it

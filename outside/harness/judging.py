@@ -12,12 +12,13 @@ from .settings import MOST_TEXT
 from .shown import plain
 
 PASS, UNRESOLVED = "pass", "unresolved"
+CRASHED, HUNG = "fail crashed", "fail hung"
 
 
 @dataclass(frozen=True)
 class Judgement:
     verdict: str
-    why: str = ""  # why it is unresolved
+    why: str = ""  # why it is unresolved, crashed or hung
     is_known: bool = False  # it was taken from another run
 
 

@@ -14,6 +14,16 @@ from .shown import show, show_once
 DIFFERS = re.compile(r"^answers: line (\d+): (fault not met|hits differ from line \d+ at hit \d+|verdict differs from line \d+|contradicts line \d+, .*)$",
                      re.MULTILINE)
 
+TOO_MANY = "too many plans"  # what the program says then
+MOST_PLANS = 65536
+
+
+class TooManyPlans(Stopped):
+    """The settings have more plans than a campaign may have."""
+
+    def __init__(self) -> None:
+        super().__init__(f"the settings have more than {MOST_PLANS} plans: take a smaller depth, or fewer points or kinds. The answers stay good")
+
 
 class Paklour:
     def __init__(self, settings: str, answers: Answers, look_share: int = 20):
@@ -44,6 +54,8 @@ class Paklour:
         """The scenarios that are still to be tried. If settings or answers can't be read, the campaign ends."""
         begun = time.monotonic()
         done = self.call("asks")
+        if done.returncode and done.stderr.decode("utf-8", "surrogateescape").strip() == TOO_MANY:
+            raise TooManyPlans
         self.tell_notes(done)
         if done.returncode:
             told = done.stderr.decode("utf-8", "surrogateescape")

@@ -13,6 +13,7 @@ class Record:
     status: int
     why: str  # why the run has no verdict, or an empty text
     points: list[str]
+    wrote: int = 0  # the bytes that `run` wrote to standard error
     is_cut: bool = False
 
     @property

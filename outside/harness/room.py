@@ -52,21 +52,26 @@ class Making:
 
 class Room:
     def __init__(self, disk: Disk, asked: int, bounds: Bounds, records: Records):
-        self.disk = disk
+        self.asked = asked
         self.bounds = bounds
         self.records = records
-        free = disk.free()
-        self.most = min(asked, free // SHARE)
-        self.stays_free = min(free // SHARE, 2 * self.most)
+        self.lie_on(disk)
         self.changed = threading.Condition()
         self.makings: dict[Path, Making] = {}
         self.seats = 0  # how many threads make runs
         self.is_alone = False
         self.waiting_alone = 0
         self.largest = 0  # the most bytes that one run took
-        if self.most < asked:
-            show_once(f"loop: all runs together may take {self.most} bytes in {disk.folder}, where {free} are free")
         threading.Thread(target=self.watch, daemon=True).start()
+
+    def lie_on(self, disk: Disk) -> None:
+        """Takes the room of a file system on which all runs lie from now on."""
+        free = disk.free()
+        self.disk = disk
+        self.most = min(self.asked, free // SHARE)
+        self.stays_free = min(free // SHARE, 2 * self.most)
+        if self.most < self.asked:
+            show_once(f"loop: all runs together may take {self.most} bytes in {disk.folder}, where {free} are free")
 
     # ---- who makes a run
 
@@ -193,7 +198,7 @@ class Room:
         took = 0.0
         while not tick.wait(max(LOOKS_EVERY, LOOKS_LESS * took)):
             begun = time.monotonic()
-            with contextlib.suppress(FileNotFoundError):  # a run's folder may be deleted meanwhile
+            with contextlib.suppress(FileNotFoundError, Stopped):  # a run's folder may be deleted meanwhile, or have a mount, which the end tells
                 self.look()
             took = time.monotonic() - begun
 

@@ -1,26 +1,33 @@
 """One run of a program under a scenario, from the files that it finds to those that a power cut leaves."""
 
+import contextlib
 import copy
 import os
 import subprocess
 import sys
 import threading
+import time
+from collections.abc import Iterator
 from dataclasses import replace
 from pathlib import Path
 
 from . import programs, tree
 from .answers import Stopped
 from .definition import Harness
+from .disk import disk_of
 from .processes import WITHIN, Processes
 from .programs import Tools
 from .record import Record
 from .room import Room, TooLarge
 from .served import Served
-from .shown import show
-from .trace import POINTS, trace_of
-from .work import Work
+from .shown import last_lines, show
+from .trace import POINTS, length_of, trace_of
+from .work import CLOSED, OPEN, Work, is_taken_away
 
-TIME_IS_UP, CANNOT, NOT_FOUND = 124, 125, 127  # how `within` ends
+PREPARED = "prepared"  # the folder in which `prepare` was run
+TIME_IS_UP, CANNOT, NOT_FOUND = 124, 125, 127  # how `within` ends. A program of the harness may have these statuses too
+MAPPED = b"each store into the mapping of"  # as the supervisor says that a program maps a file
+NO_CALL = "any call under FAULTS_ROOT"  # as it says that a step never used its data
 
 
 class Runner:
@@ -32,15 +39,32 @@ class Runner:
         self.processes = processes
         self.room = room
         self.seconds = room.bounds.seconds
+        self.late = f"it was ended after {self.seconds} seconds (--seconds)"  # why a run is unresolved that took too long
         self.outer = dict(os.environ)
         self.tools = Tools(room)
         self.count = 0
-        self.prepared = work.folder / "prepared"
+        self.first: Record | None = None  # the run without faults that was made to see where runs have to lie
         self.served = Served(harness.file, processes) if "judge" in harness.functions else None
         self.lock = threading.Lock()
 
-    def environment(self, folder: Path, **more: str) -> dict[str, str]:
-        return self.outer | {"HARNESS": str(self.harness.folder), "TMPDIR": str(folder / "tmp")} | self.harness.variables | more
+    @property
+    def prepared(self) -> Path:
+        return self.work.folder / PREPARED / "data"
+
+    @contextlib.contextmanager
+    def step(self, folder: Path, **more: str) -> Iterator[dict[str, str]]:
+        """Opens a run's folder for a step, whose environment this is. TMPDIR is new, so that no step finds what another one left there. If a run is
+        derived, its `judge` finds the data as they were at that hit, but what `run` wrote to its TMPDIR would be that of the whole run. The path is the
+        same each time, and short, as that of a socket has at most 108 bytes."""
+        place = folder / "tmp"
+        if not is_taken_away(place):
+            raise Stopped(f"{place} can't be deleted")
+        place.mkdir()
+        folder.chmod(OPEN)
+        try:
+            yield self.outer | {"HARNESS": str(self.harness.folder), "TMPDIR": str(place)} | self.harness.variables | more
+        finally:
+            folder.chmod(CLOSED)
 
     def with_variables(self, **variables: str) -> "Runner":
         """The same runner, with more variables in the environment of its programs."""
@@ -50,27 +74,29 @@ class Runner:
 
     def start(self, words: list[str], folder: Path, said: Path, **variables: str) -> tuple[int, str]:
         """Runs a step in the data's folder. Returns its status, and the reason if the run is unresolved by it."""
-        (folder / "tmp").mkdir(exist_ok=True)
-        with open(said, "ab") as output, open(folder / "errors", "ab") as errors:
-            process = self.processes.start([str(WITHIN), str(self.seconds), "-", *words], cwd=folder / "data", stdin=subprocess.DEVNULL,
-                stdout=output, stderr=errors, env=self.environment(folder, **variables))
-        try:
-            passed = self.room.wait(process, folder)
-        finally:
-            self.processes.ended(process)
+        begun = time.monotonic()
+        with self.step(folder, **variables) as environment:
+            with open(said, "ab") as output, open(folder / "errors", "ab") as errors:
+                process = self.processes.start([str(WITHIN), str(self.seconds), "-", *words], cwd=folder / "data", stdin=subprocess.DEVNULL,
+                    stdout=output, stderr=errors, env=environment)
+            try:
+                passed = self.room.wait(process, folder)
+            finally:
+                self.processes.ended(process)
         if passed:
             return process.returncode, passed
-        if process.returncode == TIME_IS_UP:
-            return process.returncode, f"it was ended after {self.seconds} seconds (--seconds)"
-        if process.returncode in (CANNOT, NOT_FOUND):
-            raise Stopped(f"{words[-1]} can't be run: {last_line(folder / 'errors')}")
+        if process.returncode == TIME_IS_UP and time.monotonic() - begun >= self.seconds:
+            return process.returncode, self.late
+        if process.returncode in (CANNOT, NOT_FOUND) and last_line(folder / "errors").startswith("within: "):
+            raise Stopped(f"{words[-1]} can't be run: {in_a_line(last_lines(folder / 'errors'))}")
         return process.returncode, ""
 
     def judged(self, folder: Path, output: Path, **variables: str) -> tuple[int, str]:
         """Runs `judge` in the same way. It runs without the supervisor, so if it is a function of Python, it needs no new Python."""
         if not self.served:
             return self.start(self.harness.steps["judge"], folder, output, **variables)
-        return self.served.call("judge", folder, output, self.environment(folder, **variables), self.room)
+        with self.step(folder, **variables) as environment:
+            return self.served.call("judge", folder, output, environment, self.room)
 
     def prepare(self) -> None:
         """Makes the data with which each run begins. They are made once, and copied, so that each run finds the same bytes."""
@@ -80,19 +106,49 @@ class Runner:
         if "prepare" in self.harness.steps:
             status, why = self.start(self.harness.steps["prepare"], folder, folder / "said")
             if status or why:
-                raise Stopped(f"prepare failed: {why or f'it ended with {status}'}: {last_line(folder / 'errors')}")
-        (folder / "data").rename(self.prepared)
+                raise Stopped(f"prepare failed: {why or f'it ended with {status}'}: {in_a_line(last_lines(folder / 'errors'))}")
+        folder.rename(self.work.folder / PREPARED)
         self.room.hold(tree.size(self.prepared))
         self.room.end(folder, 0)
+        if self.work.disk and not self.work.is_decided:
+            self.decide_place()
+
+    def decide_place(self) -> None:
+        """Makes the run without faults in memory, and lets runs lie on a disk if the program maps its files. For example, MariaDB takes a log in memory
+        for persistent memory, and never syncs it."""
+        self.first = self.room.within(lambda: self.make("none"))
+        with open(self.first.folder / "errors", "rb") as errors:
+            maps = any(MAPPED in line for line in errors)
+        self.work.decide(needs_disk=maps)
+        if maps:
+            self.room.end(self.first.folder, 0)
+            self.first = None
+            self.count = 0
+            self.work.move(PREPARED)
+            self.room.lie_on(disk_of(self.work.place))
+            self.room.hold(tree.size(self.prepared))
+            show(f"loop: runs lie in {self.work.place}, as the program maps its files, and may take memory for a disk that needs no sync")
+
+    @contextlib.contextmanager
+    def on_disk(self) -> Iterator["Runner"]:
+        """The same runner, of runs that lie on a disk."""
+        other = copy.copy(self)
+        other.work = Work(self.work.note, needs_disk=True)
+        try:
+            tree.copy(str(self.work.folder / PREPARED), str(other.work.folder / PREPARED))
+            yield other
+        finally:
+            other.work.end()
 
     def under(self, step: str, run: Path, folder: Path, scenario: str, said: Path) -> tuple[int, str]:
         """Runs a step under the supervisor. Returns its status, and the reason if the run is unresolved."""
         order = [] if self.harness.order == "arrival" else ["--order", self.harness.order]
+        before = length_of(folder / "errors")
         words = [str(programs.FAULTS), *order, *["--pin"] * self.harness.pins, "--", *self.harness.steps[step]]
         status, why = self.start(words, folder, said, FAILPOINTS=scenario, FAULTS_ROOT=str(folder / "data"), FAULTS_RUN=str(run),
             POINTS_TRACE=str(folder / POINTS))
         if status == programs.REFUSED:
-            why = last_line(folder / "errors") or "it ended with 98"
+            why = why_refused(step, last_lines(folder / "errors", before))
         if status == programs.PAUSED:
             why = "the scenario has a pause"
         return status, why
@@ -100,6 +156,11 @@ class Runner:
     def make(self, scenario: str) -> Record:
         """Makes a run under a scenario, from the prepared data to its end, or to the hit at which the scenario ends it."""
         with self.lock:
+            first = self.first if scenario == "none" else None
+            if first:
+                self.first = None
+                self.room.begin(first.folder)
+                return first
             self.count += 1
         folder = self.work.new()
         self.room.begin(folder)
@@ -110,12 +171,24 @@ class Runner:
             raise Stopped(f"the files that prepare made: {found}") from found
         status, why = self.under("run", folder / "run", folder, scenario, folder / "said")
         points = [sys.intern(hit[1]) for hit in trace_of(folder / "run")]  # interned, since each run keeps such a list of the same few texts
-        return Record(folder, scenario, status, why, points)
+        return Record(folder, scenario, status, why, points, length_of(folder / "errors"))
 
 
 def last_line(path: Path) -> str:
-    lines = path.read_text("utf-8", "replace").strip().splitlines() if path.exists() else []
-    return lines[-1] if lines else ""
+    return last_lines(path).rpartition("\n")[2]
+
+
+def in_a_line(lines: str) -> str:
+    return "; ".join(lines.splitlines())
+
+
+def why_refused(step: str, errors: str) -> str:
+    """Why the supervisor refused a step, by its last lines. If the step never used its data, the lines before say more, such as that its program isn't
+    there."""
+    before, _, last = errors.rpartition("\n")
+    if before and NO_CALL in last:
+        return f"{step} made no call on its data: {in_a_line(before)}"
+    return last or f"{step} ended with {programs.REFUSED}"
 
 
 def tell_errors(path: Path) -> None:

@@ -6,8 +6,9 @@ import re
 import tomllib
 from pathlib import Path
 
+from . import tree
 from .answers import Answers, Stopped
-from .definition import Harness
+from .definition import FAILURES, Harness
 from .shown import plain, show
 
 MADE_BY = "# Made by paklour-loop."
@@ -22,6 +23,7 @@ NO_POINT = "there is no such point; remove it from the points"
 NO_PLACE = "a point of the program's own can't be in settings with a depth; remove it, or remove the depth"
 NO_KEEP = "no program hits it unless power::keep is among the points too; add that"
 MOST_TEXT, MOST_CODES = 200, 64  # bytes of a label or a code, and how many codes settings may have
+LOWERED = "settings.lowered.toml"  # settings of one's own with a lower depth
 SAYS_MADE = ", settings by paklour-loop"
 
 
@@ -54,6 +56,7 @@ class Settings:
 
     def __init__(self, harness: Harness, folder: Path, answers: Answers, named: str | None, depth: int | None, kinds: bool | None, keeps: bool = False):
         self.path = Path(named) if named else harness.folder / "settings.toml"
+        self.folder = folder
         self.is_made = not named and not self.path.exists() or text_of(self.path).startswith(MADE_BY)
         if self.is_made:
             self.path = folder / "settings.toml"
@@ -84,15 +87,25 @@ class Settings:
             show(f"loop: full disks and half writes are left out at depth {self.depth}; --kinds tries them")
 
     def write(self) -> None:
-        new = self.path.with_suffix(".new")
-        new.write_text(made_text(self.label, self.codes or ["lost"], self.depth, self.has_kinds), "utf-8")
-        new.rename(self.path)
+        tree.write(self.path, made_text(self.label, self.codes or ["lost"], self.depth, self.has_kinds).encode())
+
+    def lower(self) -> None:
+        """Takes a depth that is lower by one. Settings of one's own stay as they are: the lower depth stands in a copy, beside the answers."""
+        self.depth -= 1
+        if self.is_made:
+            self.write()
+            return
+        lowered = re.sub(r"^([ \t]*[\"']?depth[\"']?[ \t]*=[ \t]*)[0-9]+", rf"\g<1>{self.depth}", text_of(self.path), count=1, flags=re.MULTILINE)
+        self.path = self.folder / LOWERED
+        self.path.write_text(lowered, "utf-8", "surrogateescape")
 
     def take_code(self, answer: str) -> None:
         """Adds the code of an answer to the settings, before the answer is recorded."""
         if not answer.startswith("fail ") or (code := code_of(answer)) in self.codes:
             return
         if not self.is_made:
+            if code in FAILURES:
+                raise Stopped(f"a run {code}: add the code {code} to the codes of {self.path}, or name it in `allowed` of the harness")
             raise Stopped(f"the judge printed the code {code}: add it to the codes of {self.path}")
         if len(self.codes) == MOST_CODES:
             raise Stopped(f"the judge printed the code {code}, but settings have at most {MOST_CODES} codes: its first line should only name the promise that "

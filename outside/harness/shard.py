@@ -10,7 +10,9 @@ from pathlib import Path
 
 from .answers import DIFFERS, Answers, Stopped, changed, whole_lines
 from .identity import Identity, refuse_others
+from .repeats import Repeats
 from .scenario import Scenario, Term, Unreadable, numbered, points_of
+from .shown import show
 from .words import Usage, whole_number
 
 Places = dict[tuple[str, int], int]  # where each hit stands in the run without faults
@@ -29,9 +31,9 @@ class Shard:
 def shard_of(text: str) -> Shard:
     """Reads a share such as 2/8."""
     number, _, count = text.partition("/")
-    shard = Shard(whole_number(number), whole_number(count))
+    shard = Shard(whole_number(number, "--shard"), whole_number(count, "--shard"))
     if shard.number > shard.count:
-        raise Usage(text)
+        raise Usage(f"--shard {text}: there are only {shard.count} shares")
     return shard
 
 
@@ -64,6 +66,9 @@ def first_place(text: str, places: Places) -> int:
 def join(folder: Path, own: Identity, answers: Answers) -> None:
     """Takes over the answers of the folders in that one, which are shards or other campaigns of the same harness."""
     known = {scenario_in(line): line for line in answers.lines()}
+    repeats = Repeats()
+    for line in known.values():
+        repeats.take_answer(line)
     parts = sorted(folder.glob("*/answers"))
     if not parts:
         raise Stopped(f"no folder in {folder} has a file answers")
@@ -72,6 +77,9 @@ def join(folder: Path, own: Identity, answers: Answers) -> None:
         for line in whole_lines(part.read_bytes()):
             scenario = scenario_in(line)
             if scenario not in known:
+                if parting := repeats.take_answer(line):
+                    show(f"loop: {part}: an answer isn't taken over, since its run did otherwise than those before: {parting}: {scenario}")
+                    continue
                 known[scenario] = line
                 answers.keep(line)
             elif known[scenario] != line:

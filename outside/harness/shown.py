@@ -5,11 +5,13 @@ import os
 import re
 import signal
 from collections.abc import Callable
+from pathlib import Path
 
 from .answers import WRITE_FAILED, Stopped
 
 OUTPUT, ERRORS = 1, 2
 CONTROL = re.compile(r"[\x00-\x1f\x7f]")
+LAST_LINES, LAST_BYTES = 5, 65536  # of what a program wrote, at most so much is shown
 
 
 class NobodyReads(Exception):
@@ -52,6 +54,18 @@ def plain(text: bytes, most: int) -> str:
     """The text as settings may have it: without control characters, and of at most so many bytes."""
     letters = text[:most].decode("utf-8", "ignore")
     return "".join(letter if letter.isprintable() else "?" for letter in letters)
+
+
+def last_lines(path: Path, begin: int = 0, end: int | None = None) -> str:
+    """The last lines that were written to a file between two places."""
+    if not path.exists():
+        return ""
+    with open(path, "rb") as file:
+        end = file.seek(0, os.SEEK_END) if end is None else end
+        begin = max(begin, end - LAST_BYTES)
+        file.seek(begin)
+        text = file.read(end - begin)
+    return "\n".join(text.decode("utf-8", "surrogateescape").strip().splitlines()[-LAST_LINES:])
 
 
 def show(text: str) -> None:

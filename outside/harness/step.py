@@ -4,6 +4,7 @@ calls that function in the current folder. With --serve it calls a function in a
 `judge` gets the promises, a list of lines. If it returns a text, this program prints the text and ends with 1: a promise is broken, and the text
 is the code."""
 
+import ctypes
 import json
 import os
 import runpy
@@ -14,6 +15,7 @@ import traceback
 
 STEPS = ("prepare", "run", "again", "judge")
 RAISED, LATE = 2, "late"
+C_LIBRARY, CLONE_NEWIPC = ctypes.CDLL(None), 0x08000000  # Python itself has `unshare` since 3.12
 
 
 def defined(path: str) -> dict:
@@ -56,6 +58,7 @@ def performed(names: dict, name: str) -> int:
 def perform_as_asked(names: dict, asked: dict) -> None:
     """Calls a function in this new process, with the folder, environment and files of the request."""
     os.setsid()
+    C_LIBRARY.unshare(CLONE_NEWIPC)  # only root may: a call of a function has shared memory of its own, as a program by `within` has
     os.chdir(asked["folder"])
     os.environ.clear()
     os.environ.update(asked["environment"])

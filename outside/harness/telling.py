@@ -76,7 +76,8 @@ def faults_in_words(outcome: Outcome) -> str:
 
 
 def failure(outcome: Outcome) -> str:
-    return escaped(f"{outcome.verdict}: {faults_in_words(outcome)}")
+    why = f" ({outcome.judgement.why})" * bool(outcome.judgement.why)
+    return escaped(f"{outcome.verdict}: {faults_in_words(outcome)}{why}")
 
 
 def group_of(outcome: Outcome) -> str:

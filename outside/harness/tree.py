@@ -1,12 +1,17 @@
-"""Digests, copies and sizes of folders of files."""
+"""Digests, copies and sizes of folders of files, and their deletion."""
 
+import errno
 import hashlib
 import os
+import shlex
 import shutil
 import stat
 from collections.abc import Iterator
 from fnmatch import fnmatchcase
-from typing import BinaryIO
+from pathlib import Path
+from typing import BinaryIO, NoReturn
+
+from .answers import Stopped
 
 BLOCK = 1 << 20
 Entry = tuple[str, os.stat_result]  # a name below the folder, and its status
@@ -57,13 +62,13 @@ def digest_of_parts(file: BinaryIO, length: int) -> bytes:
 
 
 def digest(folder: str, leaves_out: tuple[str, ...] = ()) -> bytes:
-    """The digest of names, contents, links and modes. Contents of files all of whose names match one of these patterns are left out."""
+    """The digest of names, contents, links, owners and modes. Contents of files all of whose names match one of these patterns are left out."""
     state = hashlib.sha256()
     first_name: dict[int, str] = {}
     counted: set[int] = set()
     for name, told in entries(folder):
         same = first_name.setdefault(told.st_ino, name)
-        state.update(repr((name, told.st_mode, same)).encode())
+        state.update(repr((name, told.st_mode, told.st_uid, told.st_gid, same)).encode())
         if told.st_ino not in counted and not any(fnmatchcase(name, pattern) for pattern in leaves_out):
             counted.add(told.st_ino)
             state.update(contents_of(f"{folder}/{name}", told))
@@ -84,8 +89,16 @@ def copy_file(source: str, target: str, told: os.stat_result) -> None:
         copied.truncate(told.st_size)
 
 
+def keep(path: str, told: os.stat_result) -> None:
+    """Gives a copy its owner and mode. Only root can give files to others, and only for root do programs make files of others."""
+    if os.geteuid() == 0:
+        os.chown(path, told.st_uid, told.st_gid, follow_symlinks=False)
+    if not stat.S_ISLNK(told.st_mode):
+        os.chmod(path, stat.S_IMODE(told.st_mode))
+
+
 def copy(source: str, target: str) -> None:
-    """Copies a folder with links and modes, as a new folder."""
+    """Copies a folder with links, owners and modes, as a new folder."""
     os.mkdir(target)
     names = list(entries(source))
     first_name: dict[int, str] = {}
@@ -95,15 +108,28 @@ def copy(source: str, target: str) -> None:
             os.mkdir(f"{target}/{name}")
         elif stat.S_ISLNK(told.st_mode):
             os.symlink(os.readlink(f"{source}/{name}"), f"{target}/{name}")
+            keep(f"{target}/{name}", told)
         elif same != name:
             os.link(f"{target}/{same}", f"{target}/{name}")
         elif stat.S_ISREG(told.st_mode):
             copy_file(f"{source}/{name}", f"{target}/{name}", told)
-            os.chmod(f"{target}/{name}", stat.S_IMODE(told.st_mode))
+            keep(f"{target}/{name}", told)
     for name, told in reversed(names):
         if stat.S_ISDIR(told.st_mode):
-            os.chmod(f"{target}/{name}", stat.S_IMODE(told.st_mode))
-    os.chmod(target, stat.S_IMODE(os.stat(source).st_mode))
+            keep(f"{target}/{name}", told)
+    keep(target, os.stat(source))
+
+
+def write(path: Path, contents: bytes) -> None:
+    """Writes a file, whole or not at all. If that fails, the error has the file's name, which Python itself gives only if it can't be opened."""
+    new = path.with_suffix(".new")
+    try:
+        new.write_bytes(contents)
+        new.rename(path)
+    except OSError as error:
+        new.unlink(missing_ok=True)
+        error.filename = str(path)
+        raise
 
 
 def size(folder: str) -> int:
@@ -118,13 +144,54 @@ def size(folder: str) -> int:
     return total
 
 
-def remove(folder: str) -> None:
-    """Deletes a folder, also if it has folders that may not be entered."""
+# ---- deleting
+
+def mount_of(folder: int) -> str:
+    """The number of the mount in which an open folder lies. A mount of the same file system, such as a bind mount, shows only by it."""
+    with open(f"/proc/self/fdinfo/{folder}", encoding="ascii") as lines:
+        return next(line.split()[1] for line in lines if line.startswith("mnt_id:"))
+
+
+def refuse_mounted(path: str) -> NoReturn:
+    raise Stopped(f"{path}: something is mounted here, so it isn't deleted: call umount {shlex.quote(path)}")
+
+
+def open_below(above: int, name: str, path: str, mount: str) -> int:
+    """Opens a folder to empty it, also if it may not be entered, unless something is mounted there."""
+    folder = os.open(name, os.O_PATH | os.O_DIRECTORY | os.O_NOFOLLOW, dir_fd=above)
     try:
-        shutil.rmtree(folder)
-    except PermissionError:
-        for at, folders, _ in os.walk(folder):
-            for name in folders:
-                if not os.path.islink(os.path.join(at, name)):
-                    os.chmod(os.path.join(at, name), 0o700)
-        shutil.rmtree(folder)
+        if mount_of(folder) != mount:
+            refuse_mounted(path)
+        if (mode := os.fstat(folder).st_mode) & stat.S_IRWXU != stat.S_IRWXU:
+            os.chmod(f"/proc/self/fd/{folder}", stat.S_IMODE(mode) | stat.S_IRWXU)
+        return os.open(".", os.O_RDONLY | os.O_DIRECTORY, dir_fd=folder)
+    finally:
+        os.close(folder)
+
+
+def remove_below(above: int, name: str, path: str, mount: str) -> None:
+    """Deletes a name in an open folder. Nothing is found by its path, so that no link or folder that a program puts there meanwhile leads elsewhere."""
+    try:
+        return os.unlink(name, dir_fd=above)
+    except IsADirectoryError:
+        folder = open_below(above, name, path, mount)
+    except OSError as error:
+        if error.errno == errno.EBUSY:
+            refuse_mounted(path)
+        raise
+    try:
+        for below in os.listdir(folder):
+            remove_below(folder, below, f"{path}/{below}", mount)
+    finally:
+        os.close(folder)
+    os.rmdir(name, dir_fd=above)
+
+
+def remove(path: str | Path) -> None:
+    """Deletes a folder with all that is in it, also folders that may not be entered, or a file. What is mounted there stays, and ends the campaign."""
+    place, name = os.path.split(path)
+    above = os.open(place, os.O_PATH | os.O_DIRECTORY)
+    try:
+        remove_below(above, name, str(path), mount_of(above))
+    finally:
+        os.close(above)

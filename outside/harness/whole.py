@@ -7,18 +7,21 @@ from collections import Counter
 from collections.abc import Iterable, Iterator
 from dataclasses import dataclass
 from pathlib import Path
+from typing import NoReturn
 
+from . import tree
 from .answers import DIFFERS, Answers, Stopped, changed
 from .campaign import Campaign
-from .deciding import Decider, Differs
+from .deciding import OTHERWISE, Decider
 from .definition import Harness
-from .judging import PASS, UNRESOLVED
+from .judging import CRASHED, UNRESOLVED
 from .outcome import Outcome
-from .paklour import Paklour
-from .run import Runner
+from .paklour import MOST_PLANS, Paklour, TooManyPlans
+from .run import NOT_FOUND, Runner
 from .settings import Settings
 from .shard import Shard, places_in, scenario_in
-from .shown import show, write_out
+from .scenario import scenario_of
+from .shown import show, show_once, write_out
 from .telling import failure, group_of
 from .workers import Workers
 
@@ -26,8 +29,8 @@ LOOK_SHARE = 200  # checking the answers takes one part in so many of the time: 
 ALWAYS = "--page"
 FORMS = {ALWAYS: "page.html", "--junit": "junit.xml", "--json": "report.json"}
 TRUSTS = {  # what FAULTS_SYNC may be, and what that means
-    "journal": "a sync of anything makes earlier changes of names last, as ext4, XFS and Btrfs do by default",
-    "names": "a file's own sync makes its name last too",
+    "names": "a file's own sync makes its name last too, and no other, as on Btrfs",
+    "journal": "any sync makes earlier changes of names last, as an fsync of a file that was changed does on ext4 and XFS, but not on Btrfs",
 }
 
 
@@ -67,6 +70,8 @@ class Whole:
         self.workers = Workers(decider, asked.jobs)
         self.found: list[str] = []  # scenarios that fail
         self.unresolved: Counter[str] = Counter()
+        self.flaky: list[str] = []  # what is told of each run that did otherwise than the run that it grew from, until it was made again
+        self.is_same = True  # whether no second run came out otherwise than the first
         self.has_told_size = answers.count > 0
 
     # ---- as an engine
@@ -92,8 +97,14 @@ class Whole:
         more = sum(2 * math.comb(hits, faults) for faults in range(2, self.settings.depth + 1))
         rest = f", and perhaps {more} more up to depth {self.settings.depth}" if more else ""
         show(f"loop: {len(asked)} plans" + " with one fault" * (self.settings.depth > 0) + rest)
+        if more + len(asked) >= MOST_PLANS:
+            show(f"loop: a campaign may have {MOST_PLANS} plans. If there are more, the report is of a lower depth: so take one, or fewer points or kinds")
 
     def tell(self, outcome: Outcome) -> None:
+        if outcome.parting and outcome.knows_hits:
+            self.flaky.append(f"{outcome.parting}: {outcome.scenario}")
+        if outcome.differs_from:
+            self.tell_difference(outcome.differs_from.verdict, outcome.differs_from.hits, outcome)
         if outcome.verdict == UNRESOLVED:
             self.tell_unresolved(outcome)
         if outcome.verdict.startswith("fail"):
@@ -106,31 +117,47 @@ class Whole:
         why = outcome.judgement.why
         self.unresolved[why] += 1
         if self.unresolved[why] == 1:
-            show(f"unresolved: {why}: {outcome.scenario}")
+            show(": ".join(["unresolved", why, *[str(outcome.parting)] * (why == OTHERWISE), outcome.scenario]))
 
     def tell_failure(self, outcome: Outcome) -> None:
         self.found.append(outcome.scenario)
         show(failure(outcome))
 
     def require_pass(self, outcome: Outcome) -> None:
-        """Ends the campaign if the run without faults doesn't pass. This run is no answer: the next campaign begins with it again."""
-        if outcome.verdict == PASS:
+        """Ends the campaign if the run without faults doesn't work. This run is no answer: the next campaign begins with it again."""
+        if outcome.works:
             return
+        if on_disk := self.works_on_disk():
+            show(f"loop: the run without faults passes on a disk: set TMPDIR={self.decider.runner.work.disk}")
         if outcome.verdict == UNRESOLVED:
             self.tell_unresolved(outcome)
-            raise Stopped("the run without faults is unresolved, for the reason above, so nothing else is tried")
+            refuse("the run without faults is unresolved, for the reason above, so nothing else is tried", outcome)
+        if outcome.status:
+            *_, last = ["", *outcome.errors.splitlines()]
+            missing = f", as a shell does if a program isn't there: {last}" * (outcome.status == NOT_FOUND)
+            refuse(f"the run without faults is refused: `run` ended with {outcome.status}{missing}", outcome)
+        if not outcome.said:
+            refuse("the run without faults is refused: it printed no line, so it promised nothing, and every plan would pass", outcome)
         self.tell_failure(outcome)
         self.found = ["none"]  # then no other failure means anything
         for change in outcome.pending:
             show(f"pending: {' '.join(change)}")
-        self.tell_trust()
+        show("\n".join(f"judge: {line}" for line in outcome.errors.splitlines()))
+        if outcome.verdict != CRASHED and not on_disk:
+            self.tell_trust(is_pending=bool(outcome.pending))
         raise Enough
 
-    def tell_trust(self) -> None:
+    def works_on_disk(self) -> bool:
+        """Whether the run without faults was made in memory, and works on a disk."""
+        return bool(self.decider.runner.work.disk) and self.decider.works_on_disk()
+
+    def tell_trust(self, is_pending: bool) -> None:
         """Prints whether the run without faults passes on file systems that promise more about names."""
+        if not is_pending:
+            return show("loop: no change is pending, so no power cut did this: look at the judge and at the program")
         if "FAULTS_SYNC" in os.environ | self.harness.variables:
             return
-        passing = [word for word in TRUSTS if self.decider.passes(FAULTS_SYNC=word)]
+        passing = [word for word in TRUSTS if self.decider.works(self.decider.runner.with_variables(FAULTS_SYNC=word))]
         for word in passing:
             show(f"loop: the run without faults passes if you set FAULTS_SYNC={word}: {TRUSTS[word]}")
         if not passing:
@@ -146,13 +173,24 @@ class Whole:
         for point, why in self.settings.refused_points():
             raise Stopped(f"{self.settings.path}: {point}: {why}")
         try:
-            campaign.grow(mine=self.mine if self.asked.shard else None)
+            self.grow(campaign)
             return self.report() if not self.asked.shard else self.end_of_shard()
         except Enough:
             return self.end_early()
-        except Differs as found:
-            self.tell_difference(found.followed.verdict, found.tried, found.followed.hits)
-            return DIFFERS
+
+    def grow(self, campaign: Campaign) -> None:
+        """Tries scenarios until none is left. If there are more plans than a campaign may have, it goes on to a lower depth."""
+        while True:
+            try:
+                return campaign.grow(mine=self.mine if self.asked.shard else None)
+            except TooManyPlans:
+                if self.settings.depth < 2:
+                    raise
+                self.settings.lower()
+                self.paklour.settings = str(self.settings.path)
+                depth = self.settings.depth
+                show(f"loop: depth {depth + 1} has more than {MOST_PLANS} plans, so this campaign goes to depth {depth}: plans with up to {depth} "
+                    f"fault{'s' * (depth > 1)} are tried whole, and the report is of these")
 
     def mine(self, asked: list[str]) -> list[str]:
         places = places_in(self.answers)
@@ -162,25 +200,30 @@ class Whole:
         """Runs the failures once more, as a report's findings are. The run without faults was just made, so it isn't made again."""
         self.tell_counts()
         if self.found != ["none"]:
-            return 1 if self.confirm(self.found) else DIFFERS
+            self.confirm(self.found)
+            return self.status(1)
         self.tell_again("none")
         return 1
 
     def end_of_shard(self) -> int:
         """Ends a share of a campaign. It has no report: the campaign that joins the shares writes one, and runs failures once more."""
         self.tell_counts()
-        return 1 if self.answers.failing else 0
+        return self.status(1 if self.answers.failing else 0)
 
     def report(self) -> int:
         status, report = self.paklour.report(*["--strict"] * self.asked.strict)
         brief = self.paklour.report("--brief", tells=False)[1]
-        (self.folder / "report").write_bytes(report)
+        tree.write(self.folder / "report", report)
         for form in self.asked.forms:
-            (self.folder / FORMS[form]).write_bytes(self.paklour.report(form, tells=False)[1])
+            tree.write(self.folder / FORMS[form], self.paklour.report(form, tells=False)[1])
         write_out(brief if self.asked.brief else report)
-        is_same = self.confirm(findings(report, self.settings.codes))
+        self.confirm(findings(report, self.settings.codes))
         self.tell_counts()
-        return status if is_same else DIFFERS
+        return self.status(status)
+
+    def status(self, of_report: int) -> int:
+        """The exit status: that of the report, unless a run of this call didn't do the same each time, and so nobody knows what it came to."""
+        return DIFFERS if not self.is_same or of_report == 0 and self.unresolved[OTHERWISE] else of_report
 
     def tell_counts(self) -> None:
         for why, count in self.unresolved.items():
@@ -188,34 +231,44 @@ class Whole:
                 more = "1 more plan is" if count == 2 else f"{count - 1} more plans are"
                 show(f"loop: {more} unresolved for this reason: {why}")
         decider = self.decider
+        if self.flaky:
+            show(f"loop: flaky {len(self.flaky)}: so many runs did otherwise than the run that they grew from, until they were made again: {self.flaky[0]}")
+        if decider.unsteady:
+            first = min(map(scenario_of, decider.unsteady), key=len)
+            show(f"loop: runs that didn't come out the same again, and from which nothing more was derived: {len(decider.unsteady)}, the first of them {first}")
         derived = f"{decider.followed} plans were derived from other runs, {decider.tried} of them were run as a check"
         show(f"loop: {decider.runner.count} runs and {decider.judge.count} judgements; {derived}")
 
-    def confirm(self, scenarios: list[str]) -> bool:
-        """Runs each finding and cause, and the run without faults, once more, and prints what the causes have in common. Whether all came out
-        the same."""
+    def confirm(self, scenarios: list[str]) -> None:
+        """Runs each finding and cause, and the run without faults, once more, and prints what the causes have in common."""
         lines = {scenario_in(line): line for line in self.answers.lines()}
         groups: Counter[str] = Counter()
-        is_same = True
         for outcome in self.workers.run_again(["none", *scenarios]):
             line = lines[outcome.scenario]
-            if outcome.answer(self.settings.depth > 0) != line:
-                self.tell_difference(line.split("\t")[0], outcome, line.split("\t")[-1])
-                is_same = False
+            if outcome.answer(self.settings.depth > 0) != line and not (outcome.is_late and line.startswith(f"{outcome.verdict}\t")):
+                self.tell_difference(line.split("\t")[0], line.split("\t")[-1], outcome)
+            elif outcome.parting and not outcome.is_late:
+                self.is_same = False
+                show(f"loop: the run did otherwise than before: {outcome.parting}: {outcome.scenario}")
             elif outcome.scenario != "none":
                 groups[group_of(outcome)] += 1
         for group, count in groups.most_common():
             show(f"{count} failure{'s' * (count > 1)}: {group}")
         if scenarios:
             self.tell_again(scenarios[0])
-        return is_same
 
-    def tell_difference(self, verdict: str, tried: Outcome, hits: str) -> None:
+    def tell_difference(self, verdict: str, hits: str, tried: Outcome) -> None:
+        self.is_same = False
         if verdict != tried.verdict:
             show(f"loop: {changed('verdict', verdict, tried.verdict, tried.scenario)}")
         else:
             show(f"loop: {changed('hits', hits, tried.hits, tried.scenario)}")
-        show("loop: the program or its judge doesn't do the same each time; with --every-run nothing is derived from another run")
+        show_once("loop: the program or its judge doesn't do the same each time; with --every-run nothing is derived from another run")
+
+
+def refuse(why: str, outcome: Outcome) -> NoReturn:
+    """Ends the campaign, with what the program wrote to standard error."""
+    raise Stopped("\n".join([f"{why}. The last lines on standard error:", outcome.errors]) if outcome.errors else why)
 
 
 def findings(report: bytes, codes: list[str]) -> list[str]:
@@ -232,5 +285,9 @@ def findings(report: bytes, codes: list[str]) -> list[str]:
     return list(dict.fromkeys(found))
 
 
-def decider_of(runner: Runner, settings: Settings, every_run: bool) -> Decider:
-    return Decider(runner, settings.asking(), settings.depth, every_run)
+def decider_of(runner: Runner, settings: Settings, every_run: bool, answers: Answers) -> Decider:
+    decider = Decider(runner, settings.asking(), settings.depth, every_run)
+    if settings.depth:
+        for line in answers.lines():
+            decider.repeats.take_answer(line)
+    return decider

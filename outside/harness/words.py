@@ -4,13 +4,13 @@ import os
 import shutil
 from pathlib import Path
 
-from .shown import ERRORS, write_out
+from .shown import ERRORS, show, write_out
 
 ASK_HELP = ("-h", "--help")
 
 
 class Usage(Exception):
-    """Arguments that mean nothing."""
+    """Arguments that mean nothing. The text says which, or is empty if there are too few or too many."""
 
 
 def usage_of(command: str) -> str:
@@ -18,6 +18,15 @@ def usage_of(command: str) -> str:
     lines = Path(command).read_text("utf-8").split("\n")[1:]
     head = lines[:next(at for at, line in enumerate(lines) if not line.startswith("#"))]
     return "\n".join(line.removeprefix("#").removeprefix(" ") for line in head)
+
+
+def refused(command: str, usage: Usage) -> int:
+    """Tells what is wrong with the arguments, in a line, or how the command is used. The exit status."""
+    if str(usage):
+        show(f"{os.path.basename(command).removeprefix('paklour-')}: {usage} ({as_called(command)} --help lists the options)")
+    else:
+        show(usage_of(command).partition("\n\n")[2].partition("\n\n")[0])
+    return 2
 
 
 def write_help(command: str) -> int:
@@ -33,16 +42,17 @@ def as_called(command: str) -> str:
     return name if found and os.path.realpath(found) == os.path.realpath(command) else command
 
 
-def whole_number(text: str) -> int:
+def whole_number(text: str, name: str, what: str = "whole number from 1 on") -> int:
+    """Reads the number that an option of this name has."""
     if not (text.isascii() and text.isdigit()) or text.startswith("0"):
-        raise Usage(text)
+        raise Usage(f"{name} {text}: this is no {what}")
     return int(text)
 
 
-def bytes_of(text: str) -> int:
+def bytes_of(text: str, name: str) -> int:
     """Reads a number of bytes such as 500M or 2G."""
     shift = {"K": 10, "M": 20, "G": 30}.get(text[-1:], 0)
-    return whole_number(text[:-1] if shift else text) << shift
+    return whole_number(text[:-1] if shift else text, name, "number of bytes such as 500M") << shift
 
 
 def split(words: list[str], with_value: set[str], flags: set[str]) -> tuple[dict[str, str], list[str]]:
@@ -58,12 +68,14 @@ def split(words: list[str], with_value: set[str], flags: set[str]) -> tuple[dict
             others.append(word)
         elif word.startswith("-j") and word != "-j":
             options["-j"] = word[2:]
-        elif word in with_value and rest:
+        elif word in with_value:
+            if not rest:
+                raise Usage(f"{word}: its value is missing")
             options[word] = rest.pop(0)
         elif word in flags:
             options[word] = "yes"
         else:
-            raise Usage(word)
+            raise Usage(f"{word}: there is no such option")
     return options, others
 
 

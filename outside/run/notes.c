@@ -5,6 +5,10 @@
 #include <fcntl.h>
 #include <sys/stat.h>
 
+struct key told_key(const struct statx *told) {
+    return (struct key){told->stx_ino, told->stx_btime.tv_sec, told->stx_btime.tv_nsec, told->stx_mode, told->stx_uid, told->stx_gid};
+}
+
 bool facts_of(int folder, const char *name, int flags, struct file_facts *facts) {
     struct statx told;
     if (statx(folder, name, flags, STATX_BASIC_STATS | STATX_BTIME, &told)) return false;
@@ -12,7 +16,7 @@ bool facts_of(int folder, const char *name, int flags, struct file_facts *facts)
         errno = ENOTSUP;
         return false;
     }
-    facts->key = (struct key){told.stx_ino, told.stx_btime.tv_sec, told.stx_btime.tv_nsec, told.stx_mode};
+    facts->key = told_key(&told);
     facts->length = told.stx_size;
     facts->links = told.stx_nlink;
     return true;

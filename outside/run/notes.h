@@ -13,8 +13,11 @@ struct key {
     uint64_t number;
     int64_t seconds;
     uint32_t nanoseconds;
-    uint32_t mode; /* its mode at that time, which is no part of the key */
+    uint32_t mode, owner, group; /* its mode and owner at that time, which are no part of the key */
 };
+
+struct statx;
+struct key told_key(const struct statx *told);
 
 static inline bool same_key(const struct key *one, const struct key *other) {
     return one->number == other->number && one->seconds == other->seconds && one->nanoseconds == other->nanoseconds;

@@ -5,8 +5,6 @@
 #include "streams.h"
 
 #include <errno.h>
-#include <signal.h>
-#include <sys/resource.h>
 
 enum { MOST_AT_ONCE = 16 << 20 };
 
@@ -30,29 +28,17 @@ struct writing {
     bool appends, syncs;
 };
 
-/* How many bytes the thread's limit on the length of files leaves at that place. */
-static size_t room_in_limit(const struct call *call, uint64_t place, size_t length) {
-    struct rlimit limit;
-    if (!has_limits()) return length;
-    if (prlimit(call->thread->process, RLIMIT_FSIZE, NULL, &limit) || limit.rlim_cur == RLIM_INFINITY) return length;
-    if (place >= limit.rlim_cur) return 0;
-    return length < limit.rlim_cur - place ? length : limit.rlim_cur - place;
-}
-
 static long write_noted(struct writing *writing, char *bytes, size_t length) {
     char link[LINK_LENGTH];
     int file = writing->opened->file, flags = flags_of(writing->call);
     const struct key *key = &writing->file.key;
     off_t here = writing->at >= 0 ? writing->at : lseek(file, 0, SEEK_CUR);
     uint64_t place = writing->appends ? writing->file.length : (uint64_t)here;
-    size_t fits = room_in_limit(writing->call, place, length);
-    if (length && !fits) {
-        syscall(SYS_tgkill, writing->call->thread->process, writing->call->thread->number, SIGXFSZ);
-        return -EFBIG;
-    }
-    if (is_kept) copy_later(key, link_of(file, link), place, place + fits);
-    struct iovec part = {bytes, fits};
+    if (is_kept) copy_later(key, link_of(file, link), place, place + length);
+    struct iovec part = {bytes, length};
+    take_limit(writing->call->thread);
     long result = result_of(pwritev2(file, &part, 1, writing->at, flags));
+    end_limit(writing->call->thread);
     if (result <= 0) return result;
     if (is_kept) {
         bool later = may_come_later(&writing->file, place, (uint64_t)result);
@@ -98,7 +84,7 @@ void serve_write(struct call *call) {
     enum answer answer = hit(call, WRITE, opened.path, NULL);
     if (answer == FAIL || answer == NOT_YET) return;
     if (error) return finish(call, error);
-    write_file(call, &opened, &parts, answer == HALF ? parts.length / 2 : parts.length);
+    write_file(call, &opened, &parts, answer == HALF ? half_of(parts.length) : parts.length);
 }
 
 /* ---- reads */
@@ -108,10 +94,11 @@ static long read_some(const struct call *call, const struct opened *opened, char
     return result_of(preadv2(opened->file, &part, 1, at, flags_of(call)));
 }
 
-static long read_file(struct call *call, const struct opened *opened, const struct parts *parts, size_t length) {
-    size_t done = 0;
+static long read_file(struct call *call, const struct opened *opened, const struct parts *parts, bool halves) {
+    size_t done = 0, length = parts->length;
     off_t at;
     if (!read_place(call, &at)) return -EINVAL;
+    if (halves) length = half_of(moves_now(opened, at, length));
     do {
         size_t some = length - done < MOST_AT_ONCE ? length - done : MOST_AT_ONCE;
         char *bytes = room_for(parts, some);
@@ -138,5 +125,5 @@ void serve_read(struct call *call) {
     enum answer answer = hit(call, READ, opened.path, NULL);
     if (answer == FAIL || answer == NOT_YET) return;
     if (error) return finish(call, error);
-    finish(call, read_file(call, &opened, &parts, answer == HALF ? parts.length / 2 : parts.length));
+    finish(call, read_file(call, &opened, &parts, answer == HALF));
 }

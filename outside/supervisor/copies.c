@@ -31,12 +31,19 @@ static bool is_stream(const struct opened *opened) {
     return opened->file >= 0 && (S_ISFIFO(mode) || S_ISSOCK(mode));
 }
 
-/* Whether a copy can go on. If not, the call waits for the pipe or socket. */
-static bool is_ready(struct call *call, const struct opened *opened, short events) {
-    struct pollfd file = {opened->file, events, 0};
-    if (!is_stream(opened) || fcntl(opened->file, F_GETFL) & O_NONBLOCK || poll(&file, 1, 0) != 0) return true;
-    wait_for(call, opened->file, events);
-    return false;
+static bool is_ready(const struct opened *opened, short events) {
+    return !is_stream(opened) || poll(&(struct pollfd){opened->file, events, 0}, 1, 0) != 0;
+}
+
+/* Lets the call wait for its pipe or socket. Returns false if there is none for which it may wait. */
+static bool may_wait(struct call *call, const struct copy *copy) {
+    bool waits_for_bytes = is_stream(&copy->in) && (!is_stream(&copy->out) || !is_ready(&copy->in, POLLIN));
+    const struct opened *opened = waits_for_bytes ? &copy->in : &copy->out;
+    bool is_asked_not_to = call->row->flags && argument(call, call->row->flags) & SPLICE_F_NONBLOCK;
+    if (is_asked_not_to || !is_stream(opened) || fcntl(opened->file, F_GETFL) & O_NONBLOCK) return false;
+    flush_hit(call);
+    wait_for(call, opened->file, waits_for_bytes ? POLLIN : POLLOUT);
+    return true;
 }
 
 /* Makes the call itself. */
@@ -45,8 +52,9 @@ typedef ssize_t copier(const struct copy *copy, unsigned flags);
 static ssize_t by_range(const struct copy *copy, unsigned flags) {
     return copy_file_range(copy->in.file, copy->in_place, copy->out.file, copy->out_place, copy->length, flags);
 }
+/* It never waits itself, and fails with EAGAIN. */
 static ssize_t by_splice(const struct copy *copy, unsigned flags) {
-    return splice(copy->in.file, copy->in_place, copy->out.file, copy->out_place, copy->length, flags);
+    return splice(copy->in.file, copy->in_place, copy->out.file, copy->out_place, copy->length, flags | SPLICE_F_NONBLOCK);
 }
 static ssize_t by_sendfile(const struct copy *copy, unsigned flags) {
     (void)flags;
@@ -61,7 +69,9 @@ static long copy_noted(const struct call *call, const struct copy *what, copier 
     uint64_t place = (uint64_t)(what->out_place ? *what->out_place : lseek(what->out.file, 0, SEEK_CUR));
     if (notes && is_kept) copy_later(key, link_of(what->out.file, link), place, UINT64_MAX);
     hold_signals();
+    take_limit(call->thread);
     long result = result_of(copies(what, (unsigned)argument(call, call->row->flags)));
+    end_limit(call->thread);
     let_signals();
     if (!notes || result <= 0) return result;
     if (is_kept && !mapped_was_changed(key)) note_from_file(key, link_of(what->out.file, link), place, (uint64_t)result);
@@ -82,13 +92,11 @@ static enum answer hit_copy(struct call *call, const struct copy *copy) {
     return copy->sends ? hit(call, SEND, "socket", NULL) : hit(call, READ, copy->in.path, NULL);
 }
 
-/* Whether the call goes on by itself. A copy to a stream may wait for its reader, and the reader for the supervisor. So it goes on by itself,
-   except for a half, of which only as much is done as fits. */
-static bool goes_by_itself(struct copy *copy, enum answer answer) {
-    if (answer == HALF) copy->length /= 2;
-    if (!is_stream(&copy->out)) return false;
-    if (copy->length > PIPE_BUF) copy->length = PIPE_BUF;
-    return answer == GO;
+/* A copy to a stream may wait for its reader, and the reader for the supervisor. So it goes on by itself, except for a half, of which only as much is
+   done as fits. */
+static void take_half(struct copy *copy) {
+    copy->length = half_of(moves_now(&copy->in, copy->in_place ? copy->in_at : -1, copy->length));
+    if (is_stream(&copy->out) && copy->length > PIPE_BUF) copy->length = PIPE_BUF;
 }
 
 static void serve_by(struct call *call, copier *copies) {
@@ -98,12 +106,14 @@ static void serve_by(struct call *call, copier *copies) {
     enum answer answer = hit_copy(call, &copy);
     if (answer == FAIL || answer == NOT_YET) return;
     if (answer == DROP) return finish(call, (long)copy.length);
-    if (goes_by_itself(&copy, answer)) return go_on(call);
+    if (answer == GO && is_stream(&copy.out)) return go_on(call);
     if (copy.in.file < 0 || copy.out.file < 0) return finish(call, -EBADF);
     if (!read_place(call, row->at, &copy.in_at, &copy.in_place)) return finish(call, -EFAULT);
     if (!read_place(call, row->other_at, &copy.out_at, &copy.out_place)) return finish(call, -EFAULT);
-    if (!is_ready(call, &copy.in, POLLIN) || !is_ready(call, &copy.out, POLLOUT)) return flush_hit(call);
+    if (answer == HALF) take_half(&copy);
+    if (copies != by_splice && !is_ready(&copy.out, POLLOUT) && may_wait(call, &copy)) return;
     long result = copy_noted(call, &copy, copies);
+    if (result == -EAGAIN && may_wait(call, &copy)) return;
     write_place(call, row->at, copy.in_place);
     write_place(call, row->other_at, copy.out_place);
     finish(call, result);
@@ -137,7 +147,9 @@ void serve_clone(struct call *call) {
     bool is_whole = (unsigned)argument(call, call->row->flags) == (unsigned)FICLONE;
     int in = is_whole ? hold(call, fetch(call->thread, (int)argument(call, call->row->file))) : -1;
     hold_signals();
+    take_limit(call->thread);
     long result = is_whole ? in < 0 ? -EBADF : result_of(ioctl(out.file, FICLONE, in)) : clone_range(call, &out);
+    end_limit(call->thread);
     let_signals();
     if (!result && is_kept && !mapped_was_changed(key) && look_at(out.file, "", AT_EMPTY_PATH, &after))
         note_from_file(key, link_of(out.file, link), 0, after.file.length);

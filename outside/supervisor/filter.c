@@ -60,6 +60,13 @@ static void add_condition(struct steps *steps, const struct row *row) {
         add(steps, IF_EQUAL(0, 1, 0));
         add(steps, ASK);
         return add(steps, ALLOW);
+    case NEW_RIGHTS:
+        add(steps, LOAD(ARGUMENT(row->mode)));
+        add(steps, IF_EQUAL(PR_CAPBSET_DROP, 2, 0));
+        add(steps, IF_EQUAL(PR_SET_SECUREBITS, 1, 0));
+        add(steps, IF_EQUAL(PR_CAP_AMBIENT, 0, 1));
+        add(steps, ASK);
+        return add(steps, ALLOW);
     case CLONED_FILES:
         add(steps, LOAD(ARGUMENT(row->flags)));
         add(steps, IF_EQUAL((unsigned)FICLONE, 1, 0));

@@ -3,63 +3,108 @@
 #include "supervisor.h"
 
 #include <errno.h>
+#include <linux/magic.h>
 #include <linux/openat2.h>
 #include <stdio.h>
-#include <stdlib.h>
+#include <sys/vfs.h>
 
 enum { MOST_LINKS = 40 };
 
-/* ---- names that mean something else to each thread */
+/* ---- a folder, part by part of the path that leads to it */
 
-/* For the supervisor `/proc/self` is its own folder. So the name is changed to that of the thread's folder. */
-static void name_own(const struct thread *thread, const char *text, char *named) {
-    static const char *const standard[] = {"/dev/stdin", "/dev/stdout", "/dev/stderr"};
-    for (int i = 0; i < 3; i++)
-        if (!strcmp(text, standard[i])) {
-            snprintf(named, PATH_MAX, "/proc/%d/fd/%d", thread->process, i);
-            return;
-        }
-    const char *rest = NULL;
-    if (!strncmp(text, "/proc/self/", 11)) rest = text + 11;
-    if (!strncmp(text, "/dev/fd/", 8)) rest = text + 5;
-    if (rest) snprintf(named, PATH_MAX, "/proc/%d/%.*s", thread->process, PATH_MAX - 32, rest);
-    else if (!strncmp(text, "/proc/thread-self/", 18))
-        snprintf(named, PATH_MAX, "/proc/%d/task/%d/%.*s", thread->process, thread->number, PATH_MAX - 64, text + 18);
-    else snprintf(named, PATH_MAX, "%s", text);
+/* A thread may have another root than the supervisor, and links of /proc lead each process elsewhere. Then the path is walked as the system does it
+   for the thread: `..` stays at its root, an absolute link begins there, and `/proc/self` is its own folder. */
+struct way {
+    const struct thread *thread;
+    int root, here; /* the thread's root, and the folder to which the way has led */
+    unsigned links;
+    char rest[PATH_MAX];
+};
+
+static bool is_at_root(const struct way *way) {
+    struct statx root, here;
+    if (statx(way->root, "", AT_EMPTY_PATH, STATX_INO | STATX_MNT_ID, &root)) return false;
+    if (statx(way->here, "", AT_EMPTY_PATH, STATX_INO | STATX_MNT_ID, &here)) return false;
+    return root.stx_ino == here.stx_ino && root.stx_mnt_id == here.stx_mnt_id;
 }
 
-static bool is_in_proc(const struct found *found) {
-    static dev_t proc;
+static void go_to(struct way *way, int folder) {
+    if (way->here >= 0) close(way->here);
+    way->here = folder;
+}
+
+/* Reads where a link leads. The text is empty for a link of /proc that leads to a file by itself, and not by a name. */
+static bool read_way(const struct way *way, const char *name, int link, char *text) {
+    struct statfs system;
+    struct stat folder;
+    if (fstatfs(link, &system) || fstat(way->here, &folder)) return false;
+    bool in_proc = system.f_type == PROC_SUPER_MAGIC, at_top = folder.st_ino == 1;
+    *text = 0;
+    if (in_proc && !at_top) return true;
+    if (in_proc && !strcmp(name, "self")) return sprintf(text, "%d", way->thread->process);
+    if (in_proc && !strcmp(name, "thread-self")) return sprintf(text, "%d/task/%d", way->thread->process, way->thread->number);
+    ssize_t length = readlinkat(link, "", text, PATH_MAX - 1);
+    text[length < 0 ? 0 : length] = 0;
+    return length > 0;
+}
+
+static bool follow(struct way *way, const char *name, int link) {
+    char text[PATH_MAX], rest[PATH_MAX];
+    errno = ELOOP;
+    if (++way->links > MOST_LINKS || !read_way(way, name, link, text)) return false;
+    if (!*text) {
+        go_to(way, openat(way->here, name, O_PATH | O_CLOEXEC));
+        return way->here >= 0;
+    }
+    if (*text == '/') go_to(way, openat(way->root, ".", O_PATH | O_CLOEXEC));
+    errno = ENAMETOOLONG;
+    if (snprintf(rest, sizeof rest, "%s/%s", text, way->rest) >= PATH_MAX) return false;
+    strcpy(way->rest, rest);
+    return way->here >= 0;
+}
+
+/* Goes on by the first part of the rest. */
+static bool step(struct way *way) {
+    char name[NAME_MAX + 1];
+    size_t slashes = strspn(way->rest, "/"), length = strcspn(way->rest + slashes, "/");
     struct stat told;
-    if (!proc && !stat("/proc", &told)) proc = told.st_dev;
-    return found->of_folder.device == proc;
+    errno = ENAMETOOLONG;
+    if (length > NAME_MAX) return false;
+    *(char *)mempcpy(name, way->rest + slashes, length) = 0;
+    memmove(way->rest, way->rest + slashes + length, strlen(way->rest + slashes + length) + 1);
+    if (!*name || !strcmp(name, ".") || (!strcmp(name, "..") && is_at_root(way))) return true;
+    int next = openat(way->here, name, O_PATH | O_NOFOLLOW | O_CLOEXEC);
+    if (next < 0 || fstat(next, &told)) return false;
+    if (!S_ISLNK(told.st_mode)) return go_to(way, next), true;
+    bool follows = follow(way, name, next);
+    close(next);
+    return follows;
 }
 
-/* Whether a folder is one of the supervisor's own in /proc, to which a link led. Then `path` is the same folder of the thread. */
-static bool names_own_folder(const struct thread *thread, int folder, char *path) {
-    char link[LINK_LENGTH], own[64], text[PATH_MAX];
-    ssize_t length = readlink(link_of(folder, link), text, sizeof text - 1);
-    if (length < 0) return false;
-    text[length] = 0;
-    size_t own_length = (size_t)snprintf(own, sizeof own, "/proc/%d", getpid());
-    if (strncmp(text, own, own_length) || (text[own_length] && text[own_length] != '/')) return false;
-    snprintf(path, PATH_MAX, "/proc/%d%.*s", thread->process, PATH_MAX - 64, text + own_length);
-    return true;
-}
-
-/* ---- folders */
-
-static int open_folder(const struct call *call, int from, const char *text) {
-    bool from_root = text[0] == '/', in_proc = !strncmp(text, "/proc/", 6);
-    struct open_how how = {.flags = O_PATH | O_DIRECTORY | O_CLOEXEC, .resolve = in_proc ? 0 : RESOLVE_NO_MAGICLINKS};
-    if (!call->thread->is_elsewhere) return (int)syscall(SYS_openat2, from, text, &how, sizeof how);
+static int walk(const struct thread *thread, int from, const char *text) {
     char path[64];
-    snprintf(path, sizeof path, "/proc/%d/root", call->thread->number);
-    int its_root = open(path, O_PATH | O_DIRECTORY | O_CLOEXEC);
-    how.resolve = from_root ? RESOLVE_IN_ROOT : RESOLVE_NO_MAGICLINKS;
-    int folder = (int)syscall(SYS_openat2, from_root ? its_root : from, text, &how, sizeof how);
-    if (its_root >= 0) close(its_root);
+    struct way way = {.thread = thread};
+    snprintf(path, sizeof path, "/proc/%d/root", thread->number);
+    way.root = open(path, O_PATH | O_DIRECTORY | O_CLOEXEC);
+    way.here = openat(*text == '/' ? way.root : from, ".", O_PATH | O_CLOEXEC);
+    snprintf(way.rest, sizeof way.rest, "%s", text);
+    bool goes_on = way.root >= 0 && way.here >= 0;
+    while (goes_on && *way.rest) goes_on = step(&way);
+    int folder = goes_on ? openat(way.here, ".", O_PATH | O_DIRECTORY | O_CLOEXEC) : -1, error = errno;
+    go_to(&way, -1);
+    if (way.root >= 0) close(way.root);
+    errno = error;
     return folder;
+}
+
+/* Whether this is a folder of /proc. */
+static bool is_in_proc(const struct found *found) {
+    static uint64_t device;
+    static bool is_proc;
+    struct statfs system;
+    if (device != found->of_folder.device) is_proc = !fstatfs(found->folder, &system) && system.f_type == PROC_SUPER_MAGIC;
+    device = found->of_folder.device;
+    return is_proc;
 }
 
 /* The folder at which a relative name begins: the thread's current folder, or one of its descriptors. */
@@ -92,30 +137,30 @@ static bool split(char *path, const char **folder, struct found *found) {
     return true;
 }
 
-/* Whether a folder that wasn't found is there if links of /proc are followed. It may be there for the supervisor alone. */
-static bool leads_through_proc(int from, const char *folder) {
-    int found = openat(from, folder, O_PATH | O_DIRECTORY | O_CLOEXEC);
-    bool leads = found >= 0 || errno != ELOOP;
-    if (found >= 0) close(found);
-    errno = leads ? EXDEV : ELOOP;
-    return leads;
+/* Opens a folder in one call. This fails with ELOOP if a link of /proc is on the way. */
+static int open_at_once(struct call *call, int from, const char *text) {
+    struct open_how how = {.flags = O_PATH | O_DIRECTORY | O_CLOEXEC, .resolve = RESOLVE_NO_MAGICLINKS};
+    return hold(call, (int)syscall(SYS_openat2, from, text, &how, sizeof how));
+}
+
+static bool look_at_folder(const struct call *call, struct found *found) {
+    if (found->folder != call->thread->folder) return look_at(found->folder, "", AT_EMPTY_PATH, &found->of_folder);
+    found->of_folder = call->thread->of_folder;
+    return true;
 }
 
 static bool open_its_folder(struct call *call, int from, char *path, struct found *found) {
     const char *folder;
-    char own[PATH_MAX];
     if (!split(path, &folder, found)) return false;
-    bool is_here = from >= 0 && !strcmp(folder, ".");
-    found->folder = is_here ? from : hold(call, open_folder(call, from, folder));
-    if (found->folder < 0) {
-        if (errno == ELOOP && leads_through_proc(from, folder)) unseen("a name that leads through /proc:", path);
-        return false;
+    bool is_here = from >= 0 && !strcmp(folder, "."), must_walk = call->thread->is_elsewhere && !is_here;
+    if (!must_walk) {
+        found->folder = is_here ? from : open_at_once(call, from, folder);
+        if (found->folder < 0 && errno != ELOOP) return false;
+        if (found->folder >= 0 && !look_at_folder(call, found)) return false;
+        must_walk = found->folder < 0 || (!is_here && is_in_proc(found));
     }
-    if (found->folder == call->thread->folder) found->of_folder = call->thread->of_folder;
-    else if (!look_at(found->folder, "", AT_EMPTY_PATH, &found->of_folder)) return false;
-    if (!is_in_proc(found) || !names_own_folder(call->thread, found->folder, own)) return true;
-    found->folder = hold(call, open(own, O_PATH | O_DIRECTORY | O_CLOEXEC));
-    return found->folder >= 0 && look_at(found->folder, "", AT_EMPTY_PATH, &found->of_folder);
+    if (must_walk) found->folder = hold(call, walk(call->thread, from, folder));
+    return found->folder >= 0 && (!must_walk || look_at_folder(call, found));
 }
 
 /* Whether what exists is under the root. A folder, a file with several names, and a file that a mount shows are known by themselves. A file with
@@ -149,7 +194,7 @@ static void decide(struct call *call, struct found *found, int file) {
 
 static bool look_for(struct call *call, int folder, const char *text, bool follows, struct found *found) {
     char path[PATH_MAX], target[PATH_MAX];
-    name_own(call->thread, text, path);
+    snprintf(path, sizeof path, "%s", text);
     int from = path[0] == '/' ? AT_FDCWD : first_folder(call, folder);
     if (path[0] != '/' && from < 0) return false;
     for (int links = 0; links <= MOST_LINKS; links++) {
@@ -171,7 +216,7 @@ static bool look_for(struct call *call, int folder, const char *text, bool follo
         if (length <= 0) return false;
         target[length] = 0;
         if (found->ends_in_slash && length < PATH_MAX - 2) strcat(target, "/");
-        name_own(call->thread, target, path);
+        strcpy(path, target);
         from = found->folder;
     }
     errno = ELOOP;

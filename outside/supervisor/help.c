@@ -33,6 +33,8 @@ const char help[] =
     "  FAULTS_RUN/trace    a line for each hit, with tabs between its columns: its number, the point, which hit of that point it is, what the scenario\n"
     "                      did, the file, the process, the flags of an open, and what the call came to\n"
     "  FAULTS_RUN/loaded   the programs that ran\n"
+    "  FAULTS_RUN/crashes  a line for each process that ended by a signal of a crash, such as SIGSEGV, with tabs between its columns: how many hits the\n"
+    "                      run had when that was seen, the signal, and the name of the program. No file if there was none\n"
     "\n"
     "Exit status:\n"
     "  97                  a `pause` of the scenario ended the run\n"

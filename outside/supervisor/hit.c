@@ -1,6 +1,7 @@
 /* Hits: each is counted and traced, and gets what the scenario says. */
 #define _GNU_SOURCE
 #include "../run/whole.h"
+#include "crashes.h"
 #include "marks.h"
 #include "order.h"
 #include "supervisor.h"
@@ -97,6 +98,7 @@ static enum answer act(struct call *call, const struct term *term) {
 /* Counts a hit. The counts are those of all processes of the run, and of all that ran in it before. */
 static void count(struct call *call, enum point point, const char *path, const char *flags) {
     char text[MOST_POINT + 1];
+    note_crashes();
     const char *name = point_name(&scenario, point, path, text);
     lock_run();
     if (state->ended) end_run(state->ended);

@@ -1,6 +1,8 @@
 #define _GNU_SOURCE
 #include "keeper.h"
 
+#include "crashes.h"
+
 #include "../run/whole.h"
 #include "variables.h"
 
@@ -23,6 +25,8 @@
 #include <time.h>
 #include <unistd.h>
 
+enum { MOST_CRASHES = 256 };
+
 /* Memory that the supervisor, the keeper and the command's first process share. Messages between them would be calls that are looked at. */
 enum step { STARTED, LISTENS, FAILED };
 static struct {
@@ -30,9 +34,12 @@ static struct {
     int listener, error;
     pid_t command;
     int status, command_ended;
+    int ends_all; /* whether the supervisor wants every process to be ended */
+    int crash_count;
+    struct crash crashes[MOST_CRASHES]; /* more of them aren't told */
 } *shared;
 
-static int hearing[2]; /* a pipe to which the supervisor writes once it has the listener */
+static int hearing[2] = {-1, -1}; /* a pipe to which the supervisor writes once it has the listener */
 static pid_t keeper;
 static sigset_t signals_before;
 
@@ -55,6 +62,7 @@ static bool each_child_of(pid_t process, pid_t thread, int depth, bool (*sees)(p
     return all;
 }
 
+/* The process at the top, the keeper or this one, isn't one of the run. */
 static bool each_thread_of(pid_t process, int depth, bool (*sees)(pid_t process, pid_t thread)) {
     char path[64];
     bool all = true;
@@ -63,7 +71,7 @@ static bool each_thread_of(pid_t process, int depth, bool (*sees)(pid_t process,
     for (struct dirent *entry; threads && all && (entry = readdir(threads));) {
         pid_t thread = atoi(entry->d_name);
         if (!thread) continue;
-        if (process != keeper) all = sees(process, thread);
+        if (depth) all = sees(process, thread);
         if (all) all = each_child_of(process, thread, depth, sees);
     }
     if (threads) closedir(threads);
@@ -79,25 +87,46 @@ static bool end_one(pid_t process, pid_t thread) {
 
 /* ---- the keeper */
 
-static bool reap(void) {
-    int status;
-    pid_t ended;
-    while ((ended = waitpid(-1, &status, WNOHANG)) > 0)
-        if (ended == shared->command) {
-            shared->status = status;
-            __atomic_store_n(&shared->command_ended, 1, __ATOMIC_SEQ_CST);
-        }
-    return ended == 0; /* some children are left */
+/* Notes a crash of a process that nobody has waited for yet, so that it still has its name. */
+static void note_crash(const siginfo_t *ended) {
+    char path[64];
+    struct crash *crash = &shared->crashes[shared->crash_count];
+    bool is_killed = ended->si_code == CLD_KILLED || ended->si_code == CLD_DUMPED;
+    if (!is_killed || !is_crash(ended->si_status) || shared->crash_count == MOST_CRASHES) return;
+    snprintf(path, sizeof path, "/proc/%d/comm", ended->si_pid);
+    int file = open(path, O_RDONLY | O_CLOEXEC);
+    ssize_t length = file < 0 ? 0 : read(file, crash->program, sizeof crash->program);
+    if (file >= 0) close(file);
+    crash->program[length > 0 ? length - 1 : 0] = 0; /* in place of the line feed */
+    crash->process = ended->si_pid;
+    crash->signal = ended->si_status;
+    __atomic_add_fetch(&shared->crash_count, 1, __ATOMIC_SEQ_CST);
 }
 
-/* Waits until no process is left. If the supervisor is gone, it ends every process, also one that starts others meanwhile. */
+static bool reap(void) {
+    siginfo_t ended;
+    int status;
+    while (ended.si_pid = 0, !waitid(P_ALL, 0, &ended, WEXITED | WNOHANG | WNOWAIT)) {
+        if (!ended.si_pid) return true; /* some children are left */
+        note_crash(&ended);
+        waitpid(ended.si_pid, &status, 0);
+        if (ended.si_pid != shared->command) continue;
+        shared->status = status;
+        __atomic_store_n(&shared->command_ended, 1, __ATOMIC_SEQ_CST);
+    }
+    return false;
+}
+
+/* Waits until no process is left. If the supervisor is gone, or wants it, it ends every process, also one that starts others meanwhile. For this it
+   has all descriptors that the system gives to a process. */
 static _Noreturn void keep(pid_t supervisor, const sigset_t *awaited) {
-    bool ends_all = getppid() != supervisor;
+    close_range(0, ~0U, 0);
     for (;;) {
+        bool ends_all = getppid() != supervisor || __atomic_load_n(&shared->ends_all, __ATOMIC_SEQ_CST);
         struct timespec pause = {0, 1000000};
         if (!reap()) _exit(0);
         if (ends_all) each_thread(end_one);
-        if (sigtimedwait(awaited, NULL, ends_all ? &pause : NULL) == SIGUSR1) ends_all = getppid() != supervisor;
+        sigtimedwait(awaited, NULL, ends_all ? &pause : NULL);
     }
 }
 
@@ -153,7 +182,6 @@ static _Noreturn void run_keeper(pid_t supervisor, char **words, const struct lo
     pid_t made = vfork();
     if (!made) run_command(words, looks);
     if (made < 0) say(FAILED);
-    close(hearing[0]);
     keep(supervisor, &awaited);
 }
 
@@ -190,6 +218,7 @@ int start_command(char **words, const struct looks *looks) {
     shared = mmap(NULL, sizeof *shared, PROT_READ | PROT_WRITE, MAP_SHARED | MAP_ANONYMOUS, -1, 0);
     if (shared == MAP_FAILED || pipe2(hearing, O_CLOEXEC)) refuse("memory", strerror(errno));
     sigprocmask(SIG_SETMASK, NULL, &signals_before);
+    prctl(PR_SET_CHILD_SUBREAPER, 1, 0, 0, 0); /* if the keeper is killed, what it kept can be ended */
     keeper = fork();
     if (keeper < 0) refuse("can't start a process", strerror(errno));
     if (!keeper) run_keeper(supervisor, words, looks);
@@ -201,14 +230,32 @@ int start_command(char **words, const struct looks *looks) {
     if (write(hearing[1], "", 1) != 1) refuse("can't start the command", strerror(errno));
     close(hearing[0]);
     close(hearing[1]);
+    hearing[1] = -1;
     return listener;
 }
 
+/* Without the keeper: ends what it kept. Other descriptors than those of /proc aren't needed any more. */
+static void end_orphans(void) {
+    close_range(3, ~0U, 0);
+    while (waitpid(-1, NULL, WNOHANG) >= 0 || errno == EINTR) {
+        each_thread_of(getpid(), 0, end_one);
+        nanosleep(&(struct timespec){0, 200000}, NULL);
+    }
+}
+
+const struct crash *next_crash(void) {
+    static int seen;
+    return shared && seen < __atomic_load_n(&shared->crash_count, __ATOMIC_SEQ_CST) ? &shared->crashes[seen++] : NULL;
+}
+
 bool has_ended(int *status) {
-    if (!keeper || waitpid(keeper, NULL, WNOHANG) != keeper) return false;
+    int how;
+    if (!keeper || waitpid(keeper, &how, WNOHANG) != keeper) return false;
     keeper = 0;
     *status = shared->status;
-    return true;
+    if (WIFEXITED(how)) return true;
+    end_orphans();
+    refuse("can't follow the run", "the process that keeps its processes together was killed");
 }
 
 void wait_for_end(void) {
@@ -219,8 +266,9 @@ void wait_for_end(void) {
 void end_all(void) {
     struct timespec pause = {0, 200000};
     int status;
-    while (keeper && !has_ended(&status)) {
-        each_thread(end_one);
-        nanosleep(&pause, NULL);
-    }
+    if (!keeper) return;
+    if (hearing[1] >= 0) close(hearing[1]); /* the command still waits for the listener, and the keeper for the command */
+    __atomic_store_n(&shared->ends_all, 1, __ATOMIC_SEQ_CST);
+    kill(keeper, SIGUSR1);
+    while (!has_ended(&status)) nanosleep(&pause, NULL);
 }

@@ -19,6 +19,15 @@ void wait_for_end(void);
 /* Ends every process of the run, and waits until they are gone. */
 void end_all(void);
 
+/* The next process that ended by a signal of a crash, of those that the keeper waits for: the command, and all whose parent has ended. Null if there
+   is no other. */
+struct crash {
+    pid_t process;
+    int signal;
+    char program[32]; /* its name */
+};
+const struct crash *next_crash(void);
+
 pid_t command(void);
 bool command_runs(void);
 

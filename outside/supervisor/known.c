@@ -29,7 +29,7 @@ bool look_at(int folder, const char *name, int flags, struct facts *facts) {
     struct statx told;
     if (statx(folder, name, flags, STATX_BASIC_STATS | STATX_BTIME, &told)) return false;
     facts->device = makedev(told.stx_dev_major, told.stx_dev_minor);
-    facts->file.key = (struct key){told.stx_ino, told.stx_btime.tv_sec, told.stx_btime.tv_nsec, told.stx_mode};
+    facts->file.key = told_key(&told);
     facts->file.length = told.stx_size;
     facts->file.links = told.stx_nlink;
     return true;
@@ -93,11 +93,11 @@ static const char *below_root(const char *path) {
 static bool leads_up_to_root(int folder) {
     struct facts facts, before = {0};
     bool inside = false;
-    int here = openat(folder, ".", O_PATH | O_DIRECTORY | O_CLOEXEC);
+    int here = had(openat(folder, ".", O_PATH | O_DIRECTORY | O_CLOEXEC));
     while (here >= 0 && look_at(here, "", AT_EMPTY_PATH, &facts) && facts.device == root_device
            && !same_key(&facts.file.key, &before.file.key)) {
         if ((inside = place_of_key(&facts.file.key)->where == INSIDE)) break;
-        int above = openat(here, "..", O_PATH | O_DIRECTORY | O_CLOEXEC);
+        int above = had(openat(here, "..", O_PATH | O_DIRECTORY | O_CLOEXEC));
         close(here);
         here = above;
         before = facts;

@@ -35,7 +35,9 @@ static void resize_path(struct call *call) {
     struct resizing resizing = {path_to(&found, path), &found.facts, (uint64_t)length};
     if (found.exists) begin_resize(&resizing);
     act_as(call->thread);
+    take_limit(call->thread);
     long result = result_of(truncate(path, length));
+    end_limit(call->thread);
     act_as_self();
     if (!result) end_resize(&resizing);
     finish(call, result);
@@ -50,7 +52,9 @@ void serve_resize(struct call *call) {
     if (hit(call, TRUNCATE, opened.path, NULL) != GO) return;
     struct resizing resizing = {link_of(opened.file, link), &opened.facts, (uint64_t)length};
     begin_resize(&resizing);
+    take_limit(call->thread);
     long result = result_of(ftruncate(opened.file, length));
+    end_limit(call->thread);
     if (!result) end_resize(&resizing);
     finish(call, result);
 }
@@ -77,7 +81,9 @@ void serve_allocate(struct call *call) {
     struct resizing resizing = {link_of(opened.file, link), &opened.facts, mode ? (uint64_t)at : UINT64_MAX};
     begin_resize(&resizing);
     hold_signals();
+    take_limit(call->thread);
     long result = result_of(fallocate(opened.file, mode, at, length));
+    end_limit(call->thread);
     let_signals();
     if (!result) end_resize(&resizing);
     if (!result && is_kept && S_ISREG(opened.facts.file.key.mode))

@@ -4,6 +4,7 @@
 #define _GNU_SOURCE
 #include "../run/help.h"
 #include "../run/whole.h"
+#include "crashes.h"
 #include "keeper.h"
 #include "order.h"
 #include "pin.h"
@@ -46,7 +47,8 @@ static void tell(const char *what, const char *name) {
 }
 
 _Noreturn void refuse(const char *what, const char *why) {
-    tell(what, why);
+    bool has_too_few = !strcmp(why, strerror(EMFILE)); /* whatever it wanted to open */
+    tell(has_too_few ? "the limit of descriptors is too low to follow the run" : what, why);
     end_all();
     _exit(REFUSED);
 }
@@ -61,6 +63,7 @@ static void tell_unseen(void) {
 
 _Noreturn void end_run(int status) {
     end_all();
+    note_crashes();
     note_all_stores();
     tell_unseen();
     _exit(status);
@@ -81,6 +84,8 @@ static _Noreturn void end_as(int status) {
 }
 
 static _Noreturn void end_with(int status, const char *name) {
+    note_crashes();
+    note_status(status, name);
     lock_run();
     note_all_stores();
     bool nothing = state->number == state->started;
@@ -173,8 +178,13 @@ static void resume(struct call *call) {
     thread->interrupted.is_there = false;
 }
 
+int had(int file) {
+    if (file < 0 && errno == EMFILE) refuse("descriptors", strerror(errno));
+    return file;
+}
+
 int hold(struct call *call, int file) {
-    if (file < 0) return file;
+    if (had(file) < 0) return file;
     if (call->held_count == MOST_HELD) lose("can't follow a call with more than 100 descriptors of", program_of(call->thread));
     return call->held[call->held_count++] = file;
 }
@@ -195,6 +205,7 @@ static void begin_program(struct thread *thread) {
     ssize_t length = readlink(link, program, sizeof program - 1);
     program[length < 0 ? 0 : length] = 0;
     say_loaded(thread->process, program);
+    begins_program(thread);
     thread->program = told.st_ino;
 }
 
@@ -232,13 +243,14 @@ static bool receive(void) {
 
 /* ---- the beginning */
 
-static volatile sig_atomic_t ended_by;
+static volatile sig_atomic_t ended_by, child_ended;
 
 /* Passes a signal that somebody sent on to the command, or if that has ended, ends what it left. A signal of the terminal has come to all
    processes. */
 static void on_signal(int number, siginfo_t *told, void *unused) {
     int before = errno;
     (void)unused;
+    if (number == SIGCHLD) child_ended = true;
     bool was_sent = number != SIGCHLD && number != SIGALRM && told->si_code <= 0;
     if (was_sent && command_runs()) kill(command(), number);
     else if (was_sent) ended_by = number;
@@ -296,7 +308,8 @@ static _Noreturn void watch(const char *name) {
     int status;
     for (;;) {
         if (waits_at_all()) wait_for_any(listener);
-        if (has_come() && receive()) continue;
+        if (!child_ended && has_come() && receive()) continue;
+        child_ended = false;
         if (is_deserted()) wait_for_end();
         if (has_ended(&status)) end_with(status, name);
         if (ended_by) end_run(128 + ended_by);

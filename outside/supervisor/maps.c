@@ -161,7 +161,7 @@ static struct mapped *add_mapped(const struct opened *opened) {
         unseen("more than 256 mapped files, as", opened->path);
         return NULL;
     }
-    int own = open(link_of(opened->file, link), O_RDONLY | O_CLOEXEC);
+    int own = had(open(link_of(opened->file, link), O_RDONLY | O_CLOEXEC));
     if (own < 0) return NULL;
     file = &mapped[mapped_count++];
     *file = (struct mapped){.key = opened->facts.file.key, .file = own};
@@ -246,9 +246,9 @@ void serve_map_sync(struct call *call) {
     if (!(argument(call, call->row->flags) & MS_SYNC) || from % PAGE || !find_area(call, &area)) return go_on(call);
     if (length > area.to - from) length = area.to - from;
     if (!look_at(area.file->file, "", AT_EMPTY_PATH, &facts)) return go_on(call);
+    note_stores(&area.file->key); /* before a call that fails is answered: its thread stores more as soon as it goes on */
     enum answer answer = hit(call, FSYNC, shown_path(area.file->file, &facts, path), NULL);
     if (answer == NOT_YET) return;
-    note_stores(&area.file->key);
     lock_run();
     if (answer == FAIL && forgets) note_sync(SYNC_FAILED, &area.file->key, state->noted, 0, 0);
     else if (answer == GO) note_sync(SYNCED_RANGE, &area.file->key, state->noted, area.at + (from - area.from), length);

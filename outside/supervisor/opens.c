@@ -23,7 +23,7 @@ static bool is_nameless(uint64_t flags) { return (flags & O_TMPFILE) == O_TMPFIL
 static bool find_asked(struct call *call, const struct open_how *how, struct found *found) {
     char text[PATH_MAX];
     const char *name = text;
-    bool follows = !(how->flags & O_NOFOLLOW) && (how->flags & (O_CREAT | O_EXCL)) != (O_CREAT | O_EXCL);
+    bool follows = !(how->flags & O_NOFOLLOW) && !(how->resolve & RESOLVE_NO_SYMLINKS) && (how->flags & (O_CREAT | O_EXCL)) != (O_CREAT | O_EXCL);
     int folder = call->row->folder ? (int)argument(call, call->row->folder) : AT_FDCWD;
     found->error = EFAULT;
     if (!read_text(call->thread, argument(call, call->row->path), text, sizeof text)) return false;
@@ -32,10 +32,13 @@ static bool find_asked(struct call *call, const struct open_how *how, struct fou
     return *name && find_text(call, folder, name, follows, found);
 }
 
-/* An open with rules about its path is made with its own arguments, so that the rules are kept. */
-static int open_by_rules(struct call *call, const struct open_how *how) {
+/* An open with rules about its path is made with its own arguments, so that the rules are kept. If its thread has another root, and no rule holds the
+   path in a folder, they are kept for the last part alone. */
+static int open_by_rules(struct call *call, const struct open_how *how, const struct found *found) {
     char text[PATH_MAX];
     int folder = (int)argument(call, call->row->folder);
+    bool is_held = how->resolve & (RESOLVE_BENEATH | RESOLVE_IN_ROOT);
+    if (call->thread->is_elsewhere && !is_held) return (int)syscall(SYS_openat2, found->folder, found->name, how, sizeof *how);
     if (!read_text(call->thread, argument(call, call->row->path), text, sizeof text)) return errno = EFAULT, -1;
     int from = folder == AT_FDCWD ? folder_of(call->thread) : hold(call, fetch(call->thread, folder));
     return (int)syscall(SYS_openat2, from, text, how, sizeof *how);
@@ -47,7 +50,7 @@ static int open_found(struct call *call, const struct open_how *how, const struc
     own.flags |= O_CLOEXEC | O_NOCTTY;
     snprintf(name, sizeof name, "%s%s", found->name, found->ends_in_slash ? "/" : "");
     make_as(call->thread);
-    int file = how->resolve ? open_by_rules(call, &own)
+    int file = how->resolve ? open_by_rules(call, &own, found)
                             : openat(found->folder, name, (int)own.flags, (mode_t)own.mode & 07777);
     int error = errno;
     act_as_self();
@@ -86,6 +89,8 @@ void serve_open(struct call *call) {
     if (!find_asked(call, &how, &found) || !found.is_inside) return pass_by(call, &found);
     if (hit(call, OPEN, found.path, flag_names((int)how.flags, flags)) != GO) return;
     if (may_wait(&found)) return go_on(call);
+    bool changes = how.flags & (found.exists ? O_TRUNC : O_CREAT);
+    if (changes && !has_free_descriptor(call->thread)) return finish(call, -EMFILE);
     if (is_kept && found.exists && how.flags & O_TRUNC && S_ISREG(found.facts.file.key.mode))
         copy_later(&found.facts.file.key, path_to(&found, path), 0, UINT64_MAX);
     int file = open_found(call, &how, &found);

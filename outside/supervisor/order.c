@@ -36,7 +36,7 @@ static int count;
 static int open_proc(int thread, const char *name) {
     char path[64];
     snprintf(path, sizeof path, "/proc/%d/%s", thread, name);
-    return open(path, O_RDONLY | O_CLOEXEC);
+    return had(open(path, O_RDONLY | O_CLOEXEC));
 }
 
 static bool was_restless(int thread) {

@@ -5,13 +5,14 @@
 #include <errno.h>
 #include <poll.h>
 #include <signal.h>
+#include <sys/ioctl.h>
 #include <sys/socket.h>
 
 /* A transfer to or from a pipe or a socket. The supervisor never waits in it: the call waits instead, until it can go on. */
 struct transfer {
     struct call *call;
     const struct opened *opened;
-    bool sends, is_socket;
+    bool sends, is_socket, halves;
     int flags;               /* the flags of a message */
     struct parts parts;
     size_t length;
@@ -22,6 +23,21 @@ struct transfer {
 };
 
 bool is_socket(const struct opened *opened) { return opened->file >= 0 && S_ISSOCK(opened->facts.file.key.mode); }
+
+/* What waits in a pipe, or in a socket, of which a message is moved as a whole. */
+static long waiting_bytes(int file) {
+    int type = SOCK_STREAM, bytes = 0;
+    socklen_t size = sizeof type;
+    getsockopt(file, SOL_SOCKET, SO_TYPE, &type, &size);
+    if (type != SOCK_STREAM) return recv(file, NULL, 0, MSG_PEEK | MSG_TRUNC | MSG_DONTWAIT);
+    return ioctl(file, FIONREAD, &bytes) ? 0 : bytes;
+}
+
+size_t moves_now(const struct opened *opened, off_t at, size_t length) {
+    off_t place = at >= 0 ? at : lseek(opened->file, 0, SEEK_CUR);
+    long there = S_ISREG(opened->facts.file.key.mode) ? (long)opened->facts.file.length - place : waiting_bytes(opened->file);
+    return there > 0 && (size_t)there < length ? (size_t)there : length;
+}
 
 /* ---- one step, which moves as much as is there or fits */
 
@@ -49,9 +65,13 @@ static long move_in_pipe(const struct transfer *transfer, char *bytes, size_t le
     return result_of(write(file, bytes, length < PIPE_BUF ? length : PIPE_BUF));
 }
 
+/* Whether all of it is moved, however often it has to wait. Half of it is known then before anything comes. */
+static bool is_moved_whole(const struct transfer *transfer) { return transfer->sends || transfer->flags & MSG_WAITALL; }
+
 static long move_some(struct transfer *transfer) {
     struct call *call = transfer->call;
     size_t left = transfer->length - call->moved;
+    if (transfer->halves && !is_moved_whole(transfer)) left = half_of(moves_now(transfer->opened, -1, left));
     char *bytes = room_for(&transfer->parts, left);
     if (transfer->sends && left && !(left = gather(call, &transfer->parts, call->moved, left, bytes))) return -EFAULT;
     long result = transfer->is_socket ? move_message(transfer, bytes, left) : move_in_pipe(transfer, bytes, left);
@@ -87,8 +107,7 @@ static bool is_over(struct transfer *transfer, long *result) {
     for (;;) {
         *result = move_some(transfer);
         if (*result > 0) call->moved += (size_t)*result;
-        bool wants_more = transfer->sends || transfer->flags & MSG_WAITALL;
-        if (*result > 0 && wants_more && call->moved < transfer->length && may_wait(transfer)) continue;
+        if (*result > 0 && is_moved_whole(transfer) && call->moved < transfer->length && may_wait(transfer)) continue;
         if (*result != -EAGAIN || !may_wait(transfer)) break;
         set_limit(transfer);
         if (call->gives_up && now() >= call->gives_up) break;
@@ -111,6 +130,11 @@ static void write_address(const struct transfer *transfer, uint64_t of_length) {
 }
 
 /* ---- reads, writes, sendto and recvfrom */
+
+static void set_length_by(struct transfer *transfer, enum answer answer) {
+    transfer->halves = answer == HALF;
+    transfer->length = transfer->halves && is_moved_whole(transfer) ? half_of(transfer->parts.length) : transfer->parts.length;
+}
 
 static enum answer hit_stream(struct call *call, const struct opened *opened, enum point point) {
     return hit(call, point, is_socket(opened) ? "socket" : opened->path, NULL);
@@ -136,7 +160,7 @@ static void serve_bytes(struct call *call, const struct opened *opened, enum poi
     if (answer == FAIL || answer == NOT_YET) return;
     if (error) return finish(call, error);
     if (answer == DROP) return finish(call, (long)transfer.parts.length);
-    transfer.length = answer == HALF ? transfer.parts.length / 2 : transfer.parts.length;
+    set_length_by(&transfer, answer);
     if (!is_over(&transfer, &result)) return;
     if (result >= 0) write_address(&transfer, argument(call, call->row->other_at));
     finish(call, result);
@@ -193,7 +217,7 @@ static void serve_message(struct call *call, const struct opened *opened, enum p
     if (answer == FAIL || answer == NOT_YET) return;
     if (!is_read || (answer == GO && message.head.msg_controllen)) return go_on(call);
     if (answer == DROP) return finish(call, (long)transfer.parts.length);
-    transfer.length = answer == HALF ? transfer.parts.length / 2 : transfer.parts.length;
+    set_length_by(&transfer, answer);
     if (!is_over(&transfer, &result)) return;
     if (result >= 0) write_message(&transfer, &message);
     finish(call, result);
@@ -233,7 +257,7 @@ static void serve_messages(struct call *call, const struct opened *opened, enum 
     enum answer answer = hit_stream(call, opened, point);
     if (answer == FAIL || answer == NOT_YET) return;
     if (answer == GO || count > MOST_MESSAGES) return go_on(call);
-    long result = move_messages(&transfer, answer == HALF ? count / 2 : count, answer == DROP);
+    long result = move_messages(&transfer, answer == HALF ? half_of(count) : count, answer == DROP);
     if (result == -EAGAIN && may_wait(&transfer)) {
         flush_hit(call);
         return wait_for(call, opened->file, transfer.sends ? POLLOUT : POLLIN);
@@ -274,6 +298,7 @@ void serve_accept(struct call *call) {
     int flags = (int)argument(call, call->row->flags);
     if (!open_socket(call, &opened)) return go_on(call);
     if (hit_stream(call, &opened, ACCEPT) != GO) return;
+    if (!has_free_descriptor(call->thread)) return finish(call, -EMFILE); /* and the connection stays in the queue */
     transfer = (struct transfer){.call = call, .opened = &opened, .is_socket = true, .address = argument(call, call->row->bytes)};
     struct pollfd comes = {opened.file, POLLIN, 0};
     set_limit(&transfer);

@@ -1,10 +1,10 @@
 /* What the files of the supervisor share. main.c begins, receives calls, answers them and ends. waiting.c has the calls that are answered later,
    and order.c says which of them goes next. table.c says what each system call's arguments are. filter.c and keeper.c start the command. thread.c
    looks into a thread, and parts.c into its memory. known.c and find.c say which files are under the root. hit.c counts and traces hits and says
-   what the scenario does there; trace.c writes the lines. noting.c says what is noted, and notes_file.c writes it. variables.c reads the
-   environment. ../run has what the power cut shares with it. The other files serve the calls: opens.c, bytes.c, copies.c, lengths.c, syncs.c,
-   names.c and maps.c those on files, streams.c those on pipes and sockets, pin.c random bytes, sleeps.c sleeps, and programs.c calls that are no
-   points. */
+   what the scenario does there; trace.c writes the lines, and crashes.c those about processes that crashed. noting.c says what is noted, and
+   notes_file.c writes it. variables.c reads the environment. ../run has what the power cut shares with it. The other files serve the calls: opens.c,
+   bytes.c, copies.c, lengths.c, syncs.c, names.c and maps.c those on files, streams.c those on pipes and sockets, pin.c random bytes, sleeps.c sleeps,
+   and programs.c calls that are no points. */
 #ifndef SUPERVISOR_H
 #define SUPERVISOR_H
 
@@ -50,6 +50,9 @@ struct call {
 static inline uint64_t argument(const struct call *call, unsigned number) {
     return number ? call->told.data.args[number - 1] : 0;
 }
+
+/* Returns a descriptor, or what is negative. If it couldn't be had since the supervisor has too many, the run can't be followed. */
+int had(int file);
 
 /* Keeps a descriptor until the call has been served, and returns it. */
 int hold(struct call *call, int file);
@@ -110,6 +113,7 @@ struct thread {
     int folder;      /* its current folder, or -1; it is known as of `moves` changes of such folders */
     struct facts of_folder;
     uint64_t moves;
+    char name[32];    /* the name of its program, as the system keeps it */
     uint64_t program; /* the number of its program's file, once it was noted */
     struct {          /* the call that a signal interrupted; if the same call comes again, it is no other hit */
         bool is_there;
@@ -127,6 +131,12 @@ void folder_changes(struct thread *thread);
 
 /* A copy of the thread's descriptor. */
 int fetch(const struct thread *thread, int file);
+
+/* Whether its limit leaves it a descriptor. The system looks at that before it opens anything. */
+bool has_free_descriptor(const struct thread *thread);
+
+/* Its program is another one now. */
+void begins_program(struct thread *thread);
 
 /* The path of its program. */
 const char *program_of(const struct thread *thread);
@@ -148,9 +158,14 @@ const char *status_of(const struct thread *thread, const char *line);
 void act_as(const struct thread *thread);
 void make_as(struct thread *thread);
 void act_as_self(void);
+
+/* From here on the supervisor makes no file longer than the thread may. end_limit ends that, and sends the thread the signal that the system sent the
+   supervisor if a file would have become longer. */
+void take_limit(const struct thread *thread);
+void end_limit(const struct thread *thread);
+
 void ids_changed(void);
 void limits_changed(void);
-bool has_limits(void); /* whether there may be limits on the length of files */
 void mask_changed(const struct thread *thread);
 void root_changed(void);
 
@@ -219,8 +234,11 @@ void place_of(const struct found *found, struct place *place);
 
 /* ---- hits */
 
-/* Counts a hit and returns what the call does. With NOT_YET it has to wait, and is served again later. With FAIL it has been answered already. */
+/* Counts a hit and returns what the call does. With HALF it moves half of what it would have moved. With NOT_YET it has to wait, and is served again later. With FAIL it has been answered already. */
 enum answer hit(struct call *call, enum point point, const char *path, const char *flags);
+
+/* Half of so many bytes, at least one: a program that goes on with the rest comes to its end. */
+static inline size_t half_of(size_t length) { return length > 1 ? length / 2 : length; }
 
 /* The lock of the counts, the trace and the notes. One supervisor of a run at a time has it. */
 void lock_run(void);

@@ -13,7 +13,6 @@ static bool can_be_synced(const struct opened *opened) {
 static void note_failed(const struct key *file) {
     if (!is_kept || !forgets) return;
     lock_run();
-    note_stores(file);
     note_sync(SYNC_FAILED, file, state->noted, 0, 0);
     unlock_run();
 }
@@ -22,11 +21,11 @@ void serve_sync(struct call *call) {
     struct opened opened;
     if (!open_of(call, call->row->file, &opened)) return go_on(call);
     const struct key *key = &opened.facts.file.key;
+    note_stores(key); /* before a call that fails is answered: its thread stores more as soon as it goes on */
     enum answer answer = hit(call, FSYNC, opened.path, NULL);
     if (answer == FAIL) note_failed(key);
     if (answer != GO) return;
     if (!can_be_synced(&opened)) return go_on(call);
-    note_stores(key);
     if (is_kept) note_sync(SYNCED, key, state->noted, 0, 0);
     finish(call, 0);
 }

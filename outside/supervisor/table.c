@@ -77,6 +77,7 @@ const struct row table[] = {
     {SYS_setfsgid, POINTS, serve_ids, .where = ALWAYS},
     {SYS_setgroups, POINTS, serve_ids, .where = ALWAYS},
     {SYS_capset, POINTS, serve_ids, .where = ALWAYS},
+    {SYS_prctl, POINTS, serve_ids, NEW_RIGHTS, .mode = 1},
     {SYS_chdir, POINTS, serve_move, .path = 1},
     {SYS_fchdir, POINTS, serve_move, .file = 1},
     {SYS_setrlimit, POINTS, serve_limits, .bytes = 2},

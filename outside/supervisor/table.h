@@ -14,6 +14,7 @@ enum where {
     SHARED_FILES,  /* a mapping of a file that others see */
     WRITABLE,      /* memory that becomes writable */
     NEW_LIMITS,    /* limits that are set, and not only asked for */
+    NEW_RIGHTS,    /* what changes the capabilities of programs that are started */
     CLONED_FILES,  /* an ioctl that clones files */
     ON_SOCKETS,    /* if sockets are points */
     PINNED,        /* if random bytes are the same in each run */

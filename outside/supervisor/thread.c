@@ -1,9 +1,12 @@
 /* The threads of the run: their descriptors, memory, umask and user. */
 #define _GNU_SOURCE
+#include "crashes.h"
 #include "supervisor.h"
 
+#include <dirent.h>
 #include <errno.h>
 #include <grp.h>
+#include <linux/capability.h>
 #include <signal.h>
 #include <stdio.h>
 #include <stdlib.h>
@@ -28,7 +31,7 @@ static char status[MOST_STATUS];
 static void read_status(const struct thread *thread) {
     char path[64];
     snprintf(path, sizeof path, "/proc/%d/status", thread->number);
-    int file = open(path, O_RDONLY | O_CLOEXEC);
+    int file = had(open(path, O_RDONLY | O_CLOEXEC));
     ssize_t length = file < 0 ? -1 : read(file, status, sizeof status - 1);
     if (file >= 0) close(file);
     status[length < 0 ? 0 : length] = 0;
@@ -95,7 +98,7 @@ int folder_of(struct thread *thread) {
     if (thread->folder >= 0 && thread->moves == moves && !mover) return thread->folder;
     if (thread->folder >= 0) close(thread->folder);
     snprintf(path, sizeof path, "/proc/%d/cwd", thread->number);
-    thread->folder = open(path, O_PATH | O_DIRECTORY | O_CLOEXEC);
+    thread->folder = had(open(path, O_PATH | O_DIRECTORY | O_CLOEXEC));
     thread->moves = moves;
     if (thread->folder < 0 || look_at(thread->folder, "", AT_EMPTY_PATH, &thread->of_folder)) return thread->folder;
     close(thread->folder);
@@ -120,25 +123,47 @@ static int handle_of(const struct thread *thread) {
     int handle = knows_threads ? (int)syscall(SYS_pidfd_open, thread->number, PIDFD_THREAD) : -1;
     if (handle >= 0) return handle;
     if (errno == EINVAL) knows_threads = false;
-    return (int)syscall(SYS_pidfd_open, thread->process, 0);
+    return had((int)syscall(SYS_pidfd_open, thread->process, 0));
+}
+
+/* How many threads are remembered. Each takes two descriptors, and most of those that the system gives are for calls that wait. */
+static int slots(void) {
+    static int count;
+    struct rlimit limit;
+    if (count) return count;
+    count = !getrlimit(RLIMIT_NOFILE, &limit) && limit.rlim_cur < 8 * SLOTS ? (int)limit.rlim_cur / 8 : SLOTS;
+    return count += !count;
+}
+
+/* Takes its name over from the status that was read last, as nobody can read it any more when it has ended. */
+static void take_name(struct thread *thread) {
+    const char *name = line_of_status("Name:\t");
+    snprintf(thread->name, sizeof thread->name, "%.*s", name ? (int)strcspn(name, "\n") : 0, name ? name : "");
+}
+
+void begins_program(struct thread *thread) {
+    read_status(thread);
+    take_name(thread);
 }
 
 struct thread *thread_of(int number) {
-    struct thread *thread = &threads[number % SLOTS];
+    struct thread *thread = &threads[number % slots()];
     if (thread->number == number && is_alive(thread)) {
         if (roots_change) thread->is_elsewhere = looks_elsewhere(thread);
         if (mover) has_moved(thread);
         return thread;
     }
     uint64_t program = thread->number == number && !knows_threads ? thread->program : 0;
-    if (thread->number) close(thread->handle);
+    if (thread->number) see_end(thread), close(thread->handle);
     if (thread->number && thread->folder >= 0) close(thread->folder);
     *thread = (struct thread){.number = number, .folder = -1, .seen = now()};
     read_status(thread);
     const char *process = line_of_status("Tgid:"), *mask = line_of_status("Umask:");
+    take_name(thread);
     thread->process = process ? atoi(process) : number;
     thread->mask = mask ? (int)strtol(mask, NULL, 8) : -1;
     thread->handle = handle_of(thread);
+    if (knows_threads) watch_end(thread);
     thread->is_elsewhere = looks_elsewhere(thread);
     thread->program = program;
     return thread;
@@ -165,6 +190,23 @@ int fetch(const struct thread *thread, int file) {
     int fetched = (int)syscall(SYS_pidfd_getfd, thread->handle, file, 0);
     if (fetched < 0) must_be_allowed(thread);
     return fetched;
+}
+
+/* If the last number that it may have is free, nothing need be counted. */
+bool has_free_descriptor(const struct thread *thread) {
+    char path[64];
+    struct rlimit limit;
+    rlim_t used = 0;
+    if (prlimit(thread->process, RLIMIT_NOFILE, NULL, &limit) || limit.rlim_cur > INT_MAX) return true;
+    int last = (int)syscall(SYS_pidfd_getfd, thread->handle, (int)limit.rlim_cur - 1, 0);
+    if (last < 0 && limit.rlim_cur > 0) return true;
+    if (last >= 0) close(last);
+    snprintf(path, sizeof path, "/proc/%d/fd", thread->number);
+    DIR *names = opendir(path);
+    for (struct dirent *entry; names && (entry = readdir(names));)
+        used += *entry->d_name != '.' && strtoul(entry->d_name, NULL, 10) < limit.rlim_cur;
+    if (names) closedir(names);
+    return used < limit.rlim_cur;
 }
 
 /* ---- memory */
@@ -197,7 +239,8 @@ bool read_text(const struct thread *thread, uint64_t at, char *text, size_t room
 
 /* ---- whose files are made */
 
-static bool masks_change, ids_change, is_other;
+static bool masks_change, ids_change;
+static bool is_other, is_limited; /* whether it acts as another user now, and with fewer capabilities */
 static mode_t own_mask = (mode_t)-1;
 
 void mask_changed(const struct thread *thread) {
@@ -208,15 +251,31 @@ void mask_changed(const struct thread *thread) {
 void ids_changed(void) { ids_change = true; }
 
 /* Threads have the supervisor's own limits until one of them sets others. */
-static bool limits_change;
+static bool limits_change, is_bounded;
+static struct rlimit own_limit;
+static volatile sig_atomic_t is_exceeded;
 
 void limits_changed(void) { limits_change = true; }
 
-bool has_limits(void) {
-    static int own_limit = -1;
+static void on_exceeded(int unused) {
+    (void)unused;
+    is_exceeded = true;
+}
+
+void take_limit(const struct thread *thread) {
     struct rlimit limit;
-    if (own_limit < 0) own_limit = getrlimit(RLIMIT_FSIZE, &limit) || limit.rlim_cur != RLIM_INFINITY;
-    return own_limit || limits_change;
+    is_exceeded = false;
+    if (!own_limit.rlim_max) getrlimit(RLIMIT_FSIZE, &own_limit), signal(SIGXFSZ, on_exceeded);
+    if (!limits_change && own_limit.rlim_cur == RLIM_INFINITY) return;
+    if (prlimit(thread->process, RLIMIT_FSIZE, NULL, &limit)) return;
+    if (limit.rlim_cur > own_limit.rlim_max) limit.rlim_cur = own_limit.rlim_max;
+    is_bounded = limit.rlim_cur != own_limit.rlim_cur && !setrlimit(RLIMIT_FSIZE, &(struct rlimit){limit.rlim_cur, own_limit.rlim_max});
+}
+
+void end_limit(const struct thread *thread) {
+    if (is_bounded) setrlimit(RLIMIT_FSIZE, &own_limit);
+    is_bounded = false;
+    if (is_exceeded) syscall(SYS_tgkill, thread->process, thread->number, SIGXFSZ);
 }
 
 static void take_mask(struct thread *thread) {
@@ -228,18 +287,18 @@ static void take_mask(struct thread *thread) {
 }
 
 /* The user or group as which a thread uses files: the last of the four numbers of a line. */
-static unsigned file_id(const struct thread *thread, const char *line) {
+static unsigned file_id(const char *line) {
     unsigned ids[4] = {0};
-    const char *text = status_of(thread, line);
+    const char *text = line_of_status(line);
     if (text) sscanf(text, "%u %u %u %u", &ids[0], &ids[1], &ids[2], &ids[3]);
     return ids[3];
 }
 
-static void take_groups(const struct thread *thread) {
+static void take_groups(void) {
     gid_t groups[256];
     size_t count = 0;
     char *end;
-    const char *text = status_of(thread, "Groups:");
+    const char *text = line_of_status("Groups:");
     for (; text && count < sizeof groups / sizeof *groups; text = end) {
         groups[count] = (gid_t)strtoul(text, &end, 10);
         if (end == text || memchr(text, '\n', (size_t)(end - text))) break;
@@ -248,25 +307,54 @@ static void take_groups(const struct thread *thread) {
     setgroups(count, groups);
 }
 
+/* The capabilities of the supervisor, each a bit: those that it may use, and does use but for the time in which it acts as a thread. */
+static uint64_t own_capabilities(void) {
+    static uint64_t own;
+    static bool is_known;
+    struct __user_cap_header_struct head = {.version = _LINUX_CAPABILITY_VERSION_3};
+    struct __user_cap_data_struct sets[2] = {0};
+    if (!is_known && !syscall(SYS_capget, &head, sets)) own = sets[0].effective | (uint64_t)sets[1].effective << 32;
+    is_known = true;
+    return own;
+}
+
+/* Uses these capabilities alone, of those that it may use. */
+static void use_capabilities(uint64_t used) {
+    struct __user_cap_header_struct head = {.version = _LINUX_CAPABILITY_VERSION_3};
+    struct __user_cap_data_struct sets[2];
+    if (syscall(SYS_capget, &head, sets)) return;
+    for (int i = 0; i < 2; i++) sets[i].effective = sets[i].permitted & (unsigned)(used >> 32 * i);
+    syscall(SYS_capset, &head, sets);
+}
+
 void make_as(struct thread *thread) {
     take_mask(thread);
     act_as(thread);
 }
 
+/* The supervisor still looks into the thread meanwhile, so it keeps the right to do that. */
 void act_as(const struct thread *thread) {
-    if (!ids_change || geteuid()) return;
-    unsigned user = file_id(thread, "Uid:"), group = file_id(thread, "Gid:");
-    if (!user && !group) return;
-    take_groups(thread);
-    setfsgid(group);
-    setfsuid(user);
-    is_other = true;
+    if (!ids_change || !own_capabilities()) return;
+    read_status(thread);
+    const char *text = line_of_status("CapEff:");
+    unsigned user = file_id("Uid:"), group = file_id("Gid:");
+    uint64_t capabilities = text ? strtoull(text, NULL, 16) & own_capabilities() : own_capabilities();
+    is_other = user != geteuid() || group != getegid();
+    is_limited = capabilities != own_capabilities();
+    if (is_other) {
+        take_groups();
+        setfsgid(group);
+        setfsuid(user);
+    }
+    if (is_other || is_limited) use_capabilities(capabilities | 1ull << CAP_SYS_PTRACE);
 }
 
 void act_as_self(void) {
-    if (!is_other) return;
-    setfsuid(0);
-    setfsgid(0);
-    setgroups(0, NULL);
-    is_other = false;
+    if (is_other || is_limited) use_capabilities(own_capabilities());
+    if (is_other) {
+        setfsuid(geteuid());
+        setfsgid(getegid());
+        setgroups(0, NULL);
+    }
+    is_other = is_limited = false;
 }

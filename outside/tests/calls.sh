@@ -18,8 +18,8 @@ fails 'copy_file_range fails' sys::write 'create a copy old 4 copy old 4' 'creat
 noted 'copy_file_range' 'create a copy old 4 folder . fsync' '1 write a 4 at 0' 'a=0123 old=0123456789 '
 fails 'sendfile fails' sys::write 'create a sendfile old 4 sendfile old 4' 'create 0,sendfile EIO,sendfile 4'
 noted 'sendfile' 'create a sendfile old 4 folder . fsync' '1 write a 4 at 0' 'a=0123 old=0123456789 '
-try 'sys::write=return(HALF)' create a copy old 5 sendfile old 3
-is 'half of a copy' 'create 0,copy 2,sendfile 1' "$said"
+try 'sys::write=return(HALF)' create a copy old 5 sendfile old 3 copy old 99 sendfile old 99 copy old 1 splice abcd splice a
+is 'half of a copy' 'create 0,copy 2,sendfile 1,copy 5,sendfile 5,copy 1,splice 2,splice 1' "$said"
 try none open old pwrite a copy sub/in 3
 is 'a copy over what is there' '1 write old 1 at 0,2 write old 3 at 0:old=ins3456789 ' "$(pending):$(kept power::keep=return)"
 

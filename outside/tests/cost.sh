@@ -46,7 +46,17 @@ if command -v strace > "$here/said" && strace -o "$here/calls" true 2> "$here/fa
     }
     fewer=$(calls_of 10)
     is 'a small write costs 9 calls, and a line elsewhere 4' $((9 + 4)) $((($(calls_of 110) - fewer + 50) / 100))
+
+    # How often a cut looks for the holes of a file that nobody touched. A file system in memory looks at all of the file each time.
+    looks_of() {
+        new
+        rm -r "$here/run" && head -c "$1" /dev/zero > "$here/data/large" && out/powercut begin "$here/run" "$here/data"
+        go none create a write b
+        strace -o "$here/calls" -e trace=lseek out/powercut cut "$here/run" "$here/data"
+        grep -c SEEK_ "$here/calls"
+    }
+    is 'a cut looks for the holes of a large file as often as for those of a small one' "$(looks_of 100000)" "$(looks_of 8000000)"
 else
-    echo 'skipped what a small write costs: no strace'
+    echo 'skipped what a small write and a large file cost: no strace'
 fi
 new

@@ -88,6 +88,24 @@ go none folder . fsync
 left lasting > /dev/null
 is 'modes stay' '640 500' "$(stat -c %a "$here/data/old" "$here/data/sub" | paste -s -d ' ')"
 chmod 700 "$here/data/sub"
+if [ "$(id -u)" = 0 ]; then
+    # owners NAME..: whose these are, with their modes
+    owners() { (cd "$here/data" && stat -c '%n %u:%g %a' "$@" | paste -s -d ,); }
+    new
+    rm -r "$here/run"
+    (cd "$here/data" && ln -s old way && chown -h 3:4 way && chown 1:2 old && chmod 4750 old && chown -R 5:6 sub && "$outside/out/powercut" begin ../run .)
+    run none sh -c 'echo x > a; mkdir d; chown 7:8 a; chgrp 9 d; setpriv --reuid 5 --regid 6 --clear-groups sh -c "echo y > sub/b"; chown 10 way -h
+        echo z > sub/gone; chown 11:12 sub/gone; mv sub/gone sub/went; rm sub/went'
+    expected='a 7:8 644,d 0:9 755,old 1:2 4750,sub 5:6 755,sub/b 5:6 644,sub/in 5:6 644,way 10:4 777'
+    is 'owners stay' "0 $expected" "$status $(left live > /dev/null; owners a d old sub sub/b sub/in way)"
+    is 'in each state' 'old 1:2 4750,sub 5:6 755,sub/in 5:6 644,way 10:4 777' "$(left lasting > /dev/null; owners old sub sub/in way)"
+    is 'also of what is gone by then' "$expected,sub/went 11:12 644" \
+        "$(left keep "power::keep=$(($(pending | tr , '\n' | wc -l) - 1))*return" > /dev/null; owners a d old sub sub/b sub/in way sub/went)"
+    out/powercut recover "$here/run" "$here/data" live && run none sh -c ': > c'
+    is 'and when the run goes on' "$expected" "$(left lasting > /dev/null; owners a d old sub sub/b sub/in way)"
+else
+    echo 'skipped owners: not root'
+fi
 try none open old write ab fsync
 left lasting > /dev/null
 rm "$here/data/old"

@@ -78,7 +78,9 @@ is 'or where asks refuses, which is told' '2 settings: unknown key what' "$? $(c
 unset REFUSES
 options=--what
 loop answers > "$here/said" 2>&1
-is 'unknown options are refused' '2 Usage: paklour-loop [OPTIONS] <HARNESS>' "$? $(grep ^Usage "$here/said")"
+is 'unknown options are refused' "2 loop: --what: there is no such option (./loop --help lists the options)" "$? $(sed "s|$outside/||" "$here/said")"
+./loop > "$here/said" 2>&1
+is 'without words it tells its usage' '2 3 Usage: paklour-loop [OPTIONS] <HARNESS>' "$? $(wc -l < "$here/said") $(head -n 1 "$here/said")"
 unset options
 
 # A run that takes too long, with what it started.
@@ -146,13 +148,16 @@ stopped() {
     ended=$?
     tries=0
     while [ -n "$(going)" ] && [ "$tries" -lt 50 ]; do sleep 0.1; tries=$((tries + 1)); done
-    [ "$signal" = KILL ] && expected=137 || expected=2
+    case $signal in HUP) expected=129 ;; INT) expected=130 ;; KILL) expected=137 ;; TERM) expected=143 ;; esac
     is "$name" "$expected 2 0 " "$ended $(ls "$here"/bin/hangs.*.pid | wc -l) $(wc -l < "$here/answers") $(going)"
+    [ "$signal" = KILL ] || is "$name, and tells what is kept" "loop: stopped by SIG$signal: 0 answers are kept in $here/answers, of which 0 fail; the same command goes on from there" \
+        "$(grep '^loop: stopped' "$here/told")"
     rm "$here/answers" "$here"/bin/hangs.*.pid
 }
 stopped 'a loop that is stopped, as by Ctrl-C, ends what is running' TERM -
 stopped 'and so where the loop alone gets the signal' TERM ''
 stopped 'or loses its terminal' HUP ''
+stopped 'or by Ctrl-C' INT ''
 stopped 'or is killed, which it cannot see' KILL ''
 
 # Killed, it begins nothing more either.

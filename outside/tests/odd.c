@@ -4,6 +4,7 @@
 #include <errno.h>
 #include <fcntl.h>
 #include <grp.h>
+#include <linux/capability.h>
 #include <linux/filter.h>
 #include <linux/openat2.h>
 #include <linux/seccomp.h>
@@ -78,6 +79,7 @@ static int own_folder(char **words) {
     char path[64];
     int file = old(O_RDWR);
     sprintf(path, words[0], file);
+    if (chdir("sub")) return wrong("sub"); /* which isn't the supervisor's */
     int other = open(path, O_WRONLY | O_TRUNC);
     return other < 0 || write(other, "by proc", 7) != 7 ? wrong(path) : 0;
 }
@@ -93,13 +95,26 @@ static int beneath(char **words) {
     return syscall(SYS_openat2, folder, "/in", &how, sizeof how) < 0 ? wrong("a file of a folder that is a root") : 0;
 }
 
+/* The other calls that make a file longer, where it may have 12 bytes. */
+static int lengthened(int file, int from) {
+    loff_t at = 10;
+    if (!ftruncate(file, 13) || errno != EFBIG || ftruncate(file, 11)) return wrong("ftruncate");
+    if (!truncate("old", 13) || errno != EFBIG) return wrong("truncate");
+    if (!fallocate(file, 0, 0, 13) || errno != EFBIG || fallocate(file, 0, 0, 12)) return wrong("fallocate");
+    if (copy_file_range(from, NULL, file, &at, 6, 0) != 2) return wrong("a copy up to the limit");
+    if (copy_file_range(from, NULL, file, &at, 2, 0) != -1 || errno != EFBIG) return wrong("a copy behind it");
+    if (lseek(file, 12, SEEK_SET) != 12 || sendfile(file, from, NULL, 2) != -1 || errno != EFBIG) return wrong("sendfile");
+    return 0;
+}
+
 static int limited(char **words) {
     (void)words;
     signal(SIGXFSZ, SIG_IGN);
     setrlimit(RLIMIT_FSIZE, &(struct rlimit){12, 12});
     int file = old(O_RDWR | O_APPEND);
     if (write(file, "abcd", 4) != 2) return wrong("a write up to the limit");
-    return write(file, "ef", 2) != -1 || errno != EFBIG ? wrong("a write behind the limit") : 0;
+    if (write(file, "ef", 2) != -1 || errno != EFBIG) return wrong("a write behind the limit");
+    return lengthened(old(O_RDWR), open("sub/in", O_RDONLY));
 }
 
 static int by_path(char **words) {
@@ -122,7 +137,8 @@ static int few_files(char **words) {
     (void)words;
     setrlimit(RLIMIT_NOFILE, &(struct rlimit){8, 8});
     while (old(O_RDONLY) >= 0) continue;
-    return errno != EMFILE;
+    if (errno != EMFILE || old(O_RDWR | O_TRUNC) >= 0 || errno != EMFILE) return wrong("old");
+    return open("a", O_CREAT | O_RDWR, 0644) >= 0 || errno != EMFILE ? wrong("a") : 0;
 }
 
 static int written_at(char **words) {
@@ -146,6 +162,32 @@ static int as_other(char **words) {
     if (open("closed", O_RDONLY) >= 0 || errno != EACCES) return wrong("a file of somebody else");
     if (close(open("open/a", O_CREAT | O_RDWR, 0644)) || stat("open/a", &told)) return wrong("a file of its own");
     return printf("%d %d\n", told.st_uid, told.st_gid) < 0;
+}
+
+/* As root, but without any of its rights beyond those of a user, what belongs to somebody else. */
+static int without_rights(char **words) {
+    struct __user_cap_header_struct head = {.version = _LINUX_CAPABILITY_VERSION_3};
+    struct __user_cap_data_struct none[2] = {0};
+    (void)words;
+    if (syscall(SYS_capset, &head, none)) return wrong("capset");
+    if (open("theirs/closed", O_RDONLY) >= 0 || errno != EACCES) return wrong("a file that nobody may open");
+    if (open("theirs/a", O_CREAT | O_RDWR, 0644) >= 0 || errno != EACCES) return wrong("a file in a folder of somebody else");
+    if (!truncate("theirs/closed", 0) || errno != EACCES) return wrong("its length");
+    if (!mkdir("theirs/d", 0755) || errno != EACCES) return wrong("a folder");
+    if (!rename("theirs/closed", "theirs/open") || errno != EACCES) return wrong("its name");
+    return close(open("a", O_CREAT | O_RDWR, 0644)) ? wrong("a file of its own") : 0;
+}
+
+/* With a folder as its root, of which no name leads out. */
+static int jailed(char **words) {
+    struct open_how how = {.flags = O_CREAT | O_RDWR, .mode = 0644, .resolve = RESOLVE_NO_SYMLINKS};
+    if (chroot(words[0]) || chdir("/")) return wrong("chroot");
+    if (close(open("../made", O_CREAT | O_RDWR, 0644)) || mkdir("/../d", 0755)) return wrong("made");
+    if (unlink("../old") != -1 || printf("%s ", strerrorname_np(errno)) < 0) return wrong("../old");
+    if (unlink("sub/../../../sub/in") != -1 || printf("%s", strerrorname_np(errno)) < 0) return wrong("../sub/in");
+    if (close((int)syscall(SYS_openat2, AT_FDCWD, "/../../further", &how, sizeof how))) return wrong("further");
+    if (close(open("way/in_way", O_CREAT | O_RDWR, 0644))) return wrong("way");
+    return close(open("sub/up", O_CREAT | O_RDWR, 0644)) ? wrong("up") : 0;
 }
 
 /* What is let go must be free at once: a program that was just written is started, a lock goes with its last descriptor. */
@@ -203,6 +245,20 @@ static int middle_unmapped(char **words) {
     return msync(memory + 2 * PAGE, PAGE, MS_SYNC);
 }
 
+/* Twenty times: a store, a sync that fails, a store into another page as soon as it has failed, and a sync that doesn't. */
+static int stored_at_once(char **words) {
+    int file = open("a", O_CREAT | O_RDWR, 0644), is_fsync = !strcmp(words[0], "fsync");
+    if (ftruncate(file, 40 * PAGE) || fsync(file)) return 1;
+    char *memory = mapped(file, 40 * PAGE, PROT_READ | PROT_WRITE);
+    for (int at = 0; at < 40 * PAGE; at += 2 * PAGE) {
+        memory[at] = 'L';
+        if ((is_fsync ? fsync(file) : msync(memory, 40 * PAGE, MS_SYNC)) != -1) return wrong("a sync that is to fail");
+        memory[at + PAGE] = 'S';
+        if (is_fsync ? fsync(file) : msync(memory, 40 * PAGE, MS_SYNC)) return wrong("a sync");
+    }
+    return 0;
+}
+
 static int killed(char **words) {
     (void)words;
     mapped(old(O_RDWR), 10, PROT_READ | PROT_WRITE)[0] = 'N';
@@ -229,6 +285,26 @@ static int cancelled(char **words) {
     if (old(O_RDONLY) < 0 || pipe(pipes) || pthread_create(&thread, NULL, waits, NULL)) return 1;
     usleep(20000);
     return pthread_cancel(thread) || pthread_join(thread, &answer) || answer != PTHREAD_CANCELED;
+}
+
+/* Threads that open a file at once. */
+static pthread_barrier_t all_there;
+static void *opens(void *unused) {
+    pthread_barrier_wait(&all_there);
+    int file = old(O_RDWR);
+    pthread_barrier_wait(&all_there);
+    return file < 0 ? pipes : unused;
+}
+static int together(char **words) {
+    enum { MOST = 1000 };
+    pthread_t threads[MOST];
+    int count = atoi(words[0]), failed = 0;
+    void *answer;
+    pthread_barrier_init(&all_there, NULL, (unsigned)count);
+    for (int i = 0; i < count; i++)
+        if (pthread_create(&threads[i], NULL, opens, NULL)) return wrong("a thread");
+    for (int i = 0; i < count; i++) failed += pthread_join(threads[i], &answer) || answer;
+    return failed;
 }
 
 static void nothing(int unused) { (void)unused; }
@@ -349,6 +425,25 @@ static int pipes_by_name(char **words) {
     return read(file, bytes, 9) != 7 || read(file, bytes, 9) != 0 ? wrong("a pipe") : 0;
 }
 
+/* A copy from an empty pipe: one that mustn't wait, one to the end of a file that is appended to, and one for which bytes come later. */
+static int spliced(char **words) {
+    int file = open("a", O_CREAT | O_RDWR, 0644), appended = old(O_RDWR | O_APPEND);
+    (void)words;
+    if (pipe(pipes)) return 1;
+    if (splice(pipes[0], NULL, file, NULL, 5, SPLICE_F_NONBLOCK) != -1 || errno != EAGAIN) return wrong("a splice that mustn't wait");
+    if (splice(pipes[0], NULL, appended, NULL, 5, 0) != -1 || errno != EINVAL) return wrong("a splice to an end");
+    if (copy_file_range(pipes[0], NULL, file, NULL, 5, 0) != -1 || errno != EINVAL) return wrong("a copy from a pipe");
+    if (sendfile(file, pipes[0], NULL, 5) != -1 || errno != EINVAL) return wrong("a sendfile from a pipe");
+    if (!fork()) usleep(30000), _exit(write(pipes[1], "later", 5) != 5);
+    if (splice(pipes[0], NULL, file, NULL, 9, 0) != 5) return wrong("a splice that waits");
+    return fcntl(pipes[0], F_SETFL, O_NONBLOCK) || splice(pipes[0], NULL, file, NULL, 5, 0) != -1 || errno != EAGAIN ? wrong("a pipe of which nobody waits") : 0;
+}
+
+/* Ends by a signal, after a call. */
+static int signalled(char **words) {
+    return close(old(O_RDONLY)) || kill(getpid(), atoi(words[0]));
+}
+
 /* A command for which the system forbids one call, as a container may. */
 static int denied(char **words) {
     struct sock_filter steps[] = {
@@ -406,12 +501,13 @@ static const struct {
 } cases[] = {
     {"raw", raw}, {"bad_parts", bad_parts}, {"read_only", read_only}, {"direct", direct}, {"as_output", as_output},
     {"own_folder", own_folder}, {"beneath", beneath}, {"limited", limited}, {"few_files", few_files},
-    {"opened_often", opened_often},    {"by_path", by_path},    {"written_at", written_at}, {"masked", masked}, {"as_other", as_other}, {"at_once", at_once},
+    {"opened_often", opened_often},    {"by_path", by_path},    {"written_at", written_at}, {"masked", masked}, {"as_other", as_other}, {"without_rights", without_rights}, {"jailed", jailed},
+    {"at_once", at_once},
     {"made_writable", made_writable}, {"closed_memory", closed_memory}, {"mapped_over", mapped_over},
-    {"middle_unmapped", middle_unmapped}, {"killed", killed}, {"left_quickly", left_quickly}, {"cancelled", cancelled},
+    {"middle_unmapped", middle_unmapped}, {"stored_at_once", stored_at_once}, {"killed", killed}, {"left_quickly", left_quickly}, {"cancelled", cancelled}, {"together", together},
     {"stormy", stormy}, {"in_vfork", in_vfork}, {"spawns", spawns}, {"by_descriptor", by_descriptor}, {"leaves", leaves},
     {"sleeps", sleeps}, {"rings", rings}, {"short_call", short_call}, {"denied", denied}, {"moves", moves}, {"waits_often", waits_often},
-    {"pipes_by_name", pipes_by_name},    {"closed_process", closed_process}, {"overslept", overslept}, {"woken", woken}, {"draws", draws},
+    {"pipes_by_name", pipes_by_name}, {"spliced", spliced}, {"signalled", signalled},    {"closed_process", closed_process}, {"overslept", overslept}, {"woken", woken}, {"draws", draws},
 };
 
 int main(int count, char **words) {

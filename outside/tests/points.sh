@@ -46,12 +46,15 @@ is 'errors by name' "${expected#,}" "$said"
 try 'sys::unlink=1*return()' unlink old
 is 'an empty argument is EIO' 'unlink EIO' "$said"
 
-# Half of a read or write, rounded down.
+# Half of what a read or write would move, rounded down, and at least one byte, so that a program that goes on with the rest comes to its end.
 try 'sys::write=return(HALF)' create a write abcde pwrite x writev abc defg writev '' '' pwritev ab c
-is 'half of each write' 'create 0,write 2,pwrite 0,writev 3,writev 0,pwritev 1' "$said"
+is 'half of each write' 'create 0,write 2,pwrite 1,writev 3,writev 0,pwritev 1' "$said"
 is 'half is what the file holds' 'a=ababc' "$(files | cut -d ' ' -f 1)"
-try 'sys::read=return(HALF)' open old read 5 pread 9 readv 3 4 preadv 1 1 read 9
-is 'half of each read' 'open 0,read 2,pread 4,readv 3,preadv 1,read 4' "$said"
+try 'sys::read=return(HALF)' open old read 5 pread 9 readv 3 4 preadv 1 1 read 9 pread 99 read 99 read 1 read 99
+is 'half of each read' 'open 0,read 2,pread 4,readv 3,preadv 1,read 2,pread 5,read 1,read 1,read 1' "$said"
+try 'sys::read=return(HALF)' open old read 20 read 20 read 20 read 20 read 20
+is 'and none at the end' 'open 0,read 5,read 2,read 1,read 1,read 1 return(HALF)' "$said $(answers | cut -d , -f 6)"
+is 'which is told by 0' 0 "$(go 'sys::read=return(HALF)' create old read 1; tail -n 1 "$here/said" | cut -d ' ' -f 2)"
 
 # Which hit, and how long.
 try 'sys::write=2*off->1*return' create a write b write c write d write e

@@ -15,7 +15,8 @@ oddly raw
 is 'calls by the system itself' '0 open;write;fsync' "$status $(hits)"
 oddly as_output
 is 'standard output that is a file of the root' '0 old=through it ' "$status $(left lasting | sed 's|sub/.*||')"
-for link in /proc/self/fd/%d /dev/fd/%d /proc/thread-self/fd/%d "/proc/self/root$here/data/old" "/proc/self/cwd/../data/old"; do
+for link in /proc/self/fd/%d /dev/fd/%d /proc/thread-self/fd/%d "/proc/self/root$here/data/old" /proc/self/cwd/../old /proc//self/fd/%d \
+    /proc/./self/fd/%d /proc//thread-self/fd/%d /proc/self/../thread-self/fd/%d /dev/./fd/%d /proc//self/cwd/../old /proc/./self/cwd/../old; do
     oddly own_folder "$link"
     is "by ${link#*self/root}" '0 old old,1 resize old to 0,2 write old 7 at 0 by proc' \
         "$status $(grep open "$here/run/trace" | cut -f 5 | paste -s -d ' '),$(pending) $(cat "$here/data/old")"
@@ -32,10 +33,12 @@ is 'opens with rules for their way' '0 sub old EXDEV,sub/a 4,sub/in 5' \
     "$status $(sed -n 1p "$here/run/trace" | cut -f 5) $(sed -n '2p;3p;5p' "$here/run/trace" | cut -f 5,8 | tr -d ' ' | tr '\t' ' ' | paste -s -d ,)"
 oddly by_path "$here/data"
 is 'descriptors of a path alone' '0 . -,old -,nothing ENOENT' "$status $(cut -f 5,8 "$here/run/trace" | tr -d ' ' | tr '\t' ' ' | paste -s -d ,)"
+is 'a limit on lengths, natively' 0 "$(new; cd "$here/data" && "$oddities" limited 2>&1; echo $?)"
 oddly limited
-is 'a limit on lengths' '0 1 write old 2 at 10' "$status $(pending)"
+is 'and supervised' '0 1 write old 2 at 10,2 resize old to 11,3 resize old to 12,4 write old 2 at 10' "$status$faults $(pending)"
 oddly few_files
 is 'no descriptor left' '0 EMFILE' "$status $(tail -n 1 "$here/run/trace" | cut -f 8 | tr -d ' ')"
+is 'changes nothing' 'old=0123456789 sub/ sub/in=inside ' "$(pending)$(files)"
 oddly masked 027
 is 'a umask' '0 750 640 640' "$status $said"
 oddly moves
@@ -84,6 +87,29 @@ new
 run none sh -c 'echo sh > a; kill -SEGV $$'
 is 'a command that ends by a signal' '139 open;write' "$status $(hits)"
 
+# Crashes, each with the number of hits at which it was seen. Signals: 6 is an abort, 9 and 15 are no crashes.
+crashes() { [ ! -e "$here/run/crashes" ] || tr '\t' ' ' < "$here/run/crashes" | paste -s -d ,; }
+oddly signalled 6
+is 'a command that crashes' '134 1 SIGABRT odd' "$status $(crashes)"
+for signal in 9 15; do
+    oddly signalled "$signal"
+    is "signal $signal is no crash" "$((128 + signal)) " "$status $(crashes)"
+done
+new
+run 'sys::open=1*off->1*panic' sh -c '"$1" signalled 9; "$1" signalled 6' ends "$oddities"
+is 'nor a panic' '99 ' "$status $(crashes)"
+new
+run none sh -c '("$1" signalled 11 &); sleep 0.1; cat old' ends "$oddities"
+is 'a process whose parent has ended' '0 1 SIGSEGV odd' "$status $(crashes)"
+new
+run none sh -c 'sh -c "$1 signalled 6; :"; cat old; "$1" signalled 8; "$1" signalled 15; exit 134' ends "$oddities"
+if [ "$(uname -r | awk -F '[.-]' '{ print $1 * 1000 + $2 >= 6015 }')" = 1 ]; then
+    is 'and those that another process of the run waits for' '134 1 SIGABRT odd,5 SIGFPE odd' "$status $(crashes)"
+else
+    echo 'skipped crashes that another process waits for: Linux tells them since 6.15'
+    is 'which a shell tells by its status' '134 6 SIGABRT sh' "$status $(crashes)"
+fi
+
 # Waits.
 FAULTS_SOCKETS=1
 export FAULTS_SOCKETS
@@ -96,7 +122,12 @@ oddly pipes_by_name
 is 'a pipe under the root' '0 7 7 0' "$status $(grep -E 'read|write' "$here/run/trace" | cut -f 8 | tr -d ' ' | paste -s -d ' ')"
 new
 run 'sys::read=1*return(HALF);sys::write=1*return(HALF)' "$oddities" pipes_by_name
-is 'half of a write of it' 3 "$(grep write "$here/run/trace" | cut -f 8 | tr -d ' ')"
+is 'half of a write of it, and of what of that a read has' '3 1' "$(grep -E 'read|write' "$here/run/trace" | sort -rk 2 | cut -f 8 | tr -d ' ' | paste -s -d ' ')"
+
+is 'copies from an empty pipe, natively' 0 "$(new; cd "$here/data" && "$oddities" spliced 2>&1; echo $?)"
+oddly spliced
+is 'and supervised' '0 EAGAIN EINVAL EINVAL EINVAL 5 EAGAIN, later' \
+    "$status$faults $(grep write "$here/run/trace" | cut -f 8 | tr -d ' ' | paste -s -d ' '), $(cat "$here/data/a")"
 
 # Shared mappings, each of which a library that was preloaded missed, or fell over: it didn't see mprotect, crashed as it read memory that was closed, took what was
 # mapped over for the file, forgot the rest of one of which a part went, and had no end to look at of a program that left quickly.
@@ -109,6 +140,12 @@ is 'memory mapped over a mapping is none of it' '0 0123456789' "$status $(left l
 oddly middle_unmapped
 is 'the rest of a mapping of which a part went' '0 T' "$status $(left contents > "$here/said"; left live > "$here/said"; tr -d '\0' < "$here/data/a")"
 is 'lasts' '1 create a -' "$(pending)"
+each_other=$(repeated 20 '->1*return->1*off')
+for sync in fsync msync; do
+    new
+    run "sys::fsync=1*off$each_other" "$oddities" stored_at_once "$sync"
+    is "what is stored at once behind a failed $sync isn't lost with it" '0 SSSSSSSSSSSSSSSSSSSS' "$status $(left names > "$here/said"; tr -d '\0' < "$here/data/a")"
+done
 oddly killed
 is 'what was stored by a process that was killed' '137 1 store old 10 at 0' "$status $(pending)"
 oddly left_quickly
@@ -165,6 +202,19 @@ while kill -ALRM "$stormed" 2> "$here/faults"; do :; done
 wait "$stormed"
 is 'a storm of signals for the supervisor itself' '0 20000' "$? $(grep -c 'sys::open' "$here/run/trace")"
 new
+run none sh -c 'echo x > a; (kill -KILL $PPID; while :; do echo x > a; done) & sleep 76541'
+is 'a run that ends its parent' "98 faults: can't follow the run: the process that keeps its processes together was killed " "$status $faults $(pgrep -f 'sleep 76541')"
+for limit in 6 9 64; do
+    new
+    under timeout -s KILL 60 prlimit --nofile="$limit:$limit" "$supervisor" sh -c 'mkfifo pipe; exec 3<> pipe
+        for number in $(seq 100); do cat "$1/data/pipe" & done; wait' cats "$here" > "$here/said" 2>&1
+    is "a limit of $limit descriptors" '98 faults: the limit of descriptors is too low to follow the run: Too many open files ' \
+        "$? $(cat "$here/said") $(pgrep -f "cat $here/data/pipe")"
+done
+new
+under prlimit --nofile=1024:1024 "$supervisor" "$oddities" together 600 > "$here/said" 2>&1
+is 'one that is enough for many threads' '0 600' "$?$(cat "$here/said") $(grep -c open "$here/run/trace")"
+new
 run 'sys::write=1*off->panic' sh -c 'setsid sh -c "while :; do echo x; done" > a & setsid sleep 76542 & sleep 0.1; echo y > b; echo z > b'
 is 'a panic ends what has left its session too' '99 ' "$status $(pgrep -f 'sleep 76542')"
 
@@ -198,6 +248,21 @@ if [ "$(id -u)" = 0 ] && unshare -m true 2> "$here/faults"; then
     chmod 755 "$here"
     run none "$oddities" as_other
     is 'as another user' '0 2345 1234' "$status $said"
+
+    # owned: new files, among them one of another user that nobody may open
+    owned() {
+        new
+        mkdir "$here/data/theirs" && printf x > "$here/data/theirs/closed" && chmod 0 "$here/data/theirs/closed"
+        chown -R 65534 "$here/data/theirs"
+    }
+    owned
+    is 'rights that root gave up, natively' 0 "$(cd "$here/data" && "$oddities" without_rights 2>&1; echo $?)"
+    owned
+    run none "$oddities" without_rights
+    is 'and supervised' '0 EACCES EACCES EACCES EACCES EACCES 3' "$status$faults $(cut -f 8 "$here/run/trace" | tr -d ' ' | paste -s -d ' ')"
+    owned
+    run none sh -c 'cat theirs/closed; setpriv --bounding-set=-all cat theirs/closed; cat theirs/closed'
+    is 'or that a program is started without' '0 xx EACCES' "$status $said $(cut -f 8 "$here/run/trace" | grep -o E.*S)"
 
     oddly closed_process
     is 'a process that nobody may look into, but root' '0 open' "$status $(hits)"
@@ -236,6 +301,19 @@ if [ "$(id -u)" = 0 ] && unshare -m true 2> "$here/faults"; then
     gcc -static -std=gnu11 -O1 -U_FORTIFY_SOURCE -Wall -Wextra -Werror -o "$here/static" tests/odd.c -pthread
     run none chroot "$here" /static written_at /data/sub/a
     is 'another root' '0 sub/a sub/a at' "$status $(cut -f 5 "$here/run/trace" | paste -s -d ' ') $(cat "$here/data/sub/a")"
+    # What it comes to natively is in this folder alone, and nothing is made or deleted outside of it.
+    jailed=". ./jail ./jail/d ./jail/file ./jail/further ./jail/made ./jail/sub ./jail/sub/in_way ./jail/sub/up ./jail/way ./old ./sub ./sub/in"
+    inside() { (cd "$1" && find . | LC_ALL=C sort | paste -s -d ' '); }
+    for how in natively supervised; do
+        new
+        mkdir -p "$here/data/jail/sub" && ln -s /sub "$here/data/jail/way" && ln -s ../../sub/../file "$here/data/jail/sub/up"
+        rm -r "$here/run" && out/powercut begin "$here/run" "$here/data"
+        [ $how = supervised ] && run none "$here/static" jailed jail || (cd "$here/data" && "$here/static" jailed jail > "$here/said"; echo $? > "$here/status")
+        is "a folder as root, $how" "0 ENOENT ENOENT, $jailed" \
+            "$([ $how = supervised ] && echo "$status" || cat "$here/status") $(cat "$here/said"), $(inside "$here/data")"
+    done
+    is 'and is seen' 'jail/made jail/d jail/old jail/sub/in jail/further jail/sub/in_way jail/file' "$(cut -f 5 "$here/run/trace" | paste -s -d ' ')"
+    is 'and lasts' "$jailed" "$(left keep power::keep=return > "$here/said"; inside "$here/data")"
     mkdir -p "$here/mounted"
     run none unshare -m sh -c 'mount --bind . "$1/mounted" && echo x > "$1/mounted/b"' mounts "$here"
     is 'a folder that a mount shows elsewhere' 'b b' "$(tail -n 2 "$here/run/trace" | cut -f 5 | paste -s -d ' ')"

@@ -16,7 +16,7 @@ run none env -i "$component" create a
 is 'a program that clears its environment is seen' '0 create 0 sys::open' "$status $said $(cut -f 2 "$here/run/trace")"
 
 # What changed unseen.
-advice=': by a program that wasn'"'"'t under the supervisor, or by the script (then: powercut expect RUN NAME..)'
+advice=': by a program that wasn'"'"'t under the supervisor, by a call that it doesn'"'"'t see, or by the script (then: powercut expect RUN NAME..)'
 try none open old write ab
 printf x >> "$here/data/sub/in"
 printf y > "$here/data/more"
@@ -113,7 +113,7 @@ rm -f "$here/s"
 try 'sys::send=1*return(DROP)->1*return(EPIPE)->1*return(HALF)' pair tell abc recv 9 send abc send abcd recv 9
 is 'a message that is dropped, refused, cut off' 'pair 0,tell 3,recv EAGAIN,send EPIPE,send 2,recv 2' "$said"
 try 'sys::send=1*return(DROP)->return(HALF);sys::recv=return(HALF)' pair sendmsg abc recvmsg 9 sendmsg abcdef recvmsg 2 recv 9
-is 'the same of parts' 'pair 0,sendmsg 3,recvmsg EAGAIN,sendmsg 3,recvmsg 1,recv 2' "$said"
+is 'the same of parts' 'pair 0,sendmsg 3,recvmsg EAGAIN,sendmsg 3,recvmsg 1,recv 1' "$said"
 try 'sys::send=1*return(DROP)->1*return(EPIPE)->1*return(HALF)' pair tell abc recv 9
 is 'in the trace' 'sys::send 1 return(DROP) socket 3' "$(head -n 1 "$here/run/trace" | cut -f 2-5,8 | tr '\t' ' ' | sed 's/ *$//')"
 before=$(date +%s%N)

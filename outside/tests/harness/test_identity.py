@@ -17,7 +17,7 @@ from harness.identity import differences  # noqa: E402
 
 SETTINGS = 'target = "outside"\ndepth = {}\n[outside]\nlabel = "x"\ncodes = ["lost"]\npoints = ["sys::open"]\n'
 SOURCES = '#!/bin/sh\n. "$HARNESS/saving.sh"\nsave\n'
-SAVING = "save() { : > note; }\n"
+SAVING = "save() { : > note; echo saved; }\n"
 JUDGES = "#!/bin/sh\ntrue\n"
 
 

@@ -129,6 +129,20 @@ class Machines(Campaigns):
         self.assertEqual(done.status, 5)
         self.assertIn(f"loop: {self.here}/parts/1/answers: the verdict changed from fail lost to pass: sys::fsync=1*return;power::keep=2*off->1*return\n", done.told)
 
+    def test_a_share_whose_runs_do_otherwise(self):
+        """One answer of two has other hits up to its fault: its run is made here."""
+        whole = self.whole()
+        parts = self.here / "parts"
+        shutil.copytree(self.here / "whole", parts / "1")
+        lines = [line for line in self.answers(parts / "1") if line.split("\t")[1] in ("none", "sys::fsync=1*panic")]
+        (parts / "1" / "answers").write_text("".join(f"{line}\n" for line in lines).replace("panic\t2*sys::open;", "panic\tsys::read;2*sys::open;"))
+        self.assertIn("panic\tsys::read;", (parts / "1" / "answers").read_text())
+        done = self.loop(*WORDS, "--join", parts, "--into", self.here / "joined", NOTE)
+        self.assertEqual(done.status, 1, done.told)
+        self.assertIn(f"loop: {parts}/1/answers: an answer isn't taken over, since its run did otherwise than those before: "
+            "hit 1 was sys::open, and now is sys::read: sys::fsync=1*panic\n", done.told)
+        self.assertEqual((set(self.answers(self.here / "joined")), (self.here / "joined" / "report").read_bytes()), whole)
+
     @unittest.skipUnless(shutil.which("parallel"), "GNU parallel is not installed")
     def test_by_gnu_parallel(self):
         """Over two machines, which are folders."""

@@ -47,6 +47,54 @@ class New(Campaigns):
         self.assertEqual(done.status, 1)
         self.assertIn("fail unopenable: ", done.told)
 
+    def test_a_server_that_says_another_word(self):
+        """It isn't ready when it says `already`, and what it says then is shown."""
+        done = self.made(SERVER.format(write="[ ! -e state ] || { echo already here; exit 1; }; echo whole > new && sync new && mv new state && sync ."), "--server", "ready")
+        self.assertEqual(done.status, 1)
+        self.assertIn("fail unopenable: ", done.told)
+        done = self.loop("--try", "none", self.here / "made")
+        self.assertEqual(done.told, "already here\n")
+
+    def failed(self, text, *options):
+        """What `new` says of a program that fails in an empty folder. The harness stays, for its `prepare` to be written."""
+        program = self.here / "program"
+        program.write_text(text)
+        program.chmod(0o755)
+        made = subprocess.run([OUTSIDE / "new", *options, self.here / "made", program], capture_output=True, text=True, check=False)
+        self.assertEqual((made.returncode, made.stdout), (1, ""))
+        self.assertTrue((self.here / "made" / "prepare").exists())
+        return made.stderr
+
+    def test_a_command_that_fails(self):
+        made = self.here / "made"
+        self.assertEqual(self.failed("#!/bin/sh\ncat input\n"), f"cat: input: No such file or directory\nnew: {made}/run ended with 1 in an empty folder. If it "
+            f"needs files, let {made}/prepare make them, and let {made}/judge check the promises without {made}/expected, which is missing. If the command "
+            f"was wrong, delete {made}\n")
+
+    def test_a_delivery_that_fails(self):
+        told = self.failed("#!/bin/sh\ncat > spool\nexit 75\n", "--mail")
+        self.assertTrue(told.startswith(f"new: {self.here}/made/run ended with 75 in an empty folder. "), told)
+
+    def test_a_server_that_fails(self):
+        told = self.failed("#!/bin/sh\necho not so\necho no socket >&2\nexit 3\n", "--server", "ready")
+        self.assertTrue(told.startswith(f"not so\nno socket\nnew: {self.here}/made/run ended with 1 in an empty folder. "), told)
+
+    def test_a_server_that_is_not_ready_in_time(self):
+        """Ended by its time, `run` shows what the server said."""
+        self.made(SERVER.format(write=": > state"), "--server", "ready")
+        run = self.here / "made" / "run"
+        run.write_text(run.read_text().replace(" ready ", " other "))
+        done = subprocess.run([OUTSIDE / "out" / "within", "1", "-", run], cwd=self.here, env=self.environment | {"HARNESS": self.here / "made"},
+            capture_output=True, text=True, check=False)
+        self.assertEqual(done.returncode, 124, done.stderr)
+        self.assertIn("ready", done.stderr.splitlines())
+
+    def test_a_harness_that_can_not_be_written(self):
+        """Nothing of it stays."""
+        made = subprocess.run(["prlimit", "--fsize=100", OUTSIDE / "new", self.here / "made", "true"], capture_output=True, text=True, check=False)
+        self.assertEqual((made.returncode, made.stderr), (4, f"new: {self.here}/made/prepare: File too large\n"))
+        self.assertFalse((self.here / "made").exists())
+
     def test_a_delivery(self):
         done = self.made(DELIVERS.format(syncs="sync tmp/1 &&"), "--mail")
         self.assertEqual(done.status, 0, done.told)
@@ -63,6 +111,26 @@ class New(Campaigns):
         (self.here / "program").write_text(SAFE + "# changed\n")
         done = self.loop(self.here / "made")
         self.assertEqual((done.status, done.told), (2, f"loop: {self.here}/made/answers belongs to a harness with another program: delete it, and start again\n"))
+
+    def test_a_harness_that_is_copied(self):
+        """With its program it runs the copy, and without it says that the program is missing."""
+        self.assertEqual(self.made(SAFE).status, 0)
+        copied = self.here / "with a blank"
+        copied.mkdir()
+        shutil.copytree(self.here / "made", copied / "made", symlinks=True)
+        (copied / "made" / "answers").unlink()
+        (copied / "program").write_text(UNSAFE)
+        (copied / "program").chmod(0o755)
+        self.assertIn("fail lost: without any fault\n", self.loop(copied / "made").told)
+        (copied / "program").unlink()
+        done = self.loop(copied / "made")
+        self.assertEqual(done.status, 2, done.told)
+        self.assertRegex(done.told, rf"unresolved: run made no call on its data: .*{copied}/made/../program: not found: none\n")
+
+    def test_a_script_that_reads_a_file_beside_it(self):
+        (self.here / "beside").write_text("echo new > new && sync new && mv new note && sync .\n")
+        done = self.made('#!/bin/sh\n. "$(dirname "$0")/beside"\n')
+        self.assertEqual(done.status, 0, done.told)
 
     def test_a_program_that_is_not_linked(self):
         """Its name has a meaning in a harness, or it is found by the PATH."""
