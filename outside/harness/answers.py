@@ -50,6 +50,7 @@ class Answers:
         lines = self.lines()
         self.count = len(lines)
         self.failing = sum(line.startswith("fail") for line in lines)
+        self.unresolved = sum(line.startswith("unresolved") for line in lines)
 
     def text(self) -> bytes:
         return Path(self.path).read_bytes()
@@ -73,3 +74,4 @@ class Answers:
             raise Stopped(f"{self.path}: an answer can't be written: {error.strerror}") from error
         self.count += 1
         self.failing += answer.startswith("fail")
+        self.unresolved += answer.startswith("unresolved")

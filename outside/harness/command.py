@@ -26,7 +26,7 @@ from .whole import ALWAYS, FORMS, Asked, Whole, decider_of
 from .words import ASK_HELP, Usage, as_called, bytes_of, refused, shows_progress, split, whole_number, write_help
 from .work import Note, Work
 
-OF_HARNESS = {"--depth", "--kinds", "--no-kinds", "--settings", "--into", "-x", "--failures", "--try", "--whole", "--page", "--junit", "--json",
+OF_HARNESS = {"--depth", "--no-kinds", "--settings", "--into", "-x", "--failures", "--try", "--whole", "--page", "--junit", "--json",
     "--shard", "--join", "--every-run", "--room", "--bytes"}
 OF_SCRIPT = {"--script", "--engine", "--brief", "--no-recheck", "--hits"}
 WITH_VALUE = {"-j", "--seconds", "--engine", "--script", "--depth", "--try", "--into", "--room", "--bytes", "--failures", "--settings", "--shard",
@@ -130,7 +130,8 @@ def run_harness(loop: str, options: dict[str, str], path: str, processes: Proces
     note = None if "--try" in options else Note(answers, own, "--every-run" in options)
     if "--join" in options:
         join(Path(options["--join"]), own, answers)
-    settings = Settings(harness, folder, answers, options.get("--settings"), number_of(options, "--depth"), kinds_of(options), keeps="--try" in options)
+    settings = Settings(harness, folder, answers, options.get("--settings"), number_of(options, "--depth"), "--no-kinds" not in options,
+        keeps="--try" in options)
     harness.order = "next" if NEXT in settings.points else harness.order
     work = Work(note, note.needs_disk if note else noted(Path(answers.path)).get("needs_disk"))
     try:
@@ -160,10 +161,6 @@ def number_of(options: dict[str, str], name: str, default: str = "") -> int | No
 def jobs_of(options: dict[str, str]) -> int:
     name = "-j" if "-j" in options else "PROCESSES"
     return whole_number(options.get("-j") or os.environ.get(name) or "4", name)
-
-
-def kinds_of(options: dict[str, str]) -> bool | None:
-    return True if "--kinds" in options else False if "--no-kinds" in options else None
 
 
 def check_numbers(options: dict[str, str]) -> None:

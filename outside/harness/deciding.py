@@ -5,6 +5,7 @@ with the other faults is made once, and the rest is laid out from its notes. One
 and must come out alike."""
 
 import hashlib
+import itertools
 import threading
 from dataclasses import dataclass, replace
 from pathlib import Path
@@ -26,6 +27,7 @@ from .trace import MARKS, length_of, points_trace, trace_of
 ONE_IN = 20  # of so many derived outcomes one is run as a check
 MORE_RUNS = 3  # so often a run is made again that does otherwise than the runs before
 OTHERWISE = f"in {MORE_RUNS + 1} runs it did otherwise than the run that it grew from"
+LASTING = "lasting"
 NAMES = {"create", "mkdir", "symlink", "link", "unlink", "rmdir", "rename", "exchange"}
 
 
@@ -278,7 +280,7 @@ class Decider:
         more, errors = record.said_again, record.folder / "errors"
         more.unlink(missing_ok=True)
         begun = length_of(errors)
-        state = [self.asking, text] if self.asking else ["lasting"]
+        state = [self.asking, text] if self.asking else [LASTING]
         pending = self.tools.pending(run) if "power::" in text else []
         if not self.tools.cut(run, record.data, *state, goes_on=True):
             return Outcome(text, Judgement(UNRESOLVED, "the scenario has a pause"), trace_of(run))
@@ -293,20 +295,19 @@ class Decider:
 
     def cut_and_judge(self, folder: Path, run: Path, text: str, said: bytes, looks_up: LooksUp, lays_states: bool) -> Outcome:
         """Judges each state that a power cut may leave, up to the first that breaks a promise."""
-        trace = trace_of(run)
         errors, begun = folder / "errors", length_of(folder / "errors")
-        judgements = []
-        for state in self.states(run, text, lays_states):
-            if not self.tools.cut(run, folder / "data", *state):
-                return Outcome(text, Judgement(UNRESOLVED, "the scenario has a pause"), trace_of(run))
-            if self.asking:
-                trace = trace_of(run)
-            judgements.append(self.judge.judge(folder, said, looks_up))
-            if judgements[-1].verdict != PASS:
+        if self.asking and not self.tools.cut(run, folder / "data", self.asking, text):
+            return Outcome(text, Judgement(UNRESOLVED, "the scenario has a pause"), trace_of(run))
+        trace = trace_of(run)
+        judgements = [self.judge.judge(folder, said, looks_up)] if self.asking else []
+        for name, state in self.states(run, trace, lays_states):
+            if judgements and judgements[-1].verdict != PASS:
                 break
-        judgement = judgements[-1]
-        is_known = all(each.is_known for each in judgements)
-        outcome = Outcome(text, Judgement(judgement.verdict, judgement.why, is_known), trace, said=said)
+            self.tools.cut(run, folder / "data", *state)
+            judged = self.judge.judge(folder, said, looks_up)
+            judgements.append(judged if judged.verdict == PASS else replace(judged, state=name))
+        judgement = replace(judgements[-1], is_known=all(each.is_known for each in judgements))
+        outcome = Outcome(text, judgement, trace, said=said)
         if outcome.verdict.startswith("fail"):
             outcome.pending = self.tools.pending(run)
             outcome.errors = last_lines(errors, begun)
@@ -314,16 +315,19 @@ class Decider:
             outcome.errors = last_lines(errors, end=begun)
         return outcome
 
-    def states(self, run: Path, text: str, lays_states: bool) -> list[list[str]]:
-        """The arguments of the cut for each state that keeps other pending changes. If the run was rewound to a hit, the files themselves aren't
-        known, but all changes are."""
-        if self.asking:
-            return [[self.asking, text]]
+    def states(self, run: Path, trace: list[list[str]], lays_states: bool) -> list[tuple[str, list[str]]]:
+        """The states in which a run is judged besides that of its scenario, if they keep different changes, each with its name as it is told and the
+        arguments of the cut. They belong to the scenario that keeps nothing, so that the same answers have the same verdict. If the run was rewound
+        to a hit, the files themselves aren't known, but all changes are."""
+        asked = [hit[3] for hit in itertools.takewhile(lambda hit: hit[1].startswith(POWER), reversed(trace))]
+        if self.asking and (not asked or any(answer.startswith("return") for answer in asked)):
+            return []
         changes = self.tools.pending(run)
         names = [int(change[0]) for change in changes if change[1] in NAMES]
         contents = [int(change[0]) for change in changes if change[1] not in NAMES]
-        kept = {"lasting": [], "names": names, "contents": contents, "live": sorted(names + contents)}
-        differing: dict[str, str] = {}
-        for state in self.harness.states or ALL_STATES:
-            differing.setdefault(keeping(kept[state]), state)
-        return [[state] if lays_states else ["keep", scenario] for scenario, state in differing.items()]
+        kept = {LASTING: keeping([]), "names": keeping(names), "contents": keeping(contents), "live": keeping(sorted(names + contents))}
+        judged = [*[LASTING] * bool(self.asking), *(self.harness.states or ALL_STATES)]
+        differing = {kept[state]: state for state in judged}
+        states = [("" if scenario == kept[LASTING] or len(judged) == 1 else state, [state] if lays_states else ["keep", scenario])
+            for scenario, state in differing.items()]
+        return states[bool(self.asking):]  # the first is that of the scenario

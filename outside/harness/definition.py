@@ -43,7 +43,7 @@ class Harness:
         files = [*files_in(self.folder, into)] if is_folder else [self.file]
         named = {name: os.environ[name] for name in VARIABLES if name in os.environ}
         return {"files": digests(self.folder, [*files, *self.others]), "commands": self.commands, "variables": named | self.variables,
-            "states": list(self.states), "order": self.order, "pin": self.pins, "unjudged": list(self.unjudged), "allowed": sorted(self.allowed)}
+            "states": list(self.states or ALL_STATES), "order": self.order, "pin": self.pins, "unjudged": list(self.unjudged), "allowed": sorted(self.allowed)}
 
 
 def read(path: str) -> Harness:

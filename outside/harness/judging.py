@@ -20,6 +20,7 @@ class Judgement:
     verdict: str
     why: str = ""  # why it is unresolved, crashed or hung
     is_known: bool = False  # it was taken from another run
+    state: str = ""  # the state of the power cut in which it fails, if that is another one than the scenario says
 
 
 class LooksUp(Enum):

@@ -54,22 +54,22 @@ class Settings:
     """A harness's settings. If the loop makes them, `codes` are those that were found, in alphabetical order, so that a stop
     doesn't change the report. With `keeps`, as for one run by `--try`, those of an earlier campaign stay as they are."""
 
-    def __init__(self, harness: Harness, folder: Path, answers: Answers, named: str | None, depth: int | None, kinds: bool | None, keeps: bool = False):
+    def __init__(self, harness: Harness, folder: Path, answers: Answers, named: str | None, depth: int | None, has_kinds: bool, keeps: bool = False):
         self.path = Path(named) if named else harness.folder / "settings.toml"
         self.folder = folder
         self.is_made = not named and not self.path.exists() or text_of(self.path).startswith(MADE_BY)
         if self.is_made:
             self.path = folder / "settings.toml"
-        elif depth or kinds is not None:
-            raise Stopped(f"{self.path} has settings of your own: change the depth and the kinds there, in place of --depth, --kinds and --no-kinds")
+        elif depth or not has_kinds:
+            raise Stopped(f"{self.path} has settings of your own: change the depth and the kinds there, in place of --depth and --no-kinds")
         makes = self.is_made and not (keeps and self.path.exists())
         if makes:
             self.depth = depth or 1
-            self.has_kinds = self.depth == 1 if kinds is None else kinds
+            self.has_kinds = has_kinds
             self.label = label_of(harness.name)
             self.codes = sorted({code_of(line) for line in answers.lines() if line.startswith("fail ")})
             self.write()
-            self.show(leaves_out=self.depth > 1 and kinds is None)
+            self.show()
         try:
             self.table = tomllib.loads(text_of(self.path))
         except tomllib.TOMLDecodeError as error:
@@ -79,12 +79,10 @@ class Settings:
         if not makes:
             self.codes = self.table.get("outside", {}).get("codes", [])
 
-    def show(self, leaves_out: bool) -> None:
+    def show(self) -> None:
         kinds = ", full disks and half writes" if self.has_kinds else ""
         tried = f"depth {self.depth}, all points of files, what a power cut keeps and tears{kinds}"
         show(f"loop: wrote the settings {self.path}: {tried}; codes are added as the judge prints them")
-        if leaves_out:
-            show(f"loop: full disks and half writes are left out at depth {self.depth}; --kinds tries them")
 
     def write(self) -> None:
         tree.write(self.path, made_text(self.label, self.codes or ["lost"], self.depth, self.has_kinds).encode())

@@ -6,6 +6,11 @@ from .shown import escaped
 
 TEAR = "power::tear"
 KEEPS = {"power::keep": "is kept", TEAR: "is torn"}
+STATES = {  # of the power cut, besides that in which it loses all that is pending
+    "names": "the pending changes of names are kept",
+    "contents": "the pending changes of contents are kept",
+    "live": "all pending changes are kept",
+}
 
 
 def ordinal(number: int) -> str:
@@ -72,7 +77,11 @@ def faults_in_words(outcome: Outcome) -> str:
     first_of_ever = {place for place, (point, number) in numbers.items() if for_ever.get(point) == number}
     said_by_tear = kept_of_torn(outcome, told) - first_of_ever
     parts = [fault_in_words(outcome, place, place in first_of_ever) for place in told if place not in said_by_tear]
-    return ", ".join(parts) or "without any fault"
+    return ", ".join([*(parts or ["without any fault"]), *state_in_words(outcome)])
+
+
+def state_in_words(outcome: Outcome) -> list[str]:
+    return [STATES[outcome.judgement.state]] if outcome.judgement.state else []
 
 
 def failure(outcome: Outcome) -> str:
@@ -86,4 +95,5 @@ def group_of(outcome: Outcome) -> str:
     said_by_tear = kept_of_torn(outcome, places)
     hits = [outcome.trace[place] for place in places if place not in said_by_tear]
     parts = [f"{hit[4]} {KEEPS[hit[1]]}" if hit[1] in KEEPS else f"{hit[1]} ({hit[4]}) {what(hit[3])}" for hit in hits]
-    return escaped(f"{outcome.verdict.removeprefix('fail ')}: {', '.join(dict.fromkeys(parts)) or 'without any fault'}")
+    parts = [*(dict.fromkeys(parts) or ["without any fault"]), *state_in_words(outcome)]
+    return escaped(f"{outcome.verdict.removeprefix('fail ')}: {', '.join(parts)}")

@@ -2,7 +2,9 @@
 
 import math
 import os
+import re
 import shlex
+import time
 from collections import Counter
 from collections.abc import Iterable, Iterator
 from dataclasses import dataclass
@@ -66,6 +68,7 @@ class Whole:
         self.asked = asked
         self.jobs = asked.jobs
         self.folder = Path(answers.path).parent
+        self.begun = time.monotonic()
         self.paklour = Paklour(str(settings.path), answers, LOOK_SHARE)
         self.workers = Workers(decider, asked.jobs)
         self.found: list[str] = []  # scenarios that fail
@@ -163,9 +166,6 @@ class Whole:
         if not passing:
             show(f"loop: the run without faults fails with FAULTS_SYNC={' and FAULTS_SYNC='.join(TRUSTS)} too: the pending changes need a sync after them")
 
-    def tell_again(self, scenario: str) -> None:
-        show(f"again: {self.asked.words} --try {shlex.quote(scenario)}")
-
     # ---- the campaign
 
     def run(self) -> int:
@@ -198,12 +198,14 @@ class Whole:
 
     def end_early(self) -> int:
         """Runs the failures once more, as a report's findings are. The run without faults was just made, so it isn't made again."""
+        if self.found == ["none"]:
+            self.tell_counts()
+            self.tell_end("the run without faults fails, so nothing else was tried", "none")
+            return 1
+        ways = self.confirm(self.found)
         self.tell_counts()
-        if self.found != ["none"]:
-            self.confirm(self.found)
-            return self.status(1)
-        self.tell_again("none")
-        return 1
+        self.tell_end(came_to(self.answers.failing, f"{self.answers.count} plans that were tried", self.answers.unresolved, ways), self.found[0])
+        return self.status(1)
 
     def end_of_shard(self) -> int:
         """Ends a share of a campaign. It has no report: the campaign that joins the shares writes one, and runs failures once more."""
@@ -211,19 +213,22 @@ class Whole:
         return self.status(1 if self.answers.failing else 0)
 
     def report(self) -> int:
-        status, report = self.paklour.report(*["--strict"] * self.asked.strict)
+        status, report = self.paklour.strict_report(self.settings.is_made) if self.asked.strict else self.paklour.report()
         brief = self.paklour.report("--brief", tells=False)[1]
         tree.write(self.folder / "report", report)
         for form in self.asked.forms:
             tree.write(self.folder / FORMS[form], self.paklour.report(form, tells=False)[1])
         write_out(brief if self.asked.brief else report)
-        self.confirm(findings(report, self.settings.codes))
+        found = findings(report, self.settings.codes)
+        ways = self.confirm(found)
         self.tell_counts()
+        plans, unresolved, failing = counts_of(report)
+        self.tell_end(came_to(failing, f"{plans} plans", unresolved, ways), *found[:1], page=f"; page {from_here(self.folder / FORMS[ALWAYS])}")
         return self.status(status)
 
     def status(self, of_report: int) -> int:
         """The exit status: that of the report, unless a run of this call didn't do the same each time, and so nobody knows what it came to."""
-        return DIFFERS if not self.is_same or of_report == 0 and self.unresolved[OTHERWISE] else of_report
+        return DIFFERS if not self.is_same or of_report == 0 and self.answers.unresolved else of_report
 
     def tell_counts(self) -> None:
         for why, count in self.unresolved.items():
@@ -239,8 +244,15 @@ class Whole:
         derived = f"{decider.followed} plans were derived from other runs, {decider.tried} of them were run as a check"
         show(f"loop: {decider.runner.count} runs and {decider.judge.count} judgements; {derived}")
 
-    def confirm(self, scenarios: list[str]) -> None:
-        """Runs each finding and cause, and the run without faults, once more, and prints what the causes have in common."""
+    def tell_end(self, came_to: str, scenario: str = "", page: str = "") -> None:
+        """Prints what one looks for: what the campaign came to, and how that run is made again."""
+        show(f"{came_to}; {time.monotonic() - self.begun:.1f} s{page}")
+        if scenario:
+            show(f"again: {self.asked.words} --try {shlex.quote(scenario)}")
+
+    def confirm(self, scenarios: list[str]) -> int:
+        """Runs each finding and cause, and the run without faults, once more, and prints what the causes have in common. Returns in how many ways the
+        program fails."""
         lines = {scenario_in(line): line for line in self.answers.lines()}
         groups: Counter[str] = Counter()
         for outcome in self.workers.run_again(["none", *scenarios]):
@@ -254,8 +266,7 @@ class Whole:
                 groups[group_of(outcome)] += 1
         for group, count in groups.most_common():
             show(f"{count} failure{'s' * (count > 1)}: {group}")
-        if scenarios:
-            self.tell_again(scenarios[0])
+        return len(groups)
 
     def tell_difference(self, verdict: str, hits: str, tried: Outcome) -> None:
         self.is_same = False
@@ -283,6 +294,23 @@ def findings(report: bytes, codes: list[str]) -> list[str]:
             code = max((code for code in codes if rest.startswith(code + " ")), key=len)
             found.append(rest[len(code) + 1:])
     return list(dict.fromkeys(found))
+
+
+def counts_of(report: bytes) -> tuple[int, int, int]:
+    """How many plans a whole report has, how many of them are unresolved, and how many fail."""
+    verdicts = Counter(re.findall(rb"^verdict [0-9]+ (pass|unresolved|fail)", report, re.MULTILINE))
+    return verdicts.total(), verdicts[b"unresolved"], verdicts[b"fail"]
+
+
+def from_here(path: Path) -> Path:
+    """The path as a person would name it."""
+    here = Path.cwd()
+    return path.resolve().relative_to(here) if path.resolve().is_relative_to(here) else path
+
+
+def came_to(failing: int, plans: str, unresolved: int, ways: int) -> str:
+    fails = f"{failing} of {plans} fail{'s' * (failing == 1)}, in {ways} way{'s' * (ways != 1)}" if failing else f"none of {plans} fails"
+    return fails + (f", and {unresolved} {'is' if unresolved == 1 else 'are'} unresolved" if unresolved else "")
 
 
 def decider_of(runner: Runner, settings: Settings, every_run: bool, answers: Answers) -> Decider:

@@ -65,7 +65,7 @@ class Follows(Campaigns):
         return runs, all_runs
 
     def test_kept_writes_two_faults_deep(self):
-        runs, all_runs = self.same(NOTE, "--depth", 2, FLAW="rename_first")
+        runs, all_runs = self.same(NOTE, "--depth", 2, "--no-kinds", FLAW="rename_first")
         self.assertLess(2 * runs, all_runs + 4)
 
     def test_recovery_after_the_cut(self):
@@ -199,7 +199,7 @@ class Killed(Campaigns):
         super().setUp()
         recovers = self.here / "recovers.py"
         recovers.write_text(RECOVERS.format(OUTSIDE / "out"))
-        self.kinds = {"single": (NOTE, "--no-kinds"), "kept": (NOTE, "--depth", 2), "again": (recovers, "--no-kinds")}
+        self.kinds = {"single": (NOTE, "--no-kinds"), "kept": (NOTE, "--depth", 2, "--no-kinds"), "again": (recovers, "--no-kinds")}
         self.flaws = {"single": "unchecked_sync", "kept": "rename_first", "again": ""}
 
     def report_after_kills(self, kind, name, moments):

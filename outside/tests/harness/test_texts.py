@@ -131,7 +131,7 @@ class Made(Campaigns):
 
     def settings(self, name):
         with mock.patch("harness.settings.show"):
-            return Settings(Harness(name, self.here, {}), self.here, Answers(str(self.here / "answers")), None, None, None)
+            return Settings(Harness(name, self.here, {}), self.here, Answers(str(self.here / "answers")), None, None, has_kinds=True)
 
     def test_a_long_name(self):
         self.assertEqual(self.settings("x" * 250).table["outside"]["label"], "x" * 174 + ", settings by paklour-loop")

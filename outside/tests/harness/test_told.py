@@ -157,8 +157,9 @@ class Unresolved(Campaigns):
         judge = '#!/bin/sh\ncase "$(tail -n 1 "$SAID")" in saved) ;; begun) echo later >&2; exit 4 ;; *) echo early >&2; exit 3 ;; esac\n'
         folder = self.harness(run=run, judge=judge)
         done = self.loop("-j", 1, "--no-kinds", folder)
-        self.assertEqual(done.status, 0, done.told)
+        self.assertEqual(done.status, 5, done.told)
         lines = done.told.splitlines()
+        self.assertRegex(lines.pop(), r"^none of 24 plans fails, and 22 are unresolved; ")
         for why in ("judge ended with 3: early", "judge ended with 4: later"):
             self.assertEqual(sum(line.startswith(f"unresolved: {why}: ") for line in lines), 1, done.told)
         more = [re.fullmatch(r"loop: (\d+) more plans are unresolved for this reason: judge ended with (3: early|4: later)", line) for line in lines[-3:-1]]
@@ -270,22 +271,19 @@ half writes; codes are added as the judge prints them", "loop: 14 plans with one
         self.assertEqual((self.here / "report").read_text().splitlines()[0], "target note, settings by paklour-loop")
         self.assertIn("fail lost: the 1st sys::fsync (new) fails", lines)
         self.assertIn("1 failure: lost: sys::fsync (new) fails", lines)
-        again = next(line for line in lines if line.startswith("again: "))
-        self.assertTrue(again.endswith(f"{NOTE} --into {self.here} --try 'sys::fsync=1*return'"), again)
-        self.assertEqual((self.here / "report").read_text().splitlines()[-1], "cause 9 lost sys::fsync=1*return")
+        self.assertIn("1 failure: lost: sys::fsync (new) fails, sys::fsync (.) fails, the pending changes of names are kept", lines)
+        self.assertRegex(lines[-2], rf"^2 of 17 plans fail, in 2 ways; \d+\.\d s; page {self.here}/page.html$")
+        self.assertTrue(lines[-1].startswith("again: ") and lines[-1].endswith(f"{NOTE} --into {self.here} --try 'sys::fsync=1*return'"), lines[-1])
+        self.assertEqual((self.here / "report").read_text().splitlines()[-2:], ["cause 9 lost sys::fsync=1*return", "cause 16 lost sys::fsync=return"])
         self.assertIn("<html", (self.here / "page.html").read_text())
 
-    def test_kinds_that_a_greater_depth_leaves_out(self):
-        """Unless an option says which are tried."""
-        folder = self.harness(run=SAVES, judge=JUDGES)
-        left_out = "loop: full disks and half writes are left out at depth {}; --kinds tries them"
-        for words, line in ((["--depth", 2], left_out.format(2)), (["--depth", 3], left_out.format(3)), (["--depth", 2, "--kinds"], None),
-                (["--depth", 2, "--no-kinds"], None), ([], None)):
-            into = self.here / "into"
-            done = self.loop("-x", *words, "--into", into, folder)
-            lines = done.told.splitlines()
-            self.assertEqual([text for text in lines if "left out" in text], [line] if line else [], done.told)
-            self.assertTrue(lines[0].startswith(f"loop: wrote the settings {into}/settings.toml: ") and (not line or lines[1] == line), done.told)
+    def test_each_depth_has_full_disks_and_half_writes(self):
+        """Unless an option leaves them out."""
+        folder, into = self.harness(run=SAVES, judge=JUDGES), self.here / "into"
+        for words, has_kinds in (([], True), (["--depth", 2], True), (["--depth", 2, "--no-kinds"], False)):
+            told = self.loop("-x", *words, "--into", into, folder).told.splitlines()[0]
+            self.assertTrue(told.startswith(f"loop: wrote the settings {into}/settings.toml: "), told)
+            self.assertEqual((", full disks and half writes" in told, "return(HALF)" in (into / "settings.toml").read_text()), (has_kinds, has_kinds))
             (into / "answers").unlink()
 
     def test_one_run_leaves_the_settings_as_they_are(self):
@@ -344,9 +342,9 @@ half writes; codes are added as the judge prints them", "loop: 14 plans with one
     def test_all_forms_in_one_command(self):
         done = self.loop("-j", 2, "--junit", "--json", "--page", "--progress", "--into", self.here, NOTE, FLAW="unchecked_sync")
         self.assertEqual(done.status, 1)
-        self.assertEqual(json.loads((self.here / "report.json").read_text())["counts"]["fail"], 1)
+        self.assertEqual(json.loads((self.here / "report.json").read_text())["counts"]["fail"], 2)
         suite = xml.etree.ElementTree.parse(self.here / "junit.xml").getroot()[0]
-        self.assertEqual((suite.get("tests"), suite.get("failures")), ("17", "1"))
+        self.assertEqual((suite.get("tests"), suite.get("failures")), ("17", "2"))
         self.assertIn("<html", (self.here / "page.html").read_text())
         self.assertRegex(done.told, r"loop: 1 answered, 14 still to answer, 0 failing, time left (unknown|0:00:\d\d)\n")
 
