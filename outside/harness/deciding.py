@@ -7,12 +7,13 @@ and must come out alike."""
 import hashlib
 import itertools
 import threading
+from collections import Counter
 from dataclasses import dataclass, replace
 from pathlib import Path
 
 from . import tree
 from .crashes import noted_crash, told_crash
-from .definition import ALL_STATES, Harness
+from .definition import ALL_STATES, LASTING, LIVE, Harness
 from .judging import CRASHED, HUNG, PASS, UNRESOLVED, Judge, Judgement, LooksUp
 from .outcome import Outcome
 from .record import Record
@@ -27,7 +28,6 @@ from .trace import MARKS, length_of, points_trace, trace_of
 ONE_IN = 20  # of so many derived outcomes one is run as a check
 MORE_RUNS = 3  # so often a run is made again that does otherwise than the runs before
 OTHERWISE = f"in {MORE_RUNS + 1} runs it did otherwise than the run that it grew from"
-LASTING = "lasting"
 NAMES = {"create", "mkdir", "symlink", "link", "unlink", "rmdir", "rename", "exchange"}
 
 
@@ -78,6 +78,7 @@ class Decider:
         self.every_run = every_run or not depth  # without a depth, runs need not repeat each other's hits
         self.tried = 0
         self.followed = 0
+        self.losses: Counter[str] = Counter()  # how many judgements found a loss that is known, by its code
         self.made_bases: set[Key] = set()
         self.repeats = Repeats()
         self.unsteady: set[Key] = set()  # the faults of runs that came out otherwise when they were made again: nothing is derived from these
@@ -157,7 +158,12 @@ class Decider:
 
     def works(self, runner: Runner) -> bool:
         """Whether the program works without faults if this runner makes its run."""
-        return Decider(runner, self.asking, self.depth, every_run=True).run_again("none", LooksUp.NONE).works
+        asking = None if runner.harness.is_killed_only else self.asking
+        return Decider(runner, asking, self.depth, every_run=True).run_again("none", LooksUp.NONE).works
+
+    def works_killed(self) -> bool:
+        """Whether the program works without faults if no power cut comes."""
+        return "again" not in self.harness.steps and self.works(self.runner.with_harness(states=(LIVE,)))
 
     def works_on_disk(self) -> bool:
         with self.runner.on_disk() as runner:
@@ -299,13 +305,12 @@ class Decider:
         if self.asking and not self.tools.cut(run, folder / "data", self.asking, text):
             return Outcome(text, Judgement(UNRESOLVED, "the scenario has a pause"), trace_of(run))
         trace = trace_of(run)
-        judgements = [self.judge.judge(folder, said, looks_up)] if self.asking else []
+        judgements = [self.judged(folder, said, looks_up, "")] if self.asking else []
         for name, state in self.states(run, trace, lays_states):
             if judgements and judgements[-1].verdict != PASS:
                 break
             self.tools.cut(run, folder / "data", *state)
-            judged = self.judge.judge(folder, said, looks_up)
-            judgements.append(judged if judged.verdict == PASS else replace(judged, state=name))
+            judgements.append(self.judged(folder, said, looks_up, name))
         judgement = replace(judgements[-1], is_known=all(each.is_known for each in judgements))
         outcome = Outcome(text, judgement, trace, said=said)
         if outcome.verdict.startswith("fail"):
@@ -314,6 +319,14 @@ class Decider:
         else:
             outcome.errors = last_lines(errors, end=begun)
         return outcome
+
+    def judged(self, folder: Path, said: bytes, looks_up: LooksUp, state: str) -> Judgement:
+        """The judgement of a state of this name. A loss that is known is none."""
+        judgement = self.judge.judge(folder, said, looks_up)
+        if self.harness.knows(judgement.verdict):
+            self.losses[judgement.verdict.removeprefix("fail ")] += 1
+            return replace(judgement, verdict=PASS)
+        return judgement if judgement.verdict == PASS else replace(judgement, state=state)
 
     def states(self, run: Path, trace: list[list[str]], lays_states: bool) -> list[tuple[str, list[str]]]:
         """The states in which a run is judged besides that of its scenario, if they keep different changes, each with its name as it is told and the
@@ -325,7 +338,7 @@ class Decider:
         changes = self.tools.pending(run)
         names = [int(change[0]) for change in changes if change[1] in NAMES]
         contents = [int(change[0]) for change in changes if change[1] not in NAMES]
-        kept = {LASTING: keeping([]), "names": keeping(names), "contents": keeping(contents), "live": keeping(sorted(names + contents))}
+        kept = {LASTING: keeping([]), "names": keeping(names), "contents": keeping(contents), LIVE: keeping(sorted(names + contents))}
         judged = [*[LASTING] * bool(self.asking), *(self.harness.states or ALL_STATES)]
         differing = {kept[state]: state for state in judged}
         states = [("" if scenario == kept[LASTING] or len(judged) == 1 else state, [state] if lays_states else ["keep", scenario])

@@ -148,6 +148,7 @@ class Whole:
         show("\n".join(f"judge: {line}" for line in outcome.errors.splitlines()))
         if outcome.verdict != CRASHED and not on_disk:
             self.tell_trust(is_pending=bool(outcome.pending))
+        show(f"loop: if this is known, {shlex.join(['--known', outcome.verdict.removeprefix('fail ')])} goes on, and counts what else fails")
         raise Enough
 
     def works_on_disk(self) -> bool:
@@ -158,6 +159,8 @@ class Whole:
         """Prints whether the run without faults passes on file systems that promise more about names."""
         if not is_pending:
             return show("loop: no change is pending, so no power cut did this: look at the judge and at the program")
+        if not self.harness.is_killed_only and self.decider.works_killed():
+            show("loop: the run without faults passes if no power cut comes: if the program promises no sync, --kill tries it so")
         if "FAULTS_SYNC" in os.environ | self.harness.variables:
             return
         passing = [word for word in TRUSTS if self.decider.works(self.decider.runner.with_variables(FAULTS_SYNC=word))]
@@ -241,6 +244,9 @@ class Whole:
         if decider.unsteady:
             first = min(map(scenario_of, decider.unsteady), key=len)
             show(f"loop: runs that didn't come out the same again, and from which nothing more was derived: {len(decider.unsteady)}, the first of them {first}")
+        for code in self.harness.known:
+            count = decider.losses[code]
+            show(f"loop: known: {code}: {f'{count} judgements came to it, and count as passed' if count else 'no judgement came to it'}")
         derived = f"{decider.followed} plans were derived from other runs, {decider.tried} of them were run as a check"
         show(f"loop: {decider.runner.count} runs and {decider.judge.count} judgements; {derived}")
 
