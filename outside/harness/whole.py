@@ -23,11 +23,12 @@ from .run import NOT_FOUND, Runner
 from .settings import Settings
 from .shard import Shard, places_in, scenario_in
 from .scenario import scenario_of
-from .shown import show, show_once, write_out
-from .telling import failure, group_of
+from .shown import GREEN, RED, YELLOW, show, show_once, write_out
+from .telling import failure, group_of, in_order
 from .workers import Workers
 
 LOOK_SHARE = 200  # checking the answers takes one part in so many of the time: the loop wrote them itself, and the next round checks them too
+MOST_OF_A_KIND = 10  # so many failures that have the same calls in common are printed one by one
 ALWAYS = "--page"
 FORMS = {ALWAYS: "page.html", "--junit": "junit.xml", "--json": "report.json"}
 TRUSTS = {  # what FAULTS_SYNC may be, and what that means
@@ -72,6 +73,7 @@ class Whole:
         self.paklour = Paklour(str(settings.path), answers, LOOK_SHARE)
         self.workers = Workers(decider, asked.jobs)
         self.found: list[str] = []  # scenarios that fail
+        self.failing: Counter[tuple[str, str]] = Counter()  # by its kind
         self.unresolved: Counter[str] = Counter()
         self.flaky: list[str] = []  # what is told of each run that did otherwise than the run that it grew from, until it was made again
         self.is_same = True  # whether no second run came out otherwise than the first
@@ -120,11 +122,15 @@ class Whole:
         why = outcome.judgement.why
         self.unresolved[why] += 1
         if self.unresolved[why] == 1:
-            show(": ".join(["unresolved", why, *[str(outcome.parting)] * (why == OTHERWISE), outcome.scenario]))
+            show(": ".join(["unresolved", why, *[str(outcome.parting)] * (why == OTHERWISE), outcome.scenario]), YELLOW)
 
     def tell_failure(self, outcome: Outcome) -> None:
+        """Prints a failure, or counts it if enough of its kind were printed."""
         self.found.append(outcome.scenario)
-        show(failure(outcome))
+        kind = group_of(outcome)
+        self.failing[kind] += 1
+        if self.failing[kind] <= MOST_OF_A_KIND:
+            show(failure(outcome), RED)
 
     def require_pass(self, outcome: Outcome) -> None:
         """Ends the campaign if the run without faults doesn't work. This run is no answer: the next campaign begins with it again."""
@@ -233,7 +239,14 @@ class Whole:
         """The exit status: that of the report, unless a run of this call didn't do the same each time, and so nobody knows what it came to."""
         return DIFFERS if not self.is_same or of_report == 0 and self.answers.unresolved else of_report
 
+    @property
+    def runs(self) -> int:
+        return self.decider.runner.count
+
     def tell_counts(self) -> None:
+        for kind, count in self.failing.items():
+            if count > MOST_OF_A_KIND:
+                show(f"loop: {count - MOST_OF_A_KIND} more failures like those above: {': '.join(kind)}")
         for why, count in self.unresolved.items():
             if count > 1:
                 more = "1 more plan is" if count == 2 else f"{count - 1} more plans are"
@@ -252,7 +265,8 @@ class Whole:
 
     def tell_end(self, came_to: str, scenario: str = "", page: str = "") -> None:
         """Prints what one looks for: what the campaign came to, and how that run is made again."""
-        show(f"{came_to}; {time.monotonic() - self.begun:.1f} s{page}")
+        colour = RED if scenario else YELLOW if self.answers.unresolved else GREEN
+        show(f"{came_to}; {time.monotonic() - self.begun:.1f} s{page}", colour)
         if scenario:
             show(f"again: {self.asked.words} --try {shlex.quote(scenario)}")
 
@@ -260,7 +274,7 @@ class Whole:
         """Runs each finding and cause, and the run without faults, once more, and prints what the causes have in common. Returns in how many ways the
         program fails."""
         lines = {scenario_in(line): line for line in self.answers.lines()}
-        groups: Counter[str] = Counter()
+        groups: Counter[tuple[str, str]] = Counter()
         for outcome in self.workers.run_again(["none", *scenarios]):
             line = lines[outcome.scenario]
             if outcome.answer(self.settings.depth > 0) != line and not (outcome.is_late and line.startswith(f"{outcome.verdict}\t")):
@@ -270,8 +284,8 @@ class Whole:
                 show(f"loop: the run did otherwise than before: {outcome.parting}: {outcome.scenario}")
             elif outcome.scenario != "none":
                 groups[group_of(outcome)] += 1
-        for group, count in groups.most_common():
-            show(f"{count} failure{'s' * (count > 1)}: {group}")
+        for group in in_order(groups):
+            show(f"{groups[group]} failure{'s' * (groups[group] > 1)}: {': '.join(group)}")
         return len(groups)
 
     def tell_difference(self, verdict: str, hits: str, tried: Outcome) -> None:

@@ -100,12 +100,12 @@ class TornInWords(unittest.TestCase):
     def test_one_by_half(self):
         told = self.outcome(("power::keep", "go"), ("power::keep", "return"), ("power::tear", "return"), ("power::keep", "go"))
         self.assertEqual(faults_in_words(told), "pending change 2 (write a 7 at 0) is torn")
-        self.assertEqual(group_of(told), "torn: a is torn")
+        self.assertEqual(group_of(told), ("torn", "a is torn"))
 
     def test_one_whole_and_one_by_half(self):
         told = self.outcome(("power::keep", "go"), ("power::keep", "return"), ("power::tear", "go"), ("power::keep", "return"), ("power::tear", "return"))
         self.assertEqual(faults_in_words(told), "pending change 2 (write a) is kept, pending change 3 (write a 4 at 7) is torn")
-        self.assertEqual(group_of(told), "torn: a is kept, a is torn")
+        self.assertEqual(group_of(told), ("torn", "a is kept, a is torn"))
 
     def test_all_from_then_on(self):
         hits = ("power::keep", "go"), ("power::keep", "return"), ("power::tear", "return"), ("power::keep", "return"), ("power::tear", "return")

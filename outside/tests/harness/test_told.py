@@ -1,7 +1,9 @@
 """What has to be told, and never passes."""
 
+import contextlib
 import json
 import os
+import pty
 import re
 import shutil
 import signal
@@ -10,6 +12,9 @@ import sys
 import time
 import unittest
 import xml.etree.ElementTree
+from collections import Counter
+
+from harness.telling import in_order
 
 from .base import JUDGES, LOG, LOOP, NOTE, OUTSIDE, SAVES, Campaigns
 
@@ -276,6 +281,64 @@ half writes; codes are added as the judge prints them", "loop: 14 plans with one
         self.assertTrue(lines[-1].startswith("again: ") and lines[-1].endswith(f"{NOTE} --into {self.here} --try 'sys::fsync=1*return'"), lines[-1])
         self.assertEqual((self.here / "report").read_text().splitlines()[-2:], ["cause 9 lost sys::fsync=1*return", "cause 16 lost sys::fsync=return"])
         self.assertIn("<html", (self.here / "page.html").read_text())
+
+    def on_terminal(self, folder, **variables):
+        """What a terminal gets of a campaign."""
+        reader, writer = pty.openpty()
+        with subprocess.Popen([sys.executable, LOOP, "-j", "2", folder], env=self.environment | {"TERM": "xterm"} | variables, stdin=subprocess.DEVNULL,
+                stdout=subprocess.DEVNULL, stderr=writer) as process:
+            os.close(writer)
+            told = b""
+            with contextlib.suppress(OSError):  # as the end of a terminal is told
+                while read := os.read(reader, 65536):
+                    told += read
+        os.close(reader)
+        return process.returncode, told.decode().replace("\r\n", "\n")
+
+    def test_a_terminal(self):
+        """One line is written over, and the lines that stay are above it."""
+        folder = self.harness(run=SAVES.replace("sync new", "{ sync new || true; }"), judge=JUDGES)
+        status, told = self.on_terminal(folder)
+        self.assertEqual(status, 1, told)
+        stays = [line.rpartition("\r\x1b[K")[2] for line in told.rstrip("\n").split("\n")]
+        self.assertRegex(told, r"\r\x1b\[K\d+ of \d+ plans answered by \d+ runs, \d+ failing; \d+ s, time left \S+")
+        self.assertIn("\x1b[31mfail lost: the 1st sys::fsync (new) fails\x1b[0m", stays)
+        self.assertRegex(stays[-2], r"^\x1b\[31m\d+ of \d+ plans fails?, in \d+ ways?; \d+\.\d s; page .*/page.html\x1b\[0m$")
+        self.assertRegex(stays[-1], r"^again: ")
+        self.assertFalse([line for line in stays if "answered by" in line], "none of these lines stays")
+
+    def test_a_terminal_without_colours_or_without_lines_that_are_written_over(self):
+        folder = self.harness(run=SAVES.replace("sync new", "{ sync new || true; }"), judge=JUDGES)
+        told = self.on_terminal(folder, NO_COLOR="1")[1]
+        self.assertIn("\r\x1b[K", told)
+        self.assertNotIn("\x1b[3", told)
+        (folder / "answers").unlink()
+        told = self.on_terminal(folder, TERM="dumb")[1]
+        self.assertNotIn("\x1b", told)
+        self.assertRegex(told, r"\nloop: 1 answered, \d+ still to answer, 0 failing, time left unknown\n")
+
+    def test_many_failures_of_a_kind(self):
+        """A program that never looks at what a write came to: each of seven fails once, and each but the last also from then on."""
+        writes = "import os\nnote = os.open('note', os.O_WRONLY | os.O_CREAT)\nos.fsync(os.open('.', os.O_RDONLY))\nfor _ in range(7):\n" \
+            "    try: os.write(note, b'x')\n    except OSError: pass\nos.fsync(note)\nprint('saved')\n"
+        folder = self.harness(run=f"#!{sys.executable} -S\n{writes}", judge='#!/bin/sh\n[ ! -s "$SAID" ] || [ "$(cat note)" = xxxxxxx ] || { echo lost; exit 1; }\n')
+        done = self.loop("-j", 2, "--no-kinds", folder)
+        self.assertEqual(len([line for line in done.told.splitlines() if line.startswith("fail ")]), 10, done.told)
+        self.assertIn("\n13 failures: lost: sys::write (note) fails\nloop: 3 more failures like those above: lost: sys::write (note) fails\n", done.told)
+
+    def test_in_which_order_groups_are_told(self):
+        """By what they came to, and those with the fewest events first, however many they are."""
+        plain, two, many = ("lost", "a fails"), ("lost", "a fails, b fails"), ("corrupt", "a fails, c fails")
+        self.assertEqual(in_order(Counter({many: 9, two: 5, plain: 1})), [plain, two, many])
+
+    def test_gaps_in_settings_that_the_loop_made(self):
+        """It lists all points of files, so one that no run reaches is none. In settings of one's own it is."""
+        folder = self.harness(run=SAVES, judge=JUDGES)
+        done = self.loop("-j", 2, "--no-kinds", "--strict", folder)
+        self.assertEqual((done.status, "strict: " in done.told), (0, False), done.told)
+        (folder / "settings.toml").write_text((folder / "settings.toml").read_text().split("\n", 1)[1])
+        done = self.loop("-j", 2, "--strict", folder)
+        self.assertEqual((done.status, "\nstrict: no run reaches sys::rmdir\n" in done.told), (5, True), done.told)
 
     def test_each_depth_has_full_disks_and_half_writes(self):
         """Unless an option leaves them out."""
