@@ -53,7 +53,8 @@ class Campaign:
         left = "unknown" if apart is None else str(timedelta(seconds=int(apart * self.waiting)))
         if self.writes_over:
             answered, taken = self.answers.count, int(time.monotonic() - self.begun)
-            status.show(f"{answered} of {answered + self.waiting} plans answered by {self.engine.runs} runs, {self.answers.failing} failing; {taken} s, time left {left}")
+            status.show(f"{answered} of {answered + self.waiting} plans answered by {self.engine.runs} runs, {self.answers.failing} failing; "
+                f"{taken} s, time left {left}")
         elif self.shows_progress:
             pace = f" ({1 / apart:.1f} a second)" if apart else ""
             show(f"loop: {self.answers.count} answered{pace}, {self.waiting} still to answer, {self.answers.failing} failing, time left {left}")

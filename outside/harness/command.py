@@ -137,7 +137,8 @@ def run_harness(loop: str, options: dict[str, str], path: str, processes: Proces
     settings = Settings(harness, folder, answers, options.get("--settings"), number_of(options, "--depth"), "--no-kinds" not in options,
         keeps="--try" in options)
     if "--kill" in options and not settings.is_made:
-        raise Stopped(f"{settings.path} has settings of your own: leave out power::keep there, and let a harness.py define states = ['live'], in place of --kill")
+        raise Stopped(f"{settings.path} has settings of your own: leave out power::keep there, and let a harness.py define states = ['live'], "
+            "in place of --kill")
     harness.order = "next" if NEXT in settings.points else harness.order
     work = Work(note, note.needs_disk if note else noted(Path(answers.path)).get("needs_disk"))
     try:

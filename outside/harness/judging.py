@@ -55,7 +55,7 @@ class Judge:
         promises.write_bytes(said)
         output.unlink(missing_ok=True)
         output.touch()
-        status, why = self.runner.judged(folder, output, SAID=str(promises))
+        status, why = self.runner.judged(folder, output, SAID=str(promises), PREPARED=str(self.runner.prepared))
         if why:
             return Judgement(UNRESOLVED, f"judge: {why}")
         if status == 0:
