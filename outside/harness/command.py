@@ -27,7 +27,7 @@ from .whole import ALWAYS, FORMS, Asked, Whole, decider_of
 from .words import ASK_HELP, Usage, as_called, bytes_of, refused, shows_progress, split, whole_number, write_help
 from .work import Note, Work
 
-OF_HARNESS = {"--depth", "--no-kinds", "--settings", "--into", "-x", "--failures", "--try", "--whole", "--page", "--junit", "--json",
+OF_HARNESS = {"--failing", "--depth", "--no-kinds", "--settings", "--into", "-x", "--failures", "--try", "--whole", "--page", "--junit", "--json",
     "--shard", "--join", "--every-run", "--room", "--bytes", "--kill", "--known"}
 OF_SCRIPT = {"--script", "--engine", "--brief", "--no-recheck", "--hits"}
 WITH_VALUE = {"-j", "--seconds", "--engine", "--script", "--depth", "--try", "--into", "--room", "--bytes", "--failures", "--settings", "--shard",
@@ -116,7 +116,7 @@ def asked_of(loop: str, options: dict[str, str], path: str) -> Asked:
         *["--kill"] * ("--kill" in options), *[word for code in known_of(options) for word in ("--known", code)]]
     return Asked(shlex.join(words), jobs_of(options), shows_progress(options),
         "--whole" not in options, "--strict" in options, [form for form in FORMS if form in {ALWAYS, *options}], failures,
-        shard_of(options["--shard"]) if "--shard" in options else None)
+        shard_of(options["--shard"]) if "--shard" in options else None, "--failing" in options)
 
 
 def run_harness(loop: str, options: dict[str, str], path: str, processes: Processes) -> int:

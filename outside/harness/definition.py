@@ -40,6 +40,10 @@ class Harness:
     known: tuple[str, ...] = ()  # the codes of losses that are known: a run that breaks no other promise passes
 
     @property
+    def is_folder(self) -> bool:
+        return not self.file or self.file.name == PYTHON_FILE
+
+    @property
     def is_killed_only(self) -> bool:
         """Whether a run is judged as if its program were killed, and no power cut came. `again` begins behind a power cut."""
         return self.states == (LIVE,) and "again" not in self.steps
@@ -50,8 +54,7 @@ class Harness:
 
     def identity(self, into: Path) -> Identity:
         """What answers depend on, for a campaign that writes its own files into that folder."""
-        is_folder = not self.file or self.file.name == PYTHON_FILE
-        files = [*files_in(self.folder, into)] if is_folder else [self.file]
+        files = [*files_in(self.folder, into)] if self.is_folder else [self.file]
         named = {name: os.environ[name] for name in VARIABLES if name in os.environ}
         return {"files": digests(self.folder, [*files, *self.others]), "commands": self.commands, "variables": named | self.variables,
             "states": list(self.states or ALL_STATES), "order": self.order, "pin": self.pins, "unjudged": list(self.unjudged), "allowed": sorted(self.allowed),

@@ -11,7 +11,7 @@ from dataclasses import dataclass
 from pathlib import Path
 from typing import NoReturn
 
-from . import tree
+from . import failing, tree
 from .answers import DIFFERS, Answers, Stopped, changed
 from .campaign import Campaign
 from .deciding import OTHERWISE, Decider
@@ -49,6 +49,7 @@ class Asked:
     forms: list[str]
     failures: int | None  # after how many it stops
     shard: Shard | None  # this machine's share of the campaign
+    failing: bool  # whether scenarios that failed once are tried first, and kept
 
 
 class Enough(Exception):
@@ -73,6 +74,7 @@ class Whole:
         self.paklour = Paklour(str(settings.path), answers, LOOK_SHARE)
         self.workers = Workers(decider, asked.jobs)
         self.found: list[str] = []  # scenarios that fail
+        self.fails_again: list[str] = []  # those among the ones that failed once
         self.failing: Counter[tuple[str, str]] = Counter()  # by its kind
         self.unresolved: Counter[str] = Counter()
         self.flaky: list[str] = []  # what is told of each run that did otherwise than the run that it grew from, until it was made again
@@ -182,10 +184,32 @@ class Whole:
         for point, why in self.settings.refused_points():
             raise Stopped(f"{self.settings.path}: {point}: {why}")
         try:
+            if self.asked.failing:
+                self.try_failing()
             self.grow(campaign)
             return self.report() if not self.asked.shard else self.end_of_shard()
         except Enough:
             return self.end_early()
+
+    def try_failing(self) -> None:
+        """Tries the scenarios that failed once. They are no answers of this campaign, since a program that has changed may not meet their faults."""
+        known = failing.scenarios_in(failing.path_of(self.harness))
+        unmet = 0
+        for outcome in self.workers.run_again(known):
+            if outcome.verdict.startswith("fail"):
+                self.fails_again.append(outcome.scenario)
+                show(failure(outcome), RED)
+            elif outcome.verdict == UNRESOLVED:
+                self.tell_unresolved(outcome)
+            unmet += not failing.meets_all(outcome)
+        not_met = f", and {unmet} don't meet all of their faults any more" if unmet else ""
+        show(f"loop: {len(self.fails_again)} of {len(known)} scenarios that failed once fail again{not_met}")
+        if self.asked.failures and len(self.fails_again) >= self.asked.failures:
+            raise Enough
+
+    def keep_failing(self, found: list[str]) -> None:
+        if self.asked.failing and (count := failing.add(failing.path_of(self.harness), found)):
+            show(f"loop: added to {from_here(failing.path_of(self.harness))}, of the scenarios that fail: {count}")
 
     def grow(self, campaign: Campaign) -> None:
         """Tries scenarios until none is left. If there are more plans than a campaign may have, it goes on to a lower depth."""
@@ -207,11 +231,16 @@ class Whole:
 
     def end_early(self) -> int:
         """Runs the failures once more, as a report's findings are. The run without faults was just made, so it isn't made again."""
+        if self.fails_again and not self.found:
+            self.tell_counts()
+            self.tell_end("scenarios that failed once fail again, so nothing else was tried", self.fails_again[0])
+            return 1
         if self.found == ["none"]:
             self.tell_counts()
             self.tell_end("the run without faults fails, so nothing else was tried", "none")
             return 1
         ways = self.confirm(self.found)
+        self.keep_failing(self.found)
         self.tell_counts()
         self.tell_end(came_to(self.answers.failing, f"{self.answers.count} plans that were tried", self.answers.unresolved, ways), self.found[0])
         return self.status(1)
@@ -219,7 +248,7 @@ class Whole:
     def end_of_shard(self) -> int:
         """Ends a share of a campaign. It has no report: the campaign that joins the shares writes one, and runs failures once more."""
         self.tell_counts()
-        return self.status(1 if self.answers.failing else 0)
+        return self.status(1 if self.answers.failing or self.fails_again else 0)
 
     def report(self) -> int:
         status, report = self.paklour.strict_report(self.settings.is_made) if self.asked.strict else self.paklour.report()
@@ -230,10 +259,13 @@ class Whole:
         write_out(brief if self.asked.brief else report)
         found = findings(report, self.settings.codes)
         ways = self.confirm(found)
+        self.keep_failing(found)
         self.tell_counts()
-        plans, unresolved, failing = counts_of(report)
-        self.tell_end(came_to(failing, f"{plans} plans", unresolved, ways), *found[:1], page=f"; page {from_here(self.folder / FORMS[ALWAYS])}")
-        return self.status(status)
+        plans, unresolved, fails = counts_of(report)
+        before = f", and {len(self.fails_again)} that failed once fail again" if self.fails_again else ""
+        self.tell_end(came_to(fails, f"{plans} plans", unresolved, ways) + before, *[*found, *self.fails_again][:1],
+            page=f"; page {from_here(self.folder / FORMS[ALWAYS])}")
+        return self.status(1 if self.fails_again and status == 0 else status)
 
     def status(self, of_report: int) -> int:
         """The exit status: that of the report, unless a run of this call didn't do the same each time, and so nobody knows what it came to."""
@@ -328,8 +360,8 @@ def from_here(path: Path) -> Path:
     return path.resolve().relative_to(here) if path.resolve().is_relative_to(here) else path
 
 
-def came_to(failing: int, plans: str, unresolved: int, ways: int) -> str:
-    fails = f"{failing} of {plans} fail{'s' * (failing == 1)}, in {ways} way{'s' * (ways != 1)}" if failing else f"none of {plans} fails"
+def came_to(count: int, plans: str, unresolved: int, ways: int) -> str:
+    fails = f"{count} of {plans} fail{'s' * (count == 1)}, in {ways} way{'s' * (ways != 1)}" if count else f"none of {plans} fails"
     return fails + (f", and {unresolved} {'is' if unresolved == 1 else 'are'} unresolved" if unresolved else "")
 
 

@@ -91,8 +91,15 @@ class Refused(Campaigns):
     def test_answers_of_another_harness(self):
         folder = self.harness(run="#!/bin/sh\n: > here; echo here\n", judge="#!/bin/sh\ntrue\n")
         self.assertEqual(self.loop("-j", 2, folder).status, 0)
-        (folder / "judge").write_text("#!/bin/sh\ntrue # changed\n")
-        self.refused("belongs to a harness with another judge: delete it, and start again\n", folder)
+        before = (folder / "answers").read_bytes()
+        for number in (1, 2):
+            (folder / "judge").write_text(f"#!/bin/sh\ntrue # changed {number}\n")
+            done = self.loop("-j", 2, folder)
+            self.assertEqual(done.status, 0)
+            self.assertIn(f"loop: {folder}/answers belongs to a harness with another judge, so it is now {folder}/answers.{number}, and this campaign begins anew\n",
+                done.told)
+            self.assertEqual(sorted((folder / f"answers.{number}").read_bytes().splitlines()), sorted(before.splitlines()))
+        self.assertNotIn("answers belongs", self.loop("-j", 2, folder).told, "what was set aside is no part of the harness")
 
     def test_two_campaigns_in_one_folder(self):
         folder = self.harness(run="#!/bin/sh\nsleep 1; : > here\n", judge="#!/bin/sh\ntrue\n")
