@@ -102,7 +102,7 @@ new
 run 'sys::open=1*off->1*panic' sh -c '"$1" signalled 9; "$1" signalled 6' ends "$oddities"
 is 'nor a panic' '99 ' "$status $(crashes)"
 new
-run none sh -c '("$1" signalled 11 &); sleep 0.1; cat old' ends "$oddities"
+run none sh -c '("$1" signalled 11 & echo $! > ../number); while kill -0 "$(cat ../number)" 2> /dev/null; do sleep 0.01; done; cat old' ends "$oddities"
 is 'a process whose parent has ended' '0 1 SIGSEGV odd' "$status $(crashes)"
 new
 run none sh -c 'sh -c "$1 signalled 6; :"; cat old; "$1" signalled 8; "$1" signalled 15; exit 134' ends "$oddities"
