@@ -15,7 +15,7 @@ def noted_crash(run: Path, hit: int | None = None) -> str:
     """The signal and the program of the first crash that was noted before this hit, or in the whole run, or an empty text."""
     path = run / CRASHES
     for line in path.read_text("utf-8", "surrogateescape").splitlines() if path.exists() else []:
-        hits, name, program = line.split("\t")
+        hits, name, program = line.split("\t", 2)
         if hit is None or int(hits) < hit:
             return f"{name}, {program}"
     return ""
