@@ -30,7 +30,7 @@ the check that is started beside it, which never ends by itself.
   > END
   $ chmod +x bin/* && PATH=$PWD/bin:$PATH BUILT=$PWD/built CI=$PWD/ci && export PATH BUILT CI && cd repo
   $ printf '#!/bin/sh\n' > tools/house_rules && for tool in unlawful_targets own_targets pages dist hostile_use refuse.py; do cp tools/house_rules tools/$tool; done
-  $ printf '#!/bin/sh\necho "5 passed, 0 failed"\n' > tools/wrong_bodies && chmod +x tools/* && printf 'all test:\n' > outside/Makefile
+  $ printf '#!/bin/sh\necho "5 passed, 0 failed"\n' > tools/wrong_bodies && chmod +x tools/* && printf 'all test together:\n' > outside/Makefile
   $ mkdir viewer && printf 'test:\n\t@echo tests of the page\n' > viewer/Makefile && printf '#!/bin/sh\nexit $OLD_NODE\n' > ../bin/node && chmod +x ../bin/node
   $ printf 'paklour:\nsmall_tests: paklour\n' > crates.txt && mkdir crates/paklour/must-fail && touch crates/paklour/a crates/paklour/must-fail/a crates/small_tests/src/lib.rt && git init -q . && git add .
 

@@ -133,10 +133,11 @@ What a return says beside that a call fails changes nothing in a bundled target:
 
 Notes have the text of their term without a copy of it: here 5,000 notes have 60,000 bytes each, where 50 megabytes are all that there is.
 
-  $ { printf 'target = "replace"\nmax_hits = 6000\n[replace]\nold = ""\nreplacements = [["a"'; printf ', "a"%.0s' $(seq 4999); echo ']]'; } > many.toml
+  $ many=$(printf ', "a"%.0s' $(seq 999))
+  $ { printf 'target = "replace"\nmax_hits = 6000\n[replace]\nold = ""\nreplacements = [\n'; for each in 1 2 3 4 5; do echo "[\"a\"$many],"; done; echo ']'; } > many.toml
   $ (ulimit -v 50000; paklour try --scenario "replace::write=print($(printf '%060000d' 0))" many.toml)
   verdict pass
-  asked 5004
+  asked 5020
   words 0
   millis 0
   notes 5000

@@ -81,11 +81,14 @@ static bool step(struct way *way) {
     return follows;
 }
 
-static int walk(const struct thread *thread, int from, const char *text) {
+static int root_of(const struct thread *thread) {
     char path[64];
-    struct way way = {.thread = thread};
     snprintf(path, sizeof path, "/proc/%d/root", thread->number);
-    way.root = open(path, O_PATH | O_DIRECTORY | O_CLOEXEC);
+    return open(path, O_PATH | O_DIRECTORY | O_CLOEXEC);
+}
+
+static int walk(const struct thread *thread, int from, const char *text) {
+    struct way way = {.thread = thread, .root = root_of(thread)};
     way.here = openat(*text == '/' ? way.root : from, ".", O_PATH | O_CLOEXEC);
     snprintf(way.rest, sizeof way.rest, "%s", text);
     bool goes_on = way.root >= 0 && way.here >= 0;
@@ -137,9 +140,13 @@ static bool split(char *path, const char **folder, struct found *found) {
     return true;
 }
 
-/* Opens a folder in one call. This fails with ELOOP if a link of /proc is on the way. */
+/* Opens a folder in one call. This fails with ELOOP if a link of /proc is on the way, and for a thread with another root with EXDEV if a relative name
+   leads out of the folder in which it begins, or with EAGAIN if the system can't tell. */
 static int open_at_once(struct call *call, int from, const char *text) {
     struct open_how how = {.flags = O_PATH | O_DIRECTORY | O_CLOEXEC, .resolve = RESOLVE_NO_MAGICLINKS};
+    bool is_absolute = *text == '/', is_elsewhere = call->thread->is_elsewhere;
+    if (is_elsewhere) how.resolve |= is_absolute ? RESOLVE_IN_ROOT : RESOLVE_BENEATH;
+    if (is_elsewhere && is_absolute) from = hold(call, root_of(call->thread));
     return hold(call, (int)syscall(SYS_openat2, from, text, &how, sizeof how));
 }
 
@@ -152,15 +159,13 @@ static bool look_at_folder(const struct call *call, struct found *found) {
 static bool open_its_folder(struct call *call, int from, char *path, struct found *found) {
     const char *folder;
     if (!split(path, &folder, found)) return false;
-    bool is_here = from >= 0 && !strcmp(folder, "."), must_walk = call->thread->is_elsewhere && !is_here;
-    if (!must_walk) {
-        found->folder = is_here ? from : open_at_once(call, from, folder);
-        if (found->folder < 0 && errno != ELOOP) return false;
-        if (found->folder >= 0 && !look_at_folder(call, found)) return false;
-        must_walk = found->folder < 0 || (!is_here && is_in_proc(found));
-    }
-    if (must_walk) found->folder = hold(call, walk(call->thread, from, folder));
-    return found->folder >= 0 && (!must_walk || look_at_folder(call, found));
+    bool is_here = from >= 0 && !strcmp(folder, ".");
+    found->folder = is_here ? from : open_at_once(call, from, folder);
+    if (found->folder < 0 && errno != ELOOP && errno != EXDEV && errno != EAGAIN) return false;
+    if (found->folder >= 0 && !look_at_folder(call, found)) return false;
+    if (is_here || (found->folder >= 0 && !is_in_proc(found))) return true;
+    found->folder = hold(call, walk(call->thread, from, folder));
+    return found->folder >= 0 && look_at_folder(call, found);
 }
 
 /* Whether what exists is under the root. A folder, a file with several names, and a file that a mount shows are known by themselves. A file with

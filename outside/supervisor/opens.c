@@ -6,15 +6,23 @@
 #include <linux/openat2.h>
 #include <stdio.h>
 
-/* Reads what is asked for, in the form of openat2. creat has no flags. */
-static bool read_how(const struct call *call, struct open_how *how) {
+enum { PAGE = 4096 };
+
+/* Reads what is asked for, in the form of openat2. creat has no flags. More than that form has is refused, as by a system that doesn't know it. */
+static int read_how(const struct call *call, struct open_how *how) {
+    static char asked[PAGE];
     const struct row *row = call->row;
     uint64_t size = argument(call, row->length);
     *how = (struct open_how){.flags = (uint32_t)argument(call, row->flags), .mode = argument(call, row->mode)};
     if (!row->flags) how->flags = O_CREAT | O_WRONLY | O_TRUNC;
-    if (!row->bytes) return true;
-    if (size > sizeof *how) size = sizeof *how;
-    return size >= sizeof *how && read_memory(call->thread, argument(call, row->bytes), how, size) == size;
+    if (!row->bytes) return 0;
+    if (size < sizeof *how) return -EINVAL;
+    if (size > sizeof asked) return -E2BIG;
+    if (read_memory(call->thread, argument(call, row->bytes), asked, size) != size) return -EFAULT;
+    memcpy(how, asked, sizeof *how);
+    for (uint64_t i = sizeof *how; i < size; i++)
+        if (asked[i]) return -E2BIG;
+    return 0;
 }
 
 static bool is_nameless(uint64_t flags) { return (flags & O_TMPFILE) == O_TMPFILE; }
@@ -44,14 +52,26 @@ static int open_by_rules(struct call *call, const struct open_how *how, const st
     return (int)syscall(SYS_openat2, from, text, how, sizeof *how);
 }
 
+/* Why a name isn't found by its rules, which may be another reason than that nothing is there. */
+static int error_by_rules(struct call *call, const struct open_how *how, const struct found *found) {
+    struct open_how way = {.flags = O_PATH | O_CLOEXEC, .resolve = how->resolve};
+    if (!how->resolve || call->thread->is_elsewhere) return found->error;
+    act_as(call->thread);
+    int file = open_by_rules(call, &way, found), error = errno;
+    act_as_self();
+    return hold(call, file) < 0 ? error : found->error;
+}
+
 static int open_found(struct call *call, const struct open_how *how, const struct found *found) {
     char name[NAME_MAX + 3];
     struct open_how own = *how;
     own.flags |= O_CLOEXEC | O_NOCTTY;
     snprintf(name, sizeof name, "%s%s", found->name, found->ends_in_slash ? "/" : "");
     make_as(call->thread);
-    int file = how->resolve ? open_by_rules(call, &own, found)
-                            : openat(found->folder, name, (int)own.flags, (mode_t)own.mode & 07777);
+    int file;
+    if (how->resolve) file = open_by_rules(call, &own, found);
+    else if (call->row->bytes) file = (int)syscall(SYS_openat2, found->folder, name, &own, sizeof own);
+    else file = openat(found->folder, name, (int)own.flags, (mode_t)own.mode & 07777);
     int error = errno;
     act_as_self();
     errno = error;
@@ -85,8 +105,11 @@ void serve_open(struct call *call) {
     struct open_how how;
     struct found found;
     char flags[256], path[FOUND_PATH];
-    if (!read_how(call, &how)) return go_on(call);
-    if (!find_asked(call, &how, &found) || !found.is_inside) return pass_by(call, &found);
+    int error = read_how(call, &how);
+    if (error) return finish(call, error);
+    bool is_found = find_asked(call, &how, &found);
+    if (!is_found) found.error = error_by_rules(call, &how, &found);
+    if (!is_found || !found.is_inside) return pass_by(call, &found);
     if (hit(call, OPEN, found.path, flag_names((int)how.flags, flags)) != GO) return;
     if (may_wait(&found)) return go_on(call);
     bool changes = how.flags & (found.exists ? O_TRUNC : O_CREAT);

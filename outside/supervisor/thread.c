@@ -154,7 +154,8 @@ struct thread *thread_of(int number) {
         return thread;
     }
     uint64_t program = thread->number == number && !knows_threads ? thread->program : 0;
-    if (thread->number) see_end(thread), close(thread->handle);
+    if (thread->number && knows_threads) see_end(thread);
+    if (thread->number) close(thread->handle);
     if (thread->number && thread->folder >= 0) close(thread->folder);
     *thread = (struct thread){.number = number, .folder = -1, .seen = now()};
     read_status(thread);

@@ -95,6 +95,24 @@ static int beneath(char **words) {
     return syscall(SYS_openat2, folder, "/in", &how, sizeof how) < 0 ? wrong("a file of a folder that is a root") : 0;
 }
 
+/* Opens that the system refuses before it looks for a file, or on the way to one. */
+static int refused(char **words) {
+    struct { struct open_how how; unsigned long long more; } asked = {{.flags = O_CREAT | O_RDWR | 1ull << 40, .mode = 0644}, 0};
+    struct open_how *how = &asked.how;
+    (void)words;
+    if (syscall(SYS_openat2, AT_FDCWD, "a", how, sizeof *how) != -1 || errno != EINVAL) return wrong("flags that nobody knows");
+    *how = (struct open_how){.flags = O_CREAT | O_RDWR, .mode = 0200644};
+    if (syscall(SYS_openat2, AT_FDCWD, "a", how, sizeof *how) != -1 || errno != EINVAL) return wrong("a mode with other bits");
+    how->mode = 0644;
+    asked.more = 1;
+    if (syscall(SYS_openat2, AT_FDCWD, "a", how, sizeof asked) != -1 || errno != E2BIG) return wrong("more than the system knows");
+    *how = (struct open_how){.flags = O_RDWR, .resolve = RESOLVE_BENEATH};
+    if (syscall(SYS_openat2, AT_FDCWD, "../nothing/a", how, sizeof *how) != -1 || errno != EXDEV) return wrong("a way out of the folder");
+    asked.more = 0;
+    how->resolve = 0;
+    return syscall(SYS_openat2, AT_FDCWD, "old", how, sizeof asked) < 0 ? wrong("zeros behind it") : 0;
+}
+
 /* The other calls that make a file longer, where it may have 12 bytes. */
 static int lengthened(int file, int from) {
     loff_t at = 10;
@@ -500,7 +518,7 @@ static const struct {
     int (*does)(char **words);
 } cases[] = {
     {"raw", raw}, {"bad_parts", bad_parts}, {"read_only", read_only}, {"direct", direct}, {"as_output", as_output},
-    {"own_folder", own_folder}, {"beneath", beneath}, {"limited", limited}, {"few_files", few_files},
+    {"own_folder", own_folder}, {"beneath", beneath}, {"refused", refused}, {"limited", limited}, {"few_files", few_files},
     {"opened_often", opened_often},    {"by_path", by_path},    {"written_at", written_at}, {"masked", masked}, {"as_other", as_other}, {"without_rights", without_rights}, {"jailed", jailed},
     {"at_once", at_once},
     {"made_writable", made_writable}, {"closed_memory", closed_memory}, {"mapped_over", mapped_over},

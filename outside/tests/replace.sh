@@ -4,7 +4,7 @@
 #
 # The C program opens the folder first, and to the system the sync of the file and of the folder are one call. So level 1 has two plans more,
 # which fail before anything is done and have no children, and each later number is two higher. A Return of the bundled target leaves half a
-# chunk, as HALF does here.
+# chunk, as HALF does here; but of `w`, one byte, a Return leaves nothing, and HALF all.
 #
 #   site of the protocol   bundled plans   plans here
 #   open the folder                        1, 2

@@ -31,6 +31,9 @@ is 'a write past the cache' 0 "$status"
 oddly beneath
 is 'opens with rules for their way' '0 sub old EXDEV,sub/a 4,sub/in 5' \
     "$status $(sed -n 1p "$here/run/trace" | cut -f 5) $(sed -n '2p;3p;5p' "$here/run/trace" | cut -f 5,8 | tr -d ' ' | tr '\t' ' ' | paste -s -d ,)"
+is 'opens that are refused, natively' 0 "$(new; cd "$here/data" && "$oddities" refused 2>&1; echo $?)"
+oddly refused
+is 'and supervised' '0 old=0123456789 sub/ sub/in=inside ' "$status$faults $(pending)$(files)"
 oddly by_path "$here/data"
 is 'descriptors of a path alone' '0 . -,old -,nothing ENOENT' "$status $(cut -f 5,8 "$here/run/trace" | tr -d ' ' | tr '\t' ' ' | paste -s -d ,)"
 is 'a limit on lengths, natively' 0 "$(new; cd "$here/data" && "$oddities" limited 2>&1; echo $?)"
@@ -99,7 +102,7 @@ new
 run 'sys::open=1*off->1*panic' sh -c '"$1" signalled 9; "$1" signalled 6' ends "$oddities"
 is 'nor a panic' '99 ' "$status $(crashes)"
 new
-run none sh -c '("$1" signalled 11 &); sleep 0.1; cat old' ends "$oddities"
+run none sh -c '("$1" signalled 11 & echo $! > ../number); while kill -0 "$(cat ../number)" 2> /dev/null; do sleep 0.01; done; cat old' ends "$oddities"
 is 'a process whose parent has ended' '0 1 SIGSEGV odd' "$status $(crashes)"
 new
 run none sh -c 'sh -c "$1 signalled 6; :"; cat old; "$1" signalled 8; "$1" signalled 15; exit 134' ends "$oddities"

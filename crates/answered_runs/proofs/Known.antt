@@ -1,12 +1,13 @@
 -- What answers say of scenarios that they don't name, for each component that agrees with them.
 use Rattle.std.proofs.Common.{◌≡◌, ℕ, ◌≤◌, ◌<◌, ◌^◌, Bool, true, false, cond, List, [], ◌∷◌, length, map, refl, ap, sym, ◌∙◌, subst, arith, inl, inr}
-use Rattle.std.specs.Prelude.{Option, Some, None, IfSome, option_and_then, nat_le, nat_lt, ◌&&◌, ◌||◌, ◌==◌}
+use Rattle.std.specs.Prelude.{Option, Some, None, IfSome, option_and_then, option_map, nat_le, nat_lt, ◌&&◌, ◌||◌, ◌==◌}
 use Rattle.std.specs.List.{AllByRecursion, list_all}
 use Rattle.std.specs.Str.{bytes_eq}
 use Rattle.std.proofs.lemmas.Bool.{eqb-true, leb-true, ltb-true}
 use Rattle.std.proofs.lemmas.Slice.Eq.{bytes_eq-Decides}
 use Rattle.scenario_values.specs.Scenario.{Entries, IsScenario, is_argument}
 use Rattle.scenario_values.specs.Printed.{printed}
+use Rattle.scenario_values.specs.Tidied.{tidied}
 use Rattle.action_eval.specs.Answers.{given_of}
 use Rattle.action_eval.specs.Catalogue.{IsCatalogue}
 use Rattle.action_eval.specs.declared.rig.Kind.{Kind}
@@ -18,22 +19,26 @@ use Rattle.target_trait.specs.Outcomes.{outcome, verdict_with}
 use Rattle.target_trait.specs.declared.judgement.Verdict.{Verdict}
 use Rattle.target_trait.proofs.Verdicts.{verdict_is}
 use Rattle.plan_gen.specs.RiggedAnswers.{AreInOrder, IsBefore}
-use Rattle.answer_text.specs.Runs.{KnownRuns}
+use Rattle.answer_text.specs.Runs.{KnownRuns, told_in}
 use Rattle.answer_text.specs.declared.runs.ToldRun.{ToldRun}
 use Rattle.answer_text.proofs.Members.{same_printed}
-use Rattle.grown_plans.specs.GrownPlans.{Subject, is_before}
+use Rattle.grown_plans.specs.numbered.GrownScenarios.{grown_scenario}
+use Rattle.grown_plans.specs.GrownPlans.{Subject, is_before, rigs_of}
 use Rattle.grown_plans.specs.Promises.{IsLawful, verdict_of_rigs}
 use Rattle.grown_plans.proofs.Members.{all_map, all_weaker}
+use Rattle.grown_runs.specs.known.Known.{Told}
 use Rattle.grown_runs.specs.known.Walks.{once}
 use Rattle.grown_runs.proofs.KnownLemmas.Steps.{same_verdict}
 use Rattle.answered_runs.specs.Agreement.{is_certain}
-use Rattle.answered_runs.specs.Answered.{plan_runs}
+use Rattle.answered_runs.specs.Answered.{Answered, plan_runs, runs_in, told_of}
 use Rattle.answered_runs.specs.Components.{AgreesWithRuns, IsComponent, IsTrueRun}
+use Rattle.answered_runs.specs.KnownLists.{verdict_told}
 use Rattle.answered_runs.specs.Rigged.{are_in_order, are_lawful, are_short, are_small, is_short, if_made, make, most_hit, points_into, rigs_of_scenario}
 use Rattle.answered_runs.specs.Verdicts.{AreVerdictsOf, told_or, verdict_by, walked_by}
 use Rattle.answered_runs.proofs.AnyKinds.{any_kinds, any_in, any_once, any_texts, distinct_apart}
+use Rattle.answered_runs.proofs.CertainAnswers.{rigs_certain}
 use Rattle.answered_runs.proofs.Runs.{agree_lawful}
-use Rattle.answered_runs.proofs.Tests.{scenario_certain}
+use Rattle.answered_runs.proofs.Tests.{certain_scenario, scenario_certain}
 
 -- ---- tests that hold
 
@@ -177,3 +182,25 @@ true_of t points listed told depth is low agrees s v ok known seed stream = by_t
         → (outcome t.asks (given_of s t.names seed stream t.limit)).verdict ≡ v
     by_test true e k = by_told (told s) (agrees s ok (scenario_certain s e)) k
     by_test false e k = by_rigs (rigs_of_scenario points s) refl k
+
+-- ---- the scenarios of plans
+
+-- nothing is drawn in them, so what is recorded of them counts
+pub plan_certain : (points : List (List ℕ)) (plan : List Rig) → is_certain (tidied (grown_scenario points plan)) ≡ true
+plan_certain points plan = certain_scenario (tidied (grown_scenario points plan)) (rigs_certain points (rigs_of plan))
+
+pub told_known : (a : Answered) (depth : ℕ) (plan : List Rig) (v : Verdict) → verdict_told (runs_in a) plan ≡ Some v
+    → verdict_by a.points (told_in a.book) depth (tidied (grown_scenario a.points plan)) ≡ Some v
+told_known a depth plan v e =
+    subst (λ (b : Bool). told_or walked (cond b (told_in a.book s) None) ≡ Some v) (sym (plan_certain a.points plan)) (by_few (nat_le (length plan) 64) (told_in a.book s) e)
+  where
+    s : Entries
+    s = tidied (grown_scenario a.points plan)
+
+    walked : Option Verdict
+    walked = walked_by (plan_runs a.points (told_in a.book)) depth (rigs_of_scenario a.points s)
+
+    by_few : (few : Bool) (o : Option ToldRun) → option_map (λ (t : Told). t.verdict) (cond few (option_map told_of o) None) ≡ Some v → told_or walked o ≡ Some v
+    by_few true (Some r) h = h
+    by_few true None h = absurd cc
+    by_few false o h = absurd cc

@@ -13,3 +13,4 @@ mod SteadyLemmas
 mod PlanQuestions
 mod LineLemmas
 mod FollowLemmas
+mod EscapedLemmas

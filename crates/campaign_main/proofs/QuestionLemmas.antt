@@ -1,9 +1,10 @@
 -- Ends of questions, by what they came to and by what was read.
-use Rattle.std.proofs.Common.{◌≡◌, ◌≤◌, ◌<◌, ◌==◌, [], ℕ, Bool, true, false, List, Option, Some, None, IfSome, Result, Ok, Err, length, refl, sym, ap, inl, inr, subst, if◌then◌else◌}
+use Rattle.std.proofs.Common.{◌++◌, ◌≡◌, ◌≤◌, ◌<◌, ◌==◌, [], ℕ, Bool, true, false, List, Option, Some, None, IfSome, Result, Ok, Err, length, refl, sym, ap, inl, inr, subst, if◌then◌else◌}
 use Rattle.std.specs.Str.{IsUtf8}
 use Rattle.std.specs.Prelude.{is_some}
 use Rattle.scenario_grammar.specs.declared.fault.ScenarioFault.TheVariants as scenario
 use Rattle.answer_text.specs.Answers.{most_bytes}
+use Rattle.answer_text.specs.FaultText.{line_of}
 use Rattle.answer_text.specs.declared.fault.AnswersFault.{AnswersFault}
 use Rattle.answer_text.specs.declared.fault.AnswersFault.TheVariants as answers
 use Rattle.std.specs.List.{slice_split}
@@ -26,6 +27,7 @@ use Rattle.answer_text.specs.declared.runs.RunLine.{RunLine}
 use Rattle.outside_campaign.specs.with_depth.Questions.{Refuses, RefusesYet}
 use Rattle.outside_campaign.specs.declared.with_depth.fault.QuestionFault.{QuestionFault}
 use Rattle.outside_campaign.specs.declared.with_depth.fault.QuestionFault.TheVariants as fault
+use Rattle.report.specs.ReportText.{ended}
 use Rattle.report.specs.declared.forms.forms.Form.{Form}
 use Rattle.outside_campaign.specs.declared.refusal.OutsideFault.TheVariants as outside
 use Rattle.campaign_main.specs.declared.exit.Conclusion.{Conclusion}
@@ -35,12 +37,14 @@ use Rattle.campaign_main.specs.declared.exit.Exit.TheVariants as exit
 use Rattle.campaign_main.specs.declared.input.ReadFault.{ReadFault}
 use Rattle.campaign_main.specs.declared.input.ReadFault.TheVariants as read
 use Rattle.campaign_main.specs.Commands.{Refusal, bad_answers, bad_scenario, bad_settings, broken_run, bundled_target, not_answered, not_text, other_census, too_many_plans, unseen_hits}
+use Rattle.campaign_main.specs.Escaped.{escaped}
 use Rattle.campaign_main.specs.Ends.{EndsAs, IsNoted, Leaves, OnWhole, RefusesWith, TellsAs, TellsOf}
 use Rattle.campaign_main.specs.Exit.{exit_of}
 use Rattle.campaign_main.specs.FaultLines.{answers_read_line, read_fault_line, refusal_line, settings_line, unreadable_answers_line, unreadable_line}
 use Rattle.campaign_main.specs.QuestionNotes.{question_notes}
 use Rattle.campaign_main.specs.Questions.{EndsAnswered, EndsQuestion, IsAnswer, IsEndOfQuestion, IsNotAnswered, IsUnanswered, RefusesQuestion, RefusesShown, Subject, TellsOfQuestion, TellsWhy, chosen_subject, given_subject, report_form, subject_of, text_subject, written_for}
 use Rattle.outside_campaign.proofs.WithDepthLemmas.ReadFaults.{at_all}
+use Rattle.campaign_main.proofs.EscapedLemmas.{long-answers}
 use Rattle.campaign_main.proofs.EndLemmas.{broken-meaning, if_some, long-meaning, memory-apart, read-meaning, tells-of, text-meaning, settings-fault-cause}
 
 -- ---- by the answer to a question
@@ -223,15 +227,18 @@ too-long (Explain words) s text many = long-reading (is_some s.0.depth) s.1.code
 
 -- ---- by the answers that a reader gave
 
+refuses-long-answers : (end : Exit) (w : Change) → RefusesWith (answers_read_line read.TooLong) end w → RefusesWith (ended (escaped (line_of answers.TooLong ++ []))) end w
+refuses-long-answers end w told = let P : List ℕ → Type 0 = λ line. RefusesWith line end w in subst P (sym long-answers) told
+
 module _ (question : Question) (s : Subject) (known : Option (List ℕ)) where
   pub answers-read-fault-cause : (f : ReadFault) (end : Exit) (w : Change)
       → (f ≡ read.TooLong → IfSome known (λ bytes. 268435456 < length bytes))
       → RefusesWith (answers_read_line f) end w → (f ≡ read.Memory → end ≡ exit.Memory) → end ≡ exit.Refused
       → IfSome known (λ bytes. IsNotAnswered question (Ok s) bytes w)
   answers-read-fault-cause read.TooLong end w long told memory refused =
-      let P : Exit → Type 0 = λ e. RefusesWith (answers_read_line read.TooLong) e w in
+      let P : Exit → Type 0 = λ e. RefusesWith (refusal_line (bad_answers s.1 answers.TooLong)) e w in
       if_some known _ (λ bytes. IsNotAnswered question (Ok s) bytes w)
-      (λ bytes h. inl (bad_answers s.1 answers.TooLong, (refl, too-long question s bytes h), subst P refused told)) (long refl)
+      (λ bytes h. inl (bad_answers s.1 answers.TooLong, (refl, too-long question s bytes h), subst P refused (refuses-long-answers end w told))) (long refl)
   answers-read-fault-cause read.NotUtf8 end w long told memory refused =
       let P : Exit → Type 0 = λ e. RefusesWith unreadable_answers_line e w in
       elim known as (λ k. IfSome k (λ bytes. IsNotAnswered question (Ok s) bytes w)) [ None ↦ tt | Some bytes ↦ inr (inr (subst P refused told)) ]
@@ -356,7 +363,7 @@ module _ (end : Exit) (w : Change) where
   read-fault-tells-question read.Memory told memory = tells-of _ _ _ end w told (λ refused. memory-apart end (memory refl) refused)
 
   pub answers-read-fault-tells : (f : ReadFault) → RefusesWith (answers_read_line f) end w → (f ≡ read.Memory → end ≡ exit.Memory) → TellsOfQuestion end w
-  answers-read-fault-tells read.TooLong told memory = tells-question (bad_answers nothing answers.TooLong) end w told
+  answers-read-fault-tells read.TooLong told memory = tells-question (bad_answers nothing answers.TooLong) end w (refuses-long-answers end w told)
   answers-read-fault-tells read.NotUtf8 told memory =
       let P : Exit → Type 0 = λ e. RefusesWith unreadable_answers_line e w in tells-of _ _ _ end w told (λ refused. inr (inr (subst P refused told)))
   answers-read-fault-tells read.NotReadable told memory =

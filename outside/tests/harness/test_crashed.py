@@ -59,7 +59,7 @@ class Crashed(FirstFails):
         for line in ("==7==ERROR: AddressSanitizer: heap-use-after-free", "WARNING: ThreadSanitizer: data race (pid=7)", "a.c:5:3: runtime error: signed overflow"):
             done, verdicts = self.campaign(f"echo '{line}' >&2")
             self.assertEqual(verdicts[FIRST], "fail crashed")
-            self.assertIn(f"\nfail crashed: the 1st sys::open (a) fails ({line})\n", done.told)
+            self.assertIn(f"\nfail crashed: the 1st sys::open (a) fails ({line.removeprefix('==7==')})\n", done.told)
 
     def test_what_a_judge_or_another_program_prints(self):
         judge = "#!/bin/sh\necho '==7==ERROR: AddressSanitizer: of the judge' >&2\n"

@@ -30,6 +30,7 @@ use Rattle.outside_campaign.specs.with_depth.Grown.{candidates, known, listed, o
 use Rattle.answered_runs.specs.Broken.{AreBroken, IsFirstBreak}
 use Rattle.answered_runs.specs.Agreement.{AreOfOne, IsContradiction}
 use Rattle.answered_runs.specs.SomeComponent.{HasComponent}
+use Rattle.answered_runs.proofs.Known.{plan_certain}
 use Rattle.answered_runs.proofs.SomeComponent.{component_unbroken}
 use Rattle.answered_runs.specs.declared.broken.BrokenRun.{BrokenRun}
 use Rattle.outside_campaign.specs.with_depth.Questions.{AreUnbroken, RefusesBy}
@@ -105,7 +106,8 @@ unrun_if : (a : Answered) (depth : ℕ) (plan : List Rig) → is_none (known a d
 unrun_if a depth plan e =
     let s : Entries = tidied (grown_scenario a.points plan) in
     run_none (nat_le (length plan) 64) (told_in a.book s)
-    (told_none (walked_by (runs_in a) depth (rigs_of_scenario a.points s)) (told_in a.book s) e)
+    (told_none (walked_by (runs_in a) depth (rigs_of_scenario a.points s)) (told_in a.book s)
+    (subst (λ (b : Bool). is_none (told_or (walked_by (runs_in a) depth (rigs_of_scenario a.points s)) (cond b (told_in a.book s) None)) ≡ true) (plan_certain a.points plan) e))
 
 open_grown : (a : Answered) (depth : ℕ) (plans : List (List Rig)) (rest : List Entries) (t : Entries) → Contains (open_plans (known a depth) (grown_scenarios a.points plans ++ rest)) t
     → Contains (unrun a plans ++ open_plans (known a depth) rest) t

@@ -1,7 +1,8 @@
-use Rattle.std.proofs.Common.{subst, sym}
+use Rattle.std.proofs.Common.{List, ℕ, subst, sym}
 use Rattle.campaign_main.specs.declared.input.ReadFault.{ReadFault}
 use Rattle.campaign_main.specs.Ends.{RefusesWith}
 use Rattle.campaign_main.specs.FaultLines.{read_fault_line}
+use Rattle.campaign_main.proofs.EscapedLemmas.{long-settings}
 use Rattle.campaign_main.proofs.ToldLemmas.{refuses-with}
 use Rattle.campaign_core.specs.Writes.{change}
 use Rattle.campaign_main.proofs.lines.end_unreadable_settings.Goals as goal
@@ -11,7 +12,8 @@ returns-in-TooLong-clause-end g c =
     let E = g.E.Sink in
     let new = c.refused.new.faults in
     let P : ReadFault → Type 0 = λ f. RefusesWith (read_fault_line f) c.refused.result (change E c.args.faults.now new) in
-    subst P (sym c.in-TooLong.is) (refuses-with _ _ _ c.refused.ensures.end c.refused.ensures.told)
+    let Q : List ℕ → Type 0 = λ line. RefusesWith line c.refused.result (change E c.args.faults.now new) in
+    subst P (sym c.in-TooLong.is) (subst Q (sym long-settings) (refuses-with _ _ _ c.refused.ensures.end c.refused.ensures.told))
 
 pub returns-in-NotUtf8-clause-end : goal.returns-in-NotUtf8-clause-end
 returns-in-NotUtf8-clause-end g c =

@@ -77,7 +77,7 @@ returns c =
     c.shown_of-shown.ensures
     ∙ ap (λ (n : ℕ). S list n c.len-listed.result c.as_str-source.result.now) (ap (λ (g : Given). g.plans.storms) c.settings.view_is)
     ∙ ap (λ (n : ℕ). S list given.plans.storms n c.as_str-source.result.now) (c.len-listed.ensures ∙ c.settings.inside.scenarios.ok.0 ∙ ap (λ (g : Given). length g.plans.listed) c.settings.view_is)
-    ∙ ap (λ (x : List ℕ). S list given.plans.storms (length given.plans.listed) x) (c.as_str-source.ensures ∙ ap (λ (g : Given). g.source) c.settings.view_is)
+    ∙ ap (λ (x : List ℕ). S list given.plans.storms (length given.plans.listed) x) (c.as_str-source.ensures.value ∙ ap (λ (g : Given). g.source) c.settings.view_is)
     ∙ ap (λ (l : GrownList). S l given.plans.storms (length given.plans.listed) given.source) c.list-list.ensures.same in
     let census = subst (λ (a : Answered). IsCleanCensus a counts) c.runs-runs.ensures c.in_ok-census.ensures in
     IfOk-weaker c.text_in.result _ _
