@@ -277,6 +277,8 @@ class Decider:
         record.is_cut = True
         if "again" in self.harness.steps:
             outcome = self.go_on(record, run, text, said, looks_up)
+            if outcome.verdict == PASS and self.is_killed(outcome, min(hit, len(record.points))):
+                self.go_on_killed(record, hit, outcome, said, looks_up)
         else:
             outcome = self.cut_and_judge(record.folder, run, text, said, looks_up, lays_states=is_end)
         return self.with_crash(outcome, run, self.crash(record, hit))
@@ -298,6 +300,34 @@ class Decider:
         outcome = self.cut_and_judge(record.folder, run, text, said + more.read_bytes(), looks_up, lays_states=True)
         outcome.pending = pending + outcome.pending
         return self.with_crash(outcome, run, crash)
+
+    def is_killed(self, outcome: Outcome, hit: int) -> bool:
+        """Whether `run` was ended at that hit and nothing acted behind it, and so whether a kill alone is judged too."""
+        ends = hit > 0 and outcome.trace[hit - 1][3].startswith("panic") and all(each[3] == "go" for each in outcome.trace[hit:])
+        return ends and LIVE in (self.harness.states or ALL_STATES)
+
+    def go_on_killed(self, record: Record, hit: int, outcome: Outcome, said: bytes, looks_up: LooksUp) -> None:
+        """Judges recovery after the program alone was killed at that hit, so that all it did is there. As nothing acts in this recovery, its hits belong to
+        no answer, and the judgement to the scenario that keeps nothing."""
+        run, more, errors = record.killed, record.folder / "said_killed", record.folder / "errors"
+        if run.exists():
+            tree.remove(run)
+        more.unlink(missing_ok=True)
+        self.tools.rewind(record.run, run, hit, outcome.scenario)
+        pending = self.tools.pending(run)
+        if not pending:
+            return
+        self.tools.cut(run, record.data, "keep", keeping(range(1, len(pending) + 1)), goes_on=True)
+        (run / MARKS).touch()
+        _, why = self.runner.under("again", run, record.folder, "none", more)
+        if why:
+            outcome.judgement = Judgement(UNRESOLVED, f"after a kill: {why}")
+            return
+        begun = length_of(errors)
+        self.tools.cut(run, record.data, LIVE)
+        judgement = self.judged(record.folder, said + more.read_bytes(), looks_up, LIVE)
+        if judgement.verdict != PASS:
+            outcome.judgement, outcome.pending, outcome.errors = judgement, pending, last_lines(errors, begun)
 
     def cut_and_judge(self, folder: Path, run: Path, text: str, said: bytes, looks_up: LooksUp, lays_states: bool) -> Outcome:
         """Judges each state that a power cut may leave, up to the first that breaks a promise."""

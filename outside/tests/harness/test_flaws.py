@@ -103,10 +103,10 @@ mkdir new && sync new . && {how} && sync . && echo switched
 class Killed(Campaigns):
     """A link that is replaced: `current` leads to a folder of one version or the next at each moment."""
 
-    def switched(self, how):
+    def switched(self, how, **more):
         prepare = "#!/bin/sh\nmkdir old && ln -s old current\n"
         judge = '#!/bin/sh\ncase $(cat "$SAID"):$(readlink current) in switched:new | :old | :new) exit 0 ;; esac\necho gone; exit 1\n'
-        folder = self.harness(prepare=prepare, run=SWITCHES.format(how=how), judge=judge)
+        folder = self.harness(prepare=prepare, run=SWITCHES.format(how=how), judge=judge, **more)
         return folder, self.loop("-j", 2, folder)
 
     def test_a_link_that_is_removed_first(self):
@@ -120,9 +120,21 @@ class Killed(Campaigns):
         again = self.loop(folder, "--try", "sys::symlink=1*panic")
         self.assertEqual((again.status, again.out.splitlines()[-2:]), (1, ["pending: 1 unlink current -", killed]))
 
+    def test_with_recovery(self):
+        """It begins with what the kill left, and doesn't make the link anew; or it does."""
+        killed = "fail gone: the 1st sys::symlink (current) ends the run, all pending changes are kept"
+        for mends, is_gone in (("", True), ("[ -L current ] || ln -s old current; sync .", False)):
+            folder, done = self.switched("rm current && ln -s new current", again=f"#!/bin/sh\n: > started; {mends}\n")
+            self.assertEqual(killed in done.told.splitlines(), is_gone, done.told)
+            again = self.loop(folder, "--try", "sys::symlink=1*panic")
+            self.assertEqual((again.status, again.out.splitlines()[-1] == killed), (is_gone, is_gone), again.out)
+            shutil.rmtree(folder)
+
     def test_one_that_is_renamed_into_place(self):
-        folder, done = self.switched("ln -s new next && mv -T next current")
-        self.assertEqual((done.status, [line for line in self.answers(folder) if line.startswith("fail")]), (0, []), done.told)
+        for more in ({}, {"again": "#!/bin/sh\n: > started\n"}):
+            folder, done = self.switched("ln -s new next && mv -T next current", **more)
+            self.assertEqual((done.status, [line for line in self.answers(folder) if line.startswith("fail")]), (0, []), done.told)
+            shutil.rmtree(folder)
 
     def test_a_scenario_that_keeps_a_change_names_its_state(self):
         """Behind the new link both changes are pending. A fault that isn't met keeps nothing."""
