@@ -66,7 +66,7 @@ class Follows(Campaigns):
 
     def test_kept_writes_two_faults_deep(self):
         runs, all_runs = self.same(NOTE, "--depth", 2, "--no-kinds", FLAW="rename_first")
-        self.assertLess(2 * runs, all_runs + 4)
+        self.assertLess(3 * runs, 2 * all_runs)
 
     def test_recovery_after_the_cut(self):
         runs, all_runs = self.same(LOG, FLAW="full_disk")
