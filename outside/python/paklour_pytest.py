@@ -70,13 +70,16 @@ class Campaigns:
         parts = {name: value for name, value in words.items() if name in OF_HARNESS}
         if harness and parts:
             fail(f"{harness} has its own {', '.join(parts)}")
+        if "into" in words:
+            fail("into: each campaign has a folder of its own in pytest's cache")
         functions = [value for name, value in parts.items() if name in STEPS and callable(value)]
         options = words_of({name: value for name, value in words.items() if name not in parts})
         folder = self.folder()
         with alone(folder):
             if not harness:
                 (folder / "harness.py").write_text(text_of(parts, functions, self.here), "utf-8")
-            keep(folder / "answers", program is not None, [*map(file_of, functions), *(self.here / path for path in program or ())])
+            files = [Path(shutil.which("paklour")), *map(file_of, functions), *(self.here / path for path in program or ())]
+            keep(folder / "answers", program is not None, files)
             where = ["--into", folder, self.here / harness] if harness else [folder]
             status, told = self.run(folder / "answers", [*loop_for(functions), *options, *where])
         if status:
@@ -108,9 +111,9 @@ def called(words, here):
             errors="backslashreplace") as process:
         try:
             out, told = process.communicate()
-        except BaseException:  # such as KeyboardInterrupt: the loop ends what it has started, and its answers stay
+        except BaseException:  # such as KeyboardInterrupt: the loop ends what it has started, and says how many answers it keeps
             process.terminate()
-            process.communicate()
+            print(process.communicate()[1], end="", file=sys.stderr)
             raise
     print(out, end="")
     return process.returncode, told

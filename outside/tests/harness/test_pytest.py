@@ -11,7 +11,7 @@ import time
 import unittest
 from pathlib import Path
 
-from .base import JUDGES, LOOP, OUTSIDE, SAVES, Campaigns
+from .base import JUDGES, LOOP, OUTSIDE, PROGRAM, SAVES, Campaigns
 
 PLUGIN = OUTSIDE / "python"
 PAGE = OUTSIDE.parent / "docs" / "TEST_SUITES.md"
@@ -156,11 +156,12 @@ class Pytest(Suites):
         self.failed('paklour.campaign(run="echo new > note; echo no room >&2; exit 3", judge="true")',
             "loop: the run without faults is refused: `run` ended with 3. The last lines on standard error:\n.*no room")
 
-    def test_a_part_or_a_file_that_is_missing(self):
+    def test_words_that_are_refused(self):
         self.failed('paklour.campaign(run="true")', "loop: [^\n]*: `judge` is missing: [^\n]*")
         self.failed('paklour.campaign("saving")', "loop: [^\n]*/saving: there is no such harness; [^\n]*")
         self.failed('paklour.campaign(run="true", judge="true", program=["save"])', "[^\n]*/project/save: there is no such file or folder")
         self.failed('paklour.campaign("saving", judge="true")', "saving has its own judge")
+        self.failed('paklour.campaign("saving", into="here")', "into: [^\n]*")
 
     def test_paklour_is_missing(self):
         self.write("test_it.py", "def test_it(paklour):\n    paklour.campaign(run='true', judge='true')\n")
@@ -185,19 +186,21 @@ class Pytest(Suites):
         self.assertEqual(self.runs(self.saves(SOUND, more)[1]), 1)
         self.write("more/other.py", "2")
         self.assertEqual(self.runs(self.saves(SOUND, more)[1]), all_runs)
+        (self.here / "bin" / "paklour").unlink()
+        (self.here / "bin" / "paklour").write_bytes(PROGRAM.read_bytes() + b"another version")
+        (self.here / "bin" / "paklour").chmod(0o755)
+        self.assertEqual(self.runs(self.saves(SOUND, more)[1]), all_runs)
 
     def test_answers_of_another_program_or_harness(self):
-        """Both are deleted: of the program the plugin sees it, and of the harness the loop."""
-        more = ', program=["save"]'
+        """All are deleted: the plugin sees another program and another function, and the loop another command or variable."""
+        more = ', program=["save"], environment={"WORD": os.environ.get("WORD", "1")}'
         all_runs = self.runs(self.saves(SOUND, more)[1])
+        self.assertEqual([self.runs(self.pytest(WORD="2")[1]), self.runs(self.pytest(WORD="2")[1])], [all_runs, 1])
+        self.write("test_saves.py", TEST.replace("{more}", more).replace('"lost"', '"gone"'))
+        self.assertEqual(self.runs(self.pytest(WORD="2")[1]), all_runs)
         status, said = self.saves(FLAWED, more)
         self.assertEqual(status, 1, said)
         self.found(said)
-        self.saves(SOUND, more)
-        self.write("test_saves.py", TEST.replace("{more}", more).replace("young", "old"))
-        self.assertEqual(self.runs(self.pytest()[1]), all_runs)
-        self.assertEqual(self.runs(self.saves(SOUND, f'{more}, environment={{"WORD": "1"}}')[1]), all_runs)
-        self.assertEqual(self.runs(self.saves(SOUND, f'{more}, environment={{"WORD": "2"}}')[1]), all_runs)
 
     def test_a_harness_that_is_there(self):
         """Its folder stays as it is, and its answers are kept until it changes."""
@@ -223,9 +226,14 @@ class Pytest(Suites):
         self.failed('paklour.campaign("saving", every_word=True)', r"loop: --every-word: there is no such option \(.*\)")
 
     def test_functions(self):
-        """Any part may be one, of the test's module or of another, which finds what the tests find."""
-        self.write("helping.py", 'import os\n\n\ndef prepare():\n    with open("old", "w") as file:\n        file.write("old")\n')
-        self.write("test_saves.py", JUDGE + """import helping
+        """Any part may be one, of the test's module or of another. It finds what the tests find, in their Python, and not modules of the loop."""
+        self.write("words.py", 'OLD = "old"\n')
+        self.write("helping.py", 'from words import OLD\n\n\ndef prepare():\n    with open("old", "w") as file:\n        file.write(OLD)\n')
+        self.write("test_saves.py", JUDGE + """import sys
+
+import helping
+
+assert sys.executable == os.environ["PYTHON_OF_TESTS"]
 
 
 def run():
@@ -240,9 +248,10 @@ def run():
 def test_saves(paklour):
     paklour.campaign(prepare=helping.prepare, run=run, judge=judge)
 """)
-        status, said = self.pytest()
+        status, said = self.pytest(PYTHON_OF_TESTS=PYTHON)
         self.assertEqual(status, 1, said)
         self.assertIn("fail lost: without any fault\npending: ", said)
+        (self.project / "test_saves.py").unlink()
         self.failed('paklour.campaign(run="true", judge=lambda said: None)', "<function .*> is no function by itself: [^\n]*")
 
     def test_two_campaigns_of_a_test(self):
