@@ -67,18 +67,18 @@ class Campaigns:
     def campaign(self, harness=None, /, *, program=None, **words):
         """Runs a campaign of a harness, which is a path, or else consists of words such as `run` and `judge`. Other words are options of the loop. If
         `program` lists the files and folders of the program, answers are kept until one of them changes. Returns the folder of the report."""
-        parts = {name: value for name, value in words.items() if name in OF_HARNESS}
+        parts = {name: value for name, value in words.items() if name in OF_HARNESS and value is not None}
         if harness and parts:
             fail(f"{harness} has its own {', '.join(parts)}")
         if "into" in words:
             fail("into: each campaign has a folder of its own in pytest's cache")
         functions = [value for name, value in parts.items() if name in STEPS and callable(value)]
-        options = words_of({name: value for name, value in words.items() if name not in parts})
+        options = words_of({name: value for name, value in words.items() if name not in OF_HARNESS})
         folder = self.folder()
         with alone(folder):
             if not harness:
                 (folder / "harness.py").write_text(text_of(parts, functions, self.here), "utf-8")
-            files = [Path(shutil.which("paklour")), *map(file_of, functions), *(self.here / path for path in program or ())]
+            files = [Path(shutil.which("paklour")), *map(file_of, functions), *(self.here / path for path in listed(program))]
             keep(folder / "answers", program is not None, files)
             where = ["--into", folder, self.here / harness] if harness else [folder]
             status, told = self.run(folder / "answers", [*loop_for(functions), *options, *where])
@@ -92,7 +92,7 @@ class Campaigns:
         name = f"{self.request.node.nodeid} {next(self.numbers)}"
         short = f"{re.sub('[^A-Za-z0-9_.]+', '-', self.request.node.name)[:80]}-{hashlib.sha256(name.encode()).hexdigest()[:8]}"
         cache = getattr(self.request.config, "cache", None)
-        folder = (cache.mkdir("paklour") if cache else self.request.getfixturevalue("tmp_path")) / short
+        folder = (cache.mkdir("paklour") if cache else self.request.getfixturevalue("tmp_path")).resolve() / short
         folder.mkdir(exist_ok=True)
         return folder
 
@@ -131,9 +131,14 @@ def words_of(options):
     found = []
     for name, given in options.items():
         word = SHORT.get(name, "--" + name.replace("_", "-"))
-        for value in given if isinstance(given, (list, tuple)) else [given]:
-            found += [word] if value is True else [word.replace("--", "--no-", 1)] if value is False else [] if value is None else [word, str(value)]
+        for value in listed(given):
+            found += [word] if value is True else [word.replace("--", "--no-", 1)] if value is False else [word, str(value)]
     return found
+
+
+def listed(value):
+    """A list of the one value that stands in place of it, or of none."""
+    return value if isinstance(value, (list, tuple)) else [] if value is None else [value]
 
 
 def text_of(parts, functions, here):
@@ -150,9 +155,9 @@ def step_of(value, here):
         return f"_function({value.__module__!r}, {str(file_of(value))!r}, {value.__name__!r})"
     if isinstance(value, str):
         return repr(value)
-    first, *others = map(str, [value] if isinstance(value, os.PathLike) else value)
-    is_path = "/" in first or isinstance(value, os.PathLike)
-    return repr([str(here / first) if is_path else first, *others])
+    first, *others = listed(value)
+    is_path = isinstance(first, os.PathLike) or "/" in first
+    return repr([str(here / first) if is_path else first, *map(str, others)])
 
 
 def file_of(function):

@@ -109,7 +109,9 @@ class Pytest(Suites):
 
     def runs(self, said: str) -> int:
         """How many runs a campaign made. Each test makes one."""
-        return int(re.search(r"^loop: (\d+) runs and ", said, re.M)[1])
+        counted = re.search(r"^loop: (\d+) runs and ", said, re.M)
+        self.assertTrue(counted, said)
+        return int(counted[1])
 
     def failed(self, text: str, told: str, **variables) -> None:
         """A test with this body fails with these words and nothing else of the plugin."""
@@ -163,6 +165,18 @@ class Pytest(Suites):
         self.failed('paklour.campaign("saving", judge="true")', "saving has its own judge")
         self.failed('paklour.campaign("saving", into="here")', "into: [^\n]*")
 
+    def test_a_path_is_a_script(self):
+        self.write("save", SOUND, 0o755)
+        self.write("judge", "#!/bin/sh\nexit 0\n", 0o755)
+        self.write("test_it.py", """from pathlib import Path
+
+
+def test_it(paklour):
+    paklour.campaign(run=[Path("save"), "young"], judge=Path("judge"), program="save", again=None, failures=1)
+""")
+        status, said = self.pytest()
+        self.assertEqual(status, 0, said)
+
     def test_paklour_is_missing(self):
         self.write("test_it.py", "def test_it(paklour):\n    paklour.campaign(run='true', judge='true')\n")
         for name in ("paklour", "paklour-loop"):
@@ -198,6 +212,9 @@ class Pytest(Suites):
         self.assertEqual([self.runs(self.pytest(WORD="2")[1]), self.runs(self.pytest(WORD="2")[1])], [all_runs, 1])
         self.write("test_saves.py", TEST.replace("{more}", more).replace('"lost"', '"gone"'))
         self.assertEqual(self.runs(self.pytest(WORD="2")[1]), all_runs)
+        (self.here / "link").symlink_to(self.project)
+        linked = ["-o", f"cache_dir={self.here}/link/cache"]
+        self.assertEqual([self.runs(self.pytest(*linked, WORD=word)[1]) for word in "34"], [all_runs, all_runs])
         status, said = self.saves(FLAWED, more)
         self.assertEqual(status, 1, said)
         self.found(said)
