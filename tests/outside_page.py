@@ -76,7 +76,7 @@ def parts_of(page):
     with open(page, encoding="utf-8") as file:
         part = file.read()
     if heading:
-        part = re.search(rf"^## {heading}\n(.*?)^## ", part, re.M | re.S)[1]
+        part = re.search(rf"^## {heading}\n(.*?)(?:^## |\Z)", part, re.M | re.S)[1]
     parts = re.split(r"^```(\w*)\n(.*?)^```\n", part, flags=re.M | re.S)
     return zip(parts[::3], [*parts[1::3], None], [*parts[2::3], None])
 

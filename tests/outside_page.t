@@ -1,16 +1,20 @@
 docs/TUTORIAL.md, the script of docs/OUTSIDE.md that takes the place of its harness, and the file of Python of docs/HARNESS.md that does too, as a reader performs
 them: what their commands write is what the pages show. With that file the mended program is run once more, where nothing fails.
-Of 6 hits 12 plans have one fault. What is pending at the cut, and so hit by power::keep, follows from docs/OUTSIDE.md, "The power cut". With two faults there are, of
-the program that renames first,
+The program that renames first has 6 hits, so 12 plans of one fault, and 2 more of the write: a full disk and a half. As Python writes again when it closes, the write
+in three ways is also tried from then on. With plan 0 these are 18; plans 11 and 12 are of the fsync behind the rename. There `note` is in the state in which the
+changes of names are kept, and none of its bytes.
+
+The mended program has the rename behind the fsync of the file. What is pending at the cut, and so hit by power::keep, follows from docs/OUTSIDE.md, "The power
+cut". Two faults deep it has
 
 - none behind an open that fails or ends the run, as Python ends there with nothing changed;
-- 4 behind a write that fails, since Python writes again as it closes: that write in two ways, and the name `new` and its contents are pending; 1 where it ends the
-run, the name;
-- 2 behind a rename that fails or ends it, the same two; 3 behind the fsync of the file, with the rename; 2 behind that of the folder, whose names are pending.
+- behind each of two ways in which the write fails, the next write in four ways, and the name `new` and its contents are pending: 12;
+- behind a write that does half, the next write in four ways, and each later hit in two: 10; where the write ends the run, the name: 1;
+- 4 behind the fsync of the file, 2 behind the rename, whose `new` isn't synced by its folder yet, and 4 behind the fsync of the folder.
 
-These are 19, plan 13 on: so the third kept change behind that fsync's return is plan 24 (13 to 16, 17, 18 and 19, 20 and 21, 22 to 24), and behind its panic 27. Where two
-changes or more are left, or two writes, a return from then on takes more than one: 10 plans, so that all are 42. The mended program has the rename behind
-the fsync of the file: of these there are 4, 1, 2 and 2 of the fsync, 1 and 1 of the rename, 2 and 2, which are 15, and 6 from then on: 34.
+These are 33. From then on there are the 3 of one fault; 6 in which the second write fails in another way than the first; and 6 where two changes are left, behind
+two of the writes and both fsyncs: 15. With 14 of one fault and plan 0 all are 63. The script's settings have two kinds at each hit: 12 plans of one fault, 15 of two
+(4 and 1 behind the write, 4, 2 and 4 behind the others) and 6 from then on: 34.
 
   $ pages() { "$TESTDIR/outside_page.py" "${1:-$TESTDIR/../docs/TUTORIAL.md}" "${2:-$TESTDIR/../docs/OUTSIDE.md}#By a script" "$TESTDIR/../docs/HARNESS.md#The harness"; }
   $ pages
@@ -20,11 +24,11 @@ From here on the program itself is needed.
 
 Pages that show otherwise: a comment, a report's end, what is told, lines that the text names, and commands that fail.
 
-  $ sed 's/^first 24 torn/first 25 torn/; s/^pending: 1 create new/pending: 1 create old/' "$TESTDIR/../docs/TUTORIAL.md" > tutorial.md
+  $ sed 's/^first 11 torn/first 12 torn/; s/^pending: 1 create new/pending: 1 create old/' "$TESTDIR/../docs/TUTORIAL.md" > tutorial.md
   $ sed 's/`first none`/`first some`/; s/# 5	sys::rename/# 4	sys::rename/' "$TESTDIR/../docs/OUTSIDE.md" > script.md
   $ pages tutorial.md script.md
   shows otherwise: fail lost: without any fault
-  shows otherwise: plans 42
+  shows otherwise: plans 18
   shows otherwise:     1 sys::open 1 (.) 3
   no line 4	sys::rename	1	go	note
   no line first some
@@ -33,9 +37,6 @@ Pages that show otherwise: a comment, a report's end, what is told, lines that t
   $ sed 's/^paklour-loop --depth 2 saving/paklour-loop --none saving/' "$TESTDIR/../docs/TUTORIAL.md" > tutorial.md
   $ pages tutorial.md
   ended with 2: paklour-loop --none saving
-  shows otherwise: fail torn: the 1st sys::fsync (note) fails, pending change 3 (rename new -> note) is kept
-  shows otherwise: plans 42
-  ended with 2: paklour-loop --none saving
-  shows otherwise: plans 34
-  16 compared, 5 differ
+  shows otherwise: plans 63
+  16 compared, 2 differ
   [1]

@@ -2,6 +2,7 @@
 
 import errno
 import fcntl
+import itertools
 import os
 from pathlib import Path
 
@@ -39,17 +40,29 @@ class Answers:
 
     def __init__(self, path: str):
         self.path = path
+        self.open()
+
+    def open(self) -> None:
         try:
-            self.file = os.open(path, os.O_WRONLY | os.O_APPEND | os.O_CREAT | os.O_CLOEXEC, 0o666)
+            self.file = os.open(self.path, os.O_WRONLY | os.O_APPEND | os.O_CREAT | os.O_CLOEXEC, 0o666)
         except OSError as error:
-            raise Stopped(f"{path}: {error.strerror}") from error
+            raise Stopped(f"{self.path}: {error.strerror}") from error
         try:
             fcntl.flock(self.file, fcntl.LOCK_EX | fcntl.LOCK_NB)
         except BlockingIOError as error:
-            raise Stopped(f"another loop is writing to {path}: wait until it has ended, or stop it") from error
+            raise Stopped(f"another loop is writing to {self.path}: wait until it has ended, or stop it") from error
         lines = self.lines()
         self.count = len(lines)
         self.failing = sum(line.startswith("fail") for line in lines)
+        self.unresolved = sum(line.startswith("unresolved") for line in lines)
+
+    def set_aside(self) -> str:
+        """Gives the file another name, which is returned, and begins a new one. Nothing is deleted."""
+        aside = next(name for number in itertools.count(1) if not os.path.lexists(name := f"{self.path}.{number}"))
+        os.rename(self.path, aside)
+        os.close(self.file)
+        self.open()
+        return aside
 
     def text(self) -> bytes:
         return Path(self.path).read_bytes()
@@ -73,3 +86,4 @@ class Answers:
             raise Stopped(f"{self.path}: an answer can't be written: {error.strerror}") from error
         self.count += 1
         self.failing += answer.startswith("fail")
+        self.unresolved += answer.startswith("unresolved")

@@ -6,8 +6,8 @@ from pathlib import Path
 from . import tree
 from .trace import MOST_HITS, hits_too_often, length_of
 
-TEXTS = ("said", "said_again", "errors", "judged")
-NOTES = ("run", "rewound")  # the folders of the notes of a run. The second has those of `again`, and before it the hits of `run`
+TEXTS = ("said", "said_again", "said_killed", "errors", "judged")
+NOTES = ("run", "rewound", "killed")  # the folders of the notes of a run. The others have those of `again`, and before it the hits of `run`
 
 
 @dataclass

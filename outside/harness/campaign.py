@@ -9,9 +9,9 @@ from typing import Protocol
 from .answers import Answers, Stopped
 from .following import Batch, Following
 from .paklour import Paklour
-from .shown import show
+from .shown import is_terminal, show, status
 
-TELLS_EVERY = 10  # seconds
+TELLS_EVERY, WRITES_EVERY = 10, 0.1  # seconds between two lines, or until a line is written over
 AHEAD = 2  # so many scenarios for each worker are to wait
 
 
@@ -21,6 +21,7 @@ class Engine(Protocol):
     name: str
     jobs: int
     takes_more: bool  # whether it begins scenarios that come while it tries others
+    runs: int  # how many it has made
 
     def try_all(self, asked: Batch, more: Iterable[Batch] = ()) -> Iterable[list[str]]:
         """The answers that come of each scenario, in the order in which they come. More scenarios may come while these are tried."""
@@ -36,7 +37,8 @@ class Campaign:
         self.asked = 0  # how many scenarios the engine was given in this round
         self.tried = 0  # and how many of them it has tried
         self.came: deque[float] = deque(maxlen=32)  # when the last answers came
-        self.told = time.monotonic()
+        self.begun = self.told = time.monotonic()
+        self.writes_over = is_terminal()
 
     @property
     def waiting(self) -> int:
@@ -47,10 +49,14 @@ class Campaign:
         return (self.came[-1] - self.came[0]) / (len(self.came) - 1) if len(self.came) > 1 else None
 
     def tell(self) -> None:
-        if self.shows_progress:
-            apart = self.apart()
+        apart = self.apart()
+        left = "unknown" if apart is None else str(timedelta(seconds=int(apart * self.waiting)))
+        if self.writes_over:
+            answered, taken = self.answers.count, int(time.monotonic() - self.begun)
+            status.show(f"{answered} of {answered + self.waiting} plans answered by {self.engine.runs} runs, {self.answers.failing} failing; "
+                f"{taken} s, time left {left}")
+        elif self.shows_progress:
             pace = f" ({1 / apart:.1f} a second)" if apart else ""
-            left = "unknown" if apart is None else str(timedelta(seconds=int(apart * self.waiting)))
             show(f"loop: {self.answers.count} answered{pace}, {self.waiting} still to answer, {self.answers.failing} failing, time left {left}")
         self.told = time.monotonic()
 
@@ -84,7 +90,7 @@ class Campaign:
             for answer in answers:
                 self.keep(answer)
                 after(answer)
-            if self.came and self.came[-1] - self.told >= TELLS_EVERY:
+            if self.came and self.came[-1] - self.told >= (WRITES_EVERY if self.writes_over else TELLS_EVERY):
                 self.tell()
             self.look()
             if self.following and not self.waiting:
@@ -101,9 +107,11 @@ class Campaign:
             try:
                 self.try_round(asked, after)
             finally:
+                status.show("")
                 if self.following:
                     self.following.end()
             if self.answers.count == known:
                 raise Stopped(f"{self.engine.name} printed no answer: run it by hand with the first scenario that it was given: {asked[0]}")
-        self.asked = self.tried = 0
-        self.tell()
+        if not self.writes_over:
+            self.asked = self.tried = 0
+            self.tell()

@@ -11,6 +11,7 @@ from . import definition, programs, script
 from .answers import DIFFERS, Answers, Stopped, stopped_by
 from .bounds import Bounds
 from .campaign import Campaign
+from .definition import FAILURES, LIVE, Harness
 from .disk import disk_of
 from .identity import noted
 from .paklour import Paklour
@@ -26,11 +27,12 @@ from .whole import ALWAYS, FORMS, Asked, Whole, decider_of
 from .words import ASK_HELP, Usage, as_called, bytes_of, refused, shows_progress, split, whole_number, write_help
 from .work import Note, Work
 
-OF_HARNESS = {"--depth", "--kinds", "--no-kinds", "--settings", "--into", "-x", "--failures", "--try", "--whole", "--page", "--junit", "--json",
-    "--shard", "--join", "--every-run", "--room", "--bytes"}
+OF_HARNESS = {"--failing", "--depth", "--no-kinds", "--settings", "--into", "-x", "--failures", "--try", "--whole", "--page", "--junit", "--json",
+    "--shard", "--join", "--every-run", "--room", "--bytes", "--kill", "--known"}
 OF_SCRIPT = {"--script", "--engine", "--brief", "--no-recheck", "--hits"}
 WITH_VALUE = {"-j", "--seconds", "--engine", "--script", "--depth", "--try", "--into", "--room", "--bytes", "--failures", "--settings", "--shard",
-    "--join"}
+    "--join", "--known"}
+REPEATED = frozenset({"--known"})
 FLAGS = {*ASK_HELP, "--strict", "--progress", *(OF_HARNESS | OF_SCRIPT) - WITH_VALUE}
 
 
@@ -110,10 +112,11 @@ def script_report(options: dict[str, str], campaign: Campaign, tries: script.Tri
 
 def asked_of(loop: str, options: dict[str, str], path: str) -> Asked:
     failures = 1 if "-x" in options else number_of(options, "--failures")
-    words = [as_called(loop), path, *[word for name in ("--settings", "--into") if name in options for word in (name, options[name])]]
+    words = [as_called(loop), path, *[word for name in ("--settings", "--into") if name in options for word in (name, options[name])],
+        *["--kill"] * ("--kill" in options), *[word for code in known_of(options) for word in ("--known", code)]]
     return Asked(shlex.join(words), jobs_of(options), shows_progress(options),
         "--whole" not in options, "--strict" in options, [form for form in FORMS if form in {ALWAYS, *options}], failures,
-        shard_of(options["--shard"]) if "--shard" in options else None)
+        shard_of(options["--shard"]) if "--shard" in options else None, "--failing" in options)
 
 
 def run_harness(loop: str, options: dict[str, str], path: str, processes: Processes) -> int:
@@ -121,6 +124,7 @@ def run_harness(loop: str, options: dict[str, str], path: str, processes: Proces
     refuse_others(options, OF_SCRIPT, "a script")
     programs.check_built()
     harness = definition.read(path)
+    judge_less(harness, options)
     folder = Path(options.get("--into", harness.folder))
     own = harness.identity(folder.resolve())
     folder.mkdir(parents=True, exist_ok=True)
@@ -130,7 +134,11 @@ def run_harness(loop: str, options: dict[str, str], path: str, processes: Proces
     note = None if "--try" in options else Note(answers, own, "--every-run" in options)
     if "--join" in options:
         join(Path(options["--join"]), own, answers)
-    settings = Settings(harness, folder, answers, options.get("--settings"), number_of(options, "--depth"), kinds_of(options), keeps="--try" in options)
+    settings = Settings(harness, folder, answers, options.get("--settings"), number_of(options, "--depth"), "--no-kinds" not in options,
+        keeps="--try" in options)
+    if "--kill" in options and not settings.is_made:
+        raise Stopped(f"{settings.path} has settings of your own: leave out power::keep there, and let a harness.py define states = ['live'], "
+            "in place of --kill")
     harness.order = "next" if NEXT in settings.points else harness.order
     work = Work(note, note.needs_disk if note else noted(Path(answers.path)).get("needs_disk"))
     try:
@@ -147,6 +155,21 @@ def run_harness(loop: str, options: dict[str, str], path: str, processes: Proces
         work.end()
 
 
+def known_of(options: dict[str, str]) -> list[str]:
+    return options["--known"].split("\n") if "--known" in options else []
+
+
+def judge_less(harness: Harness, options: dict[str, str]) -> None:
+    """Leaves out what these options say: power cuts, and failures that are known."""
+    known = known_of(options)
+    harness.known = tuple(code for code in known if code not in FAILURES)
+    harness.allowed += tuple(code for code in known if code in FAILURES)
+    if "--kill" in options:
+        if "again" in harness.steps:
+            raise Stopped("--kill: `again` of this harness begins after a power cut, so it can't be judged by a killed program alone")
+        harness.states = (LIVE,)
+
+
 def room_of(options: dict[str, str], place: str) -> Room:
     bounds = Bounds(number_of(options, "--seconds", "60"), bytes_of(options.get("--bytes", "1G"), "--bytes"))
     return Room(disk_of(place), bytes_of(options.get("--room", "1G"), "--room"), bounds, Records())
@@ -160,10 +183,6 @@ def number_of(options: dict[str, str], name: str, default: str = "") -> int | No
 def jobs_of(options: dict[str, str]) -> int:
     name = "-j" if "-j" in options else "PROCESSES"
     return whole_number(options.get("-j") or os.environ.get(name) or "4", name)
-
-
-def kinds_of(options: dict[str, str]) -> bool | None:
-    return True if "--kinds" in options else False if "--no-kinds" in options else None
 
 
 def check_numbers(options: dict[str, str]) -> None:
@@ -183,7 +202,7 @@ def main(loop: str, words: list[str]) -> int:
 
 def perform_words(loop: str, words: list[str], processes: Processes) -> int:
     try:
-        options, rest = split(words, WITH_VALUE, FLAGS)
+        options, rest = split(words, WITH_VALUE, FLAGS, REPEATED)
         if options.keys() & set(ASK_HELP):
             return write_help(loop)
         check_numbers(options)

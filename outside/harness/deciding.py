@@ -5,13 +5,15 @@ with the other faults is made once, and the rest is laid out from its notes. One
 and must come out alike."""
 
 import hashlib
+import itertools
 import threading
+from collections import Counter
 from dataclasses import dataclass, replace
 from pathlib import Path
 
 from . import tree
 from .crashes import noted_crash, told_crash
-from .definition import ALL_STATES, Harness
+from .definition import ALL_STATES, LASTING, LIVE, Harness
 from .judging import CRASHED, HUNG, PASS, UNRESOLVED, Judge, Judgement, LooksUp
 from .outcome import Outcome
 from .record import Record
@@ -76,6 +78,7 @@ class Decider:
         self.every_run = every_run or not depth  # without a depth, runs need not repeat each other's hits
         self.tried = 0
         self.followed = 0
+        self.losses: Counter[str] = Counter()  # how many judgements found a loss that is known, by its code
         self.made_bases: set[Key] = set()
         self.repeats = Repeats()
         self.unsteady: set[Key] = set()  # the faults of runs that came out otherwise when they were made again: nothing is derived from these
@@ -155,7 +158,12 @@ class Decider:
 
     def works(self, runner: Runner) -> bool:
         """Whether the program works without faults if this runner makes its run."""
-        return Decider(runner, self.asking, self.depth, every_run=True).run_again("none", LooksUp.NONE).works
+        asking = None if runner.harness.is_killed_only else self.asking
+        return Decider(runner, asking, self.depth, every_run=True).run_again("none", LooksUp.NONE).works
+
+    def works_killed(self) -> bool:
+        """Whether the program works without faults if no power cut comes."""
+        return "again" not in self.harness.steps and self.works(self.runner.with_harness(states=(LIVE,)))
 
     def works_on_disk(self) -> bool:
         with self.runner.on_disk() as runner:
@@ -269,6 +277,8 @@ class Decider:
         record.is_cut = True
         if "again" in self.harness.steps:
             outcome = self.go_on(record, run, text, said, looks_up)
+            if outcome.verdict == PASS and self.is_killed(outcome, min(hit, len(record.points))):
+                self.go_on_killed(record, hit, outcome, said, looks_up)
         else:
             outcome = self.cut_and_judge(record.folder, run, text, said, looks_up, lays_states=is_end)
         return self.with_crash(outcome, run, self.crash(record, hit))
@@ -278,7 +288,7 @@ class Decider:
         more, errors = record.said_again, record.folder / "errors"
         more.unlink(missing_ok=True)
         begun = length_of(errors)
-        state = [self.asking, text] if self.asking else ["lasting"]
+        state = [self.asking, text] if self.asking else [LASTING]
         pending = self.tools.pending(run) if "power::" in text else []
         if not self.tools.cut(run, record.data, *state, goes_on=True):
             return Outcome(text, Judgement(UNRESOLVED, "the scenario has a pause"), trace_of(run))
@@ -291,22 +301,48 @@ class Decider:
         outcome.pending = pending + outcome.pending
         return self.with_crash(outcome, run, crash)
 
+    def is_killed(self, outcome: Outcome, hit: int) -> bool:
+        """Whether `run` was ended at that hit and nothing acted behind it, and so whether a kill alone is judged too."""
+        ends = hit > 0 and outcome.trace[hit - 1][3].startswith("panic") and all(each[3] == "go" for each in outcome.trace[hit:])
+        return ends and LIVE in (self.harness.states or ALL_STATES)
+
+    def go_on_killed(self, record: Record, hit: int, outcome: Outcome, said: bytes, looks_up: LooksUp) -> None:
+        """Judges recovery after the program alone was killed at that hit, so that all it did is there. As nothing acts in this recovery, its hits belong to
+        no answer, and the judgement to the scenario that keeps nothing."""
+        run, more, errors = record.killed, record.folder / "said_killed", record.folder / "errors"
+        if run.exists():
+            tree.remove(run)
+        more.unlink(missing_ok=True)
+        self.tools.rewind(record.run, run, hit, outcome.scenario)
+        pending = self.tools.pending(run)
+        if not pending:
+            return
+        self.tools.cut(run, record.data, "keep", keeping(range(1, len(pending) + 1)), goes_on=True)
+        (run / MARKS).touch()
+        _, why = self.runner.under("again", run, record.folder, "none", more)
+        if why:
+            outcome.judgement = Judgement(UNRESOLVED, f"after a kill: {why}")
+            return
+        begun = length_of(errors)
+        self.tools.cut(run, record.data, LIVE)
+        judgement = self.judged(record.folder, said + more.read_bytes(), looks_up, LIVE)
+        if judgement.verdict != PASS:
+            outcome.judgement, outcome.pending, outcome.errors = judgement, pending, last_lines(errors, begun)
+
     def cut_and_judge(self, folder: Path, run: Path, text: str, said: bytes, looks_up: LooksUp, lays_states: bool) -> Outcome:
         """Judges each state that a power cut may leave, up to the first that breaks a promise."""
-        trace = trace_of(run)
         errors, begun = folder / "errors", length_of(folder / "errors")
-        judgements = []
-        for state in self.states(run, text, lays_states):
-            if not self.tools.cut(run, folder / "data", *state):
-                return Outcome(text, Judgement(UNRESOLVED, "the scenario has a pause"), trace_of(run))
-            if self.asking:
-                trace = trace_of(run)
-            judgements.append(self.judge.judge(folder, said, looks_up))
-            if judgements[-1].verdict != PASS:
+        if self.asking and not self.tools.cut(run, folder / "data", self.asking, text):
+            return Outcome(text, Judgement(UNRESOLVED, "the scenario has a pause"), trace_of(run))
+        trace = trace_of(run)
+        judgements = [self.judged(folder, said, looks_up, "")] if self.asking else []
+        for name, state in self.states(run, trace, lays_states):
+            if judgements and judgements[-1].verdict != PASS:
                 break
-        judgement = judgements[-1]
-        is_known = all(each.is_known for each in judgements)
-        outcome = Outcome(text, Judgement(judgement.verdict, judgement.why, is_known), trace, said=said)
+            self.tools.cut(run, folder / "data", *state)
+            judgements.append(self.judged(folder, said, looks_up, name))
+        judgement = replace(judgements[-1], is_known=all(each.is_known for each in judgements))
+        outcome = Outcome(text, judgement, trace, said=said)
         if outcome.verdict.startswith("fail"):
             outcome.pending = self.tools.pending(run)
             outcome.errors = last_lines(errors, begun)
@@ -314,16 +350,27 @@ class Decider:
             outcome.errors = last_lines(errors, end=begun)
         return outcome
 
-    def states(self, run: Path, text: str, lays_states: bool) -> list[list[str]]:
-        """The arguments of the cut for each state that keeps other pending changes. If the run was rewound to a hit, the files themselves aren't
-        known, but all changes are."""
-        if self.asking:
-            return [[self.asking, text]]
+    def judged(self, folder: Path, said: bytes, looks_up: LooksUp, state: str) -> Judgement:
+        """The judgement of a state of this name. A loss that is known is none."""
+        judgement = self.judge.judge(folder, said, looks_up)
+        if self.harness.knows(judgement.verdict):
+            self.losses[judgement.verdict.removeprefix("fail ")] += 1
+            return replace(judgement, verdict=PASS)
+        return judgement if judgement.verdict == PASS else replace(judgement, state=state)
+
+    def states(self, run: Path, trace: list[list[str]], lays_states: bool) -> list[tuple[str, list[str]]]:
+        """The states in which a run is judged besides that of its scenario, if they keep different changes, each with its name as it is told and the
+        arguments of the cut. They belong to the scenario that keeps nothing, so that the same answers have the same verdict. If the run was rewound
+        to a hit, the files themselves aren't known, but all changes are."""
+        asked = [hit[3] for hit in itertools.takewhile(lambda hit: hit[1].startswith(POWER), reversed(trace))]
+        if self.asking and (not asked or any(answer.startswith("return") for answer in asked)):
+            return []
         changes = self.tools.pending(run)
         names = [int(change[0]) for change in changes if change[1] in NAMES]
         contents = [int(change[0]) for change in changes if change[1] not in NAMES]
-        kept = {"lasting": [], "names": names, "contents": contents, "live": sorted(names + contents)}
-        differing: dict[str, str] = {}
-        for state in self.harness.states or ALL_STATES:
-            differing.setdefault(keeping(kept[state]), state)
-        return [[state] if lays_states else ["keep", scenario] for scenario, state in differing.items()]
+        kept = {LASTING: keeping([]), "names": keeping(names), "contents": keeping(contents), LIVE: keeping(sorted(names + contents))}
+        judged = [*[LASTING] * bool(self.asking), *(self.harness.states or ALL_STATES)]
+        differing = {kept[state]: state for state in judged}
+        states = [("" if scenario == kept[LASTING] or len(judged) == 1 else state, [state] if lays_states else ["keep", scenario])
+            for scenario, state in differing.items()]
+        return states[bool(self.asking):]  # the first is that of the scenario

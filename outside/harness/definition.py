@@ -15,7 +15,8 @@ from .step import STEPS
 
 STEP = Path(__file__).resolve().with_name("step.py")
 PYTHON_FILE = "harness.py"
-ALL_STATES = ("lasting", "names", "contents", "live")
+LASTING, LIVE = "lasting", "live"
+ALL_STATES = (LASTING, "names", "contents", LIVE)
 ORDERS = ("settled", "arrival")
 FAILURES = ("crashed", "hung")  # of any program, whatever its judge says
 VARIABLES = ("FAULTS_SYNC", "FAULTS_BLOCK", "FAULTS_FSYNC", "FAULTS_POINTS", "FAULTS_SOCKETS")
@@ -36,14 +37,28 @@ class Harness:
     pins: bool = True
     unjudged: tuple[str, ...] = ()  # patterns of names of files into which the judge doesn't look, such as logs with times
     allowed: tuple[str, ...] = ()  # those of FAILURES that are none of this program
+    known: tuple[str, ...] = ()  # the codes of losses that are known: a run that breaks no other promise passes
+
+    @property
+    def is_folder(self) -> bool:
+        return not self.file or self.file.name == PYTHON_FILE
+
+    @property
+    def is_killed_only(self) -> bool:
+        """Whether a run is judged as if its program were killed, and no power cut came. `again` begins behind a power cut."""
+        return self.states == (LIVE,) and "again" not in self.steps
+
+    def knows(self, verdict: str) -> bool:
+        """Whether a verdict is that of a known loss."""
+        return verdict.removeprefix("fail ") in self.known and verdict.startswith("fail ")
 
     def identity(self, into: Path) -> Identity:
         """What answers depend on, for a campaign that writes its own files into that folder."""
-        is_folder = not self.file or self.file.name == PYTHON_FILE
-        files = [*files_in(self.folder, into)] if is_folder else [self.file]
+        files = [*files_in(self.folder, into)] if self.is_folder else [self.file]
         named = {name: os.environ[name] for name in VARIABLES if name in os.environ}
         return {"files": digests(self.folder, [*files, *self.others]), "commands": self.commands, "variables": named | self.variables,
-            "states": list(self.states), "order": self.order, "pin": self.pins, "unjudged": list(self.unjudged), "allowed": sorted(self.allowed)}
+            "states": list(self.states or ALL_STATES), "order": self.order, "pin": self.pins, "unjudged": list(self.unjudged), "allowed": sorted(self.allowed),
+            "known": sorted(self.known)}
 
 
 def read(path: str) -> Harness:

@@ -3,6 +3,7 @@
 import hashlib
 import json
 import os
+import re
 import tomllib
 from collections.abc import Iterator
 from pathlib import Path
@@ -11,7 +12,9 @@ from typing import NoReturn
 from .answers import Stopped
 
 NOTE = "campaign.json"  # beside the answers: says to which harness they belong
-WRITTEN = {"answers", NOTE, "report", "page.html", "junit.xml", "report.json",  # files that the loop writes beside a harness
+FAILING = "failing"  # the scenarios that failed once: answers don't depend on them
+SET_ASIDE = re.compile(r"answers\.[0-9]+")  # answers that belong to a harness as it was before
+WRITTEN = {"answers", NOTE, FAILING, "report", "page.html", "junit.xml", "report.json",  # files that the loop writes beside a harness
     *(f"{name}.new" for name in ("campaign", "settings", "report", "page", "junit"))}  # and what it renames to these
 TOLD = 3  # at most so many names of what differs are printed
 
@@ -21,6 +24,11 @@ Identity = dict[str, object]  # as JSON has it
 def is_passed_over(name: str) -> bool:
     """Whether a name is hidden, or of a file that Python or an editor leaves."""
     return name.startswith(".") or name.endswith("~") or name == "__pycache__"
+
+
+def is_written(name: str) -> bool:
+    """Whether a file of this name beside a harness is one that the loop leaves there."""
+    return name in WRITTEN or bool(SET_ASIDE.fullmatch(name))
 
 
 def is_settings(path: Path) -> bool:
@@ -44,7 +52,7 @@ def files_in(folder: Path, into: Path) -> Iterator[Path]:
         folders[:] = [name for name in folders if not is_passed_over(name) and here / name != into and not (here / name / NOTE).exists()]
         links = [name for name in folders if (here / name).is_symlink()]  # into which os.walk doesn't go
         for name in names + links:
-            if not is_passed_over(name) and not (here == folder and name in WRITTEN) and not is_settings(here / name):
+            if not is_passed_over(name) and not (here == folder and is_written(name)) and not is_settings(here / name):
                 yield here / name
 
 
@@ -87,11 +95,16 @@ def noted(answers: Path) -> dict:
     return said
 
 
-def refuse_others(answers: Path, own: Identity) -> None:
-    """Refuses answers if the note beside them has the identity of another harness."""
+def other_in(answers: Path, own: Identity) -> str:
+    """The harness to which answers belong by the note beside them, or an empty text if that is this one."""
     known = noted(answers).get("harness")
     if known == own:
-        return
+        return ""
     names = differences(known, own) if isinstance(known, dict) else []
-    other = f"a harness with another {', '.join(names[:TOLD])}" + " and more" * (len(names) > TOLD) if names else "another harness"
-    raise Stopped(f"{answers} belongs to {other}: delete it, and start again")
+    return f"a harness with another {', '.join(names[:TOLD])}" + " and more" * (len(names) > TOLD) if names else "another harness"
+
+
+def refuse_others(answers: Path, own: Identity) -> None:
+    """Refuses answers if the note beside them has the identity of another harness."""
+    if other := other_in(answers, own):
+        raise Stopped(f"{answers} belongs to {other}: delete it, and start again")

@@ -20,6 +20,7 @@ class Judgement:
     verdict: str
     why: str = ""  # why it is unresolved, crashed or hung
     is_known: bool = False  # it was taken from another run
+    state: str = ""  # the state of the power cut in which it fails, if that is another one than the scenario says
 
 
 class LooksUp(Enum):
@@ -54,7 +55,7 @@ class Judge:
         promises.write_bytes(said)
         output.unlink(missing_ok=True)
         output.touch()
-        status, why = self.runner.judged(folder, output, SAID=str(promises))
+        status, why = self.runner.judged(folder, output, SAID=str(promises), PREPARED=str(self.runner.prepared))
         if why:
             return Judgement(UNRESOLVED, f"judge: {why}")
         if status == 0:

@@ -1,11 +1,16 @@
 """The command `paklour-new`, which writes a harness for a program that exists."""
 
 import os
+import re
 import shlex
 import shutil
 import subprocess
+import sys
 import tempfile
+import time
+from dataclasses import dataclass
 from pathlib import Path
+from typing import NoReturn
 
 from . import tree
 from .answers import WRITE_FAILED, Stopped, stopped_by
@@ -13,12 +18,30 @@ from .identity import WRITTEN, is_passed_over
 from .processes import WITHIN
 from .programs import check_built
 from .run import TIME_IS_UP
-from .shown import show, until_nobody_reads, write_out
+from .shown import ERRORS, show, until_nobody_reads, write_out
 from .words import ASK_HELP, Usage, as_called, refused, write_help
 
 CANNOT = 1  # the exit status if the folder can't be made, or the command can't be run
 SECONDS = 60  # that a run without faults may take, as in a campaign without --seconds
-NAMES = {"prepare", "run", "again", "judge", "unjudged", "allowed", "harness.py", "settings.toml", "expected", "message", *WRITTEN}  # that have a meaning in a harness
+NAMES = {"prepare", "run", "again", "judge", "unjudged", "allowed", "harness.py", "settings.toml", "expected", "message",  # that mean something in a harness
+    *WRITTEN}
+FORMS = {"--server": "server", "--mail": "mail"}
+FLAGS = {"--mail", "--expect"}
+UNLIKE = re.compile(r"[\s*?\[\]]")  # what a pattern can't have as it is; ? stands for any character
+LATER = 1.1  # seconds between two runs, so that times in whole seconds differ
+STANDARD_INPUT = 0
+ASKED = {  # the options that a terminal is asked for if they lack, with the question and the answers, of which the first is the default
+    "--promises": ("Does the program promise that what it acknowledged is on the disk, or only that a kill loses nothing?", ("sync", "kill")),
+    "--file-system": ("Does it rely on no file system (strict), on a file's own sync making its name last (linux), or on a journal?",
+        ("strict", "linux", "journal")),
+    "--abort": ("May an error end it by a signal, such as an abort?", ("no", "yes")),
+}
+SAYS = {  # what an answer other than the default puts into a file of the harness
+    ("--promises", "kill"): ("harness.py", 'states = ["live"]  # each run is judged as a kill leaves it: no power cut comes\n'),
+    ("--file-system", "linux"): ("harness.py", 'environment = {"FAULTS_SYNC": "names"}  # a file\'s own sync makes its name last too\n'),
+    ("--file-system", "journal"): ("harness.py", 'environment = {"FAULTS_SYNC": "journal"}  # any sync makes earlier changes of names last\n'),
+    ("--abort", "yes"): ("allowed", "crashed\n"),
+}
 
 PREPARE = """#!/bin/sh
 # Fills the folder of the data, in which this script starts. What is there when it ends is on the disk, and each run begins with a copy of it.
@@ -38,11 +61,32 @@ echo done
 JUDGE = """#!/bin/sh
 # Checks the promises, in the folder as a power cut left it. The file "$SAID" has the lines that `run` printed until then. Exit with 0 if the promises
 # were kept. If one was broken, print a code that names it, such as lost, and exit with 1. With any other exit status the run has no verdict.
-grep -qx done "$SAID" || exit 0 # nothing was promised
-# The folder `expected` has what a run without faults left in an empty folder. If `prepare` makes files, add them there.
-diff -r "$HARNESS/expected" . >&2 && exit 0
-echo lost
-exit 1
+# Once `run` has printed done, each file has to be as a run without faults leaves it, in the folder `expected`. Until then a file that was there before,
+# in "$PREPARED", has its old contents or its new ones. Files that `unjudged` names have other contents in each run, so they only have to be there. If
+# you change `prepare` or `run`, `paklour-new --expect` with this harness makes `expected` and `unjudged` anew.
+there() { [ -e "$1" ] || [ -L "$1" ]; }
+is_unjudged() { for pattern in $(cat "$HARNESS/unjudged" 2> "$TMPDIR/none"); do case $1 in $pattern) return 0 ;; esac; done; return 1; }
+alike() { # FILE FOLDER: whether FOLDER has the same file, or neither has it
+    there "$1" && there "$2/$1" || { ! there "$1" && ! there "$2/$1"; return; }
+    [ -d "$1" ] && [ -d "$2/$1" ] || is_unjudged "$1" || diff -q --no-dereference "$1" "$2/$1" > "$TMPDIR/differs"
+}
+broken() { echo "$file: $2" >&2; echo "$1"; exit 1; }
+
+set -f # patterns aren't for names here
+promised=$(grep -x done "$SAID")
+for folder in "$PREPARED" "$HARNESS/expected"; do (cd "$folder" && find . -mindepth 1); done | LC_ALL=C sort -u > "$TMPDIR/files"
+while IFS= read -r file; do
+    file=${file#./}
+    alike "$file" "$HARNESS/expected" && continue
+    if [ -z "$promised" ]; then
+        there "$PREPARED/$file" || continue # it is new
+        alike "$file" "$PREPARED" && continue
+    fi
+    there "$file" || broken lost "it isn't there"
+    alike "$file" "$PREPARED" && broken lost 'it is as it was before'
+    broken torn 'it has neither its old nor its new contents'
+done < "$TMPDIR/files"
+exit 0
 """
 
 SERVER_RUN = """#!/bin/sh
@@ -106,34 +150,91 @@ This line is the last.
 """
 
 
+@dataclass(frozen=True)
+class Wanted:
+    folder: Path
+    command: list[str]
+    options: dict[str, str]
+
+    @property
+    def form(self) -> str:
+        return next((form for option, form in FORMS.items() if option in self.options), "command")
+
+
 def write(path: Path, text: str) -> None:
     tree.write(path, text.encode("utf-8", "surrogateescape"))
     path.chmod(0o755)
 
 
-def try_out(folder: Path, expects: bool) -> int:
-    """Makes a run without faults in an empty folder, and returns its status. If the judge compares files, those that it leaves become `expected`."""
-    place = tempfile.mkdtemp()
-    try:
-        data, temporary = Path(place, "data"), Path(place, "tmp")
-        data.mkdir()
-        temporary.mkdir()
-        environment = os.environ | {"HARNESS": str(folder), "TMPDIR": str(temporary)}
-        status = subprocess.run([WITHIN, str(SECONDS), "-", folder / "run"], cwd=data, env=environment, stdin=subprocess.DEVNULL,
+def try_out(folder: Path, place: Path) -> None:
+    """Makes a run without faults there, from what `prepare` leaves. Refuses a harness whose `prepare` or `run` fails."""
+    data, temporary = place / "data", place / "tmp"
+    data.mkdir(parents=True)
+    temporary.mkdir()
+    environment = os.environ | {"HARNESS": str(folder), "TMPDIR": str(temporary)}
+    for step in ("prepare", "run"):
+        status = subprocess.run([WITHIN, str(SECONDS), "-", folder / step], cwd=data, env=environment, stdin=subprocess.DEVNULL,
             stdout=subprocess.DEVNULL, check=False).returncode
-        if expects and not status:
-            tree.copy(str(data), str(folder / "expected"))
-        return status
+        if status:
+            refuse_failed(folder, step, status)
+
+
+def refuse_failed(folder: Path, step: str, status: int) -> NoReturn:
+    """The folder stays, since a program that needs files can be tried only once `prepare` makes them."""
+    why = f"was ended after {SECONDS} seconds" if status == TIME_IS_UP else f"ended with {status}"
+    raise Stopped(f"{folder}/{step} {why}. If it needs files, let {folder}/prepare make them, and then call paklour-new --expect {folder}. "
+        f"If the command was wrong, delete {folder}", CANNOT)
+
+
+def files_of(data: Path) -> dict[str, bytes]:
+    """What each file below a folder has, and each link; folders have nothing."""
+    return {name: tree.contents_of(f"{data}/{name}", told) for name, told in tree.entries(str(data))}
+
+
+def expect(folder: Path) -> None:
+    """Makes two runs, and puts what both have left into `expected`. What differs between them counts by its name alone, or if that differs, not at all."""
+    place = Path(tempfile.mkdtemp())
+    try:
+        try_out(folder, place / "first")
+        time.sleep(LATER)
+        try_out(folder, place / "second")
+        first, second = files_of(place / "first" / "data"), files_of(place / "second" / "data")
+        (folder / "unjudged").unlink(missing_ok=True)
+        if (folder / "expected").exists():
+            tree.remove(folder / "expected")
+        for name in sorted(first.keys() - second.keys(), reverse=True):
+            path = place / "first" / "data" / name
+            path.rmdir() if path.is_dir() and not path.is_symlink() else path.unlink()
+        tree.copy(str(place / "first" / "data"), str(folder / "expected"))
+        tell_differing(folder, sorted(name for name in first.keys() & second.keys() if first[name] != second[name]), sorted(first.keys() ^ second.keys()))
     finally:
         tree.remove(place)
 
 
-def refuse_failed(folder: Path, status: int, expects: bool) -> None:
-    """The folder stays, since a program that needs files can be tried only once `prepare` makes them."""
-    why = f"was ended after {SECONDS} seconds" if status == TIME_IS_UP else f"ended with {status}"
-    judges = f", and let {folder}/judge check the promises without {folder}/expected, which is missing" if expects else ""
-    raise Stopped(f"{folder}/run {why} in an empty folder. If it needs files, let {folder}/prepare make them{judges}. If the command was wrong, delete {folder}",
-        CANNOT)
+def expect_anew(folder: Path) -> None:
+    judge = folder / "judge"
+    if not judge.exists() or b"$HARNESS/expected" not in judge.read_bytes():
+        raise Stopped(f"{judge} doesn't look at `expected`: --expect is for a harness that paklour-new wrote for a command", CANNOT)
+    expect(folder)
+
+
+def try_whole(folder: Path, form: str) -> None:
+    """Makes a run without faults, or as many as it takes to know what the judge of a command is to expect."""
+    if form == "command":
+        return expect(folder)
+    place = Path(tempfile.mkdtemp())
+    try:
+        try_out(folder, place / "first")
+    finally:
+        tree.remove(place)
+
+
+def tell_differing(folder: Path, contents: list[str], names: list[str]) -> None:
+    if contents:
+        tree.write(folder / "unjudged", "".join(f"{UNLIKE.sub('?', name)}\n" for name in contents).encode("utf-8", "surrogateescape"))
+        show(f"new: in a second run these had other contents, so the judge only looks whether they are there ({folder}/unjudged): {', '.join(contents)}")
+    if names:
+        show(f"new: in a second run these had other names, so the judge doesn't look for them: {', '.join(names)}")
 
 
 def in_shell(words: list[str], folder: Path) -> str:
@@ -152,23 +253,51 @@ def link(program: str, folder: Path) -> None:
         (folder / name).symlink_to(os.path.relpath(program, folder))
 
 
-def words_of(words: list[str]) -> tuple[str, str, Path, list[str]]:
-    """The form of the harness, the line that says that a server is ready, the harness's folder, and the command."""
-    form, line = "command", ""
-    if words == ["--server"]:
-        raise Usage("--server: its value is missing")
-    if words[:1] == ["--server"]:
-        form, line, words = "server", words[1], words[2:]
-    elif words[:1] == ["--mail"]:
-        form, words = "mail", words[1:]
-    if words and words[0].startswith("-"):
-        raise Usage(f"{words[0]}: there is no such option")
-    if len(words) < 2:
+def options_of(words: list[str]) -> tuple[dict[str, str], list[str]]:
+    """The options, which stand before the harness's folder, and the other words."""
+    options: dict[str, str] = {}
+    rest = list(words)
+    while rest and rest[0].startswith("-"):
+        word = rest.pop(0)
+        if word in FLAGS:
+            options[word] = "yes"
+        elif word not in ASKED and word != "--server":
+            raise Usage(f"{word}: there is no such option")
+        elif not rest:
+            raise Usage(f"{word}: its value is missing")
+        else:
+            options[word] = rest.pop(0)
+            if word in ASKED and options[word] not in ASKED[word][1]:
+                raise Usage(f"{word} {options[word]}: the values are {', '.join(ASKED[word][1])}")
+    return options, rest
+
+
+def wanted_of(words: list[str]) -> Wanted:
+    options, rest = options_of(words)
+    if "--expect" in options:
+        if len(rest) != 1 or len(options) > 1:
+            raise Usage
+        return Wanted(Path(rest[0]).resolve(), [], options)
+    if len(rest) < 2 or "--server" in options and "--mail" in options:
         raise Usage
-    if not (program := shutil.which(words[1])):
-        raise Stopped(f"there is no such program: {words[1]}", CANNOT)
-    command = [os.path.abspath(program) if "/" in words[1] else words[1], *words[2:]]
-    return form, line, Path(words[0]).resolve(), command
+    if not (program := shutil.which(rest[1])):
+        raise Stopped(f"there is no such program: {rest[1]}", CANNOT)
+    return Wanted(Path(rest[0]).resolve(), [os.path.abspath(program) if "/" in rest[1] else rest[1], *rest[2:]], options)
+
+
+def ask(question: str, answers: tuple[str, ...]) -> str:
+    """What a person answers on the terminal. An empty line, or the end of the input, is the first of the answers."""
+    while True:
+        show(f"{question} {' or '.join(answers)} [{answers[0]}]")
+        answer = sys.stdin.readline().strip() or answers[0]
+        if answer in answers:
+            return answer
+
+
+def answered(options: dict[str, str]) -> dict[str, str]:
+    """The answer to each question: that of an option, or of a person on a terminal, or the default."""
+    asks = os.isatty(STANDARD_INPUT) and os.isatty(ERRORS)
+    return {option: options.get(option) or (ask(question, answers) if asks else answers[0]) for option, (question, answers) in ASKED.items()}
 
 
 def loop_beside(new: str) -> str:
@@ -176,7 +305,9 @@ def loop_beside(new: str) -> str:
     return as_called(os.path.join(os.path.dirname(new), os.path.basename(new).removesuffix("new") + "loop"))
 
 
-def make(form: str, line: str, folder: Path, words: list[str]) -> None:
+def make(wanted: Wanted) -> None:
+    folder = wanted.folder
+    answers = answered(wanted.options)
     try:
         folder.mkdir()
     except FileExistsError as error:
@@ -184,24 +315,37 @@ def make(form: str, line: str, folder: Path, words: list[str]) -> None:
     except OSError as error:
         raise Stopped(f"{folder}: {error.strerror}", CANNOT) from error
     try:
-        fill(form, line, folder, words)
-        status = try_out(folder, form == "command")
+        fill(wanted, answers)
+        try_whole(folder, wanted.form)
+    except Stopped:
+        raise
     except BaseException:  # also if a key ends this program
         tree.remove(folder)
         raise
-    if status:
-        refuse_failed(folder, status, form == "command")
 
 
-def fill(form: str, line: str, folder: Path, words: list[str]) -> None:
-    command = in_shell(words, folder)
+def fill(wanted: Wanted, answers: dict[str, str]) -> None:
+    folder, form = wanted.folder, wanted.form
+    command, line = in_shell(wanted.command, folder), shlex.quote(wanted.options.get("--server", ""))
     run, judge = {"command": (RUN, JUDGE), "server": (SERVER_RUN, SERVER_JUDGE), "mail": (MAIL_RUN, MAIL_JUDGE)}[form]
     write(folder / "prepare", PREPARE)
-    write(folder / "run", run.format(command=command, line=shlex.quote(line)))
-    write(folder / "judge", judge.format(command=command, line=shlex.quote(line)) if form == "server" else judge)
-    link(words[0], folder)
+    write(folder / "run", run.format(command=command, line=line))
+    write(folder / "judge", judge.format(command=command, line=line) if form == "server" else judge)
+    link(wanted.command[0], folder)
     if form == "mail":
         tree.write(folder / "message", MESSAGE.encode())
+    said: dict[str, str] = {}
+    for answer in answers.items():
+        if answer in SAYS:
+            name, text = SAYS[answer]
+            said[name] = said.get(name, "") + text
+    for name, text in said.items():
+        tree.write(folder / name, text.encode())
+
+
+def tell_next(folder: Path) -> None:
+    """Says what is still to be written by a person."""
+    show(f"new: now let {folder}/prepare make what is there before, {folder}/run print a line for each promise, and {folder}/judge check these lines")
 
 
 def main(new: str, words: list[str]) -> int:
@@ -212,10 +356,14 @@ def perform(new: str, words: list[str]) -> int:
     try:
         if words[:1] and words[0] in ASK_HELP:
             return write_help(new)
-        form, line, folder, command = words_of(words)
+        wanted = wanted_of(words)
         check_built()
-        make(form, line, folder, command)
-        write_out(f"{shlex.join([loop_beside(new), str(folder)])}\n".encode("utf-8", "surrogateescape"))
+        if "--expect" in wanted.options:
+            expect_anew(wanted.folder)
+        else:
+            make(wanted)
+            tell_next(wanted.folder)
+        write_out(f"{shlex.join([loop_beside(new), str(wanted.folder)])}\n".encode("utf-8", "surrogateescape"))
     except Usage as usage:
         return refused(new, usage)
     except Stopped as stopped:

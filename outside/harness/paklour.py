@@ -15,6 +15,8 @@ DIFFERS = re.compile(r"^answers: line (\d+): (fault not met|hits differ from lin
                      re.MULTILINE)
 
 TOO_MANY = "too many plans"  # what the program says then
+UNREACHED = "strict: no run reaches "
+DOUBTED = 5  # how it ends if no plan fails, and --strict warns
 MOST_PLANS = 65536
 
 
@@ -44,6 +46,13 @@ class Paklour:
     def tell_notes(self, done: subprocess.CompletedProcess) -> None:
         """Shows each line of its standard error once, though each call prints it again."""
         show_once(done.stderr.decode("utf-8", "surrogateescape"))
+
+    def strict_report(self, is_made: bool) -> tuple[int, bytes]:
+        """The report with warnings about gaps. Settings that the loop made list all points, so a point that no run reaches is none there."""
+        done = self.call("report", "--strict")
+        notes = [line for line in done.stderr.decode("utf-8", "surrogateescape").splitlines() if not (is_made and line.startswith(UNREACHED))]
+        show_once("\n".join(notes))
+        return 0 if done.returncode == DOUBTED and not notes else done.returncode, done.stdout
 
     @functools.cached_property
     def can_follow(self) -> bool:

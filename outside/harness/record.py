@@ -30,6 +30,11 @@ class Record:
         return self.folder / "rewound"
 
     @property
+    def killed(self) -> Path:
+        """The run's folder as it was at a hit, after which recovery began with all that had been done."""
+        return self.folder / "killed"
+
+    @property
     def said_again(self) -> Path:
         """The file of what `again` prints after the cut."""
         return self.folder / "said_again"

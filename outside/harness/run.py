@@ -66,11 +66,15 @@ class Runner:
         finally:
             folder.chmod(CLOSED)
 
+    def with_harness(self, **changes: object) -> "Runner":
+        """The same runner, of a harness in which this is otherwise."""
+        other = copy.copy(self)
+        other.harness = replace(self.harness, **changes)
+        return other
+
     def with_variables(self, **variables: str) -> "Runner":
         """The same runner, with more variables in the environment of its programs."""
-        other = copy.copy(self)
-        other.harness = replace(self.harness, variables=self.harness.variables | variables)
-        return other
+        return self.with_harness(variables=self.harness.variables | variables)
 
     def start(self, words: list[str], folder: Path, said: Path, **variables: str) -> tuple[int, str]:
         """Runs a step in the data's folder. Returns its status, and the reason if the run is unresolved by it."""

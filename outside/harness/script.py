@@ -35,9 +35,11 @@ class Tries:
         self.seconds = seconds
         self.jobs = jobs
         self.hits = hits
+        self.runs = 0
 
     def answers_of(self, scenario: str, took: float, output: bytes) -> list[str]:
         """The lines that TRY printed, or an `unresolved` answer if it was ended before it printed any."""
+        self.runs += 1
         if not output and took >= self.seconds:
             show(f"loop: the run was ended after {self.seconds} seconds (--seconds): {scenario}")
             return [f"unresolved\t{scenario}" + ("\t-" if self.hits == "told" else "")]

@@ -14,7 +14,8 @@ from .shown import plain, show
 MADE_BY = "# Made by paklour-loop."
 MADE = f"{MADE_BY} It writes this file again for each campaign. If you delete this line, the settings are your own and stay as they are."
 FILES = ["open", "read", "write", "fsync", "truncate", "rename", "link", "unlink", "mkdir", "rmdir", "symlink"]
-POINTS = [f"sys::{name}" for name in FILES] + ["power::keep", "power::tear"]
+POINTS = [f"sys::{name}" for name in FILES]
+CUT_POINTS = ["power::keep", "power::tear"]
 NEXT = "order::next"  # if settings list this point, it is planned, as faults are, which thread goes first
 OWN_POINTS = re.compile(r"(sys|libc|power|order)::")
 KNOWN_POINTS = re.compile(r"sys::(" + "|".join([*FILES, "connect", "accept", "send", "recv"]) + r")(@.*)?|power::keep|power::tear|" + NEXT, re.S)
@@ -25,6 +26,7 @@ NO_KEEP = "no program hits it unless power::keep is among the points too; add th
 MOST_TEXT, MOST_CODES = 200, 64  # bytes of a label or a code, and how many codes settings may have
 LOWERED = "settings.lowered.toml"  # settings of one's own with a lower depth
 SAYS_MADE = ", settings by paklour-loop"
+SAYS_KILLED = ", killed without a power cut"
 
 
 def toml(value: str | list[str]) -> str:
@@ -32,15 +34,18 @@ def toml(value: str | list[str]) -> str:
     return json.dumps(value, ensure_ascii=False)
 
 
-def label_of(name: str) -> str:
-    return plain(os.fsencode(name), MOST_TEXT - len(SAYS_MADE)) + SAYS_MADE
+def label_of(harness: Harness) -> str:
+    """The label, which stands in the report and on the page: what isn't judged, or isn't counted, belongs into it."""
+    less = SAYS_MADE + SAYS_KILLED * harness.is_killed_only + f", known: {', '.join(harness.known)}" * bool(harness.known)
+    less = plain(less.encode("utf-8", "surrogateescape"), MOST_TEXT // 2)
+    return plain(os.fsencode(harness.name), MOST_TEXT - len(less.encode())) + less
 
 
-def made_text(label: str, codes: list[str], depth: int, has_kinds: bool) -> str:
+def made_text(label: str, codes: list[str], depth: int, has_kinds: bool, has_cuts: bool) -> str:
     lines = [MADE, 'target = "outside"', f"depth = {depth}", "", "[outside]", f"label = {toml(label)}", f"codes = {toml(codes)}",
-        f"points = {toml(POINTS)}"]
-    lines += ["", "[outside.kinds]", *[f'"sys::write" = {toml(WRITES)}'] * has_kinds, '"power::tear" = ["return"]']
-    return "\n".join(lines) + "\n"
+        f"points = {toml(POINTS + CUT_POINTS * has_cuts)}"]
+    kinds = [f'"sys::write" = {toml(WRITES)}'] * has_kinds + ['"power::tear" = ["return"]'] * has_cuts
+    return "\n".join([*lines, *["", "[outside.kinds]", *kinds] * bool(kinds)]) + "\n"
 
 
 def text_of(settings: Path) -> str:
@@ -54,22 +59,23 @@ class Settings:
     """A harness's settings. If the loop makes them, `codes` are those that were found, in alphabetical order, so that a stop
     doesn't change the report. With `keeps`, as for one run by `--try`, those of an earlier campaign stay as they are."""
 
-    def __init__(self, harness: Harness, folder: Path, answers: Answers, named: str | None, depth: int | None, kinds: bool | None, keeps: bool = False):
+    def __init__(self, harness: Harness, folder: Path, answers: Answers, named: str | None, depth: int | None, has_kinds: bool, keeps: bool = False):
         self.path = Path(named) if named else harness.folder / "settings.toml"
         self.folder = folder
         self.is_made = not named and not self.path.exists() or text_of(self.path).startswith(MADE_BY)
         if self.is_made:
             self.path = folder / "settings.toml"
-        elif depth or kinds is not None:
-            raise Stopped(f"{self.path} has settings of your own: change the depth and the kinds there, in place of --depth, --kinds and --no-kinds")
+        elif depth or not has_kinds:
+            raise Stopped(f"{self.path} has settings of your own: change the depth and the kinds there, in place of --depth and --no-kinds")
         makes = self.is_made and not (keeps and self.path.exists())
         if makes:
             self.depth = depth or 1
-            self.has_kinds = self.depth == 1 if kinds is None else kinds
-            self.label = label_of(harness.name)
+            self.has_kinds = has_kinds
+            self.has_cuts = not harness.is_killed_only
+            self.label = label_of(harness)
             self.codes = sorted({code_of(line) for line in answers.lines() if line.startswith("fail ")})
             self.write()
-            self.show(leaves_out=self.depth > 1 and kinds is None)
+            self.show()
         try:
             self.table = tomllib.loads(text_of(self.path))
         except tomllib.TOMLDecodeError as error:
@@ -79,15 +85,14 @@ class Settings:
         if not makes:
             self.codes = self.table.get("outside", {}).get("codes", [])
 
-    def show(self, leaves_out: bool) -> None:
+    def show(self) -> None:
         kinds = ", full disks and half writes" if self.has_kinds else ""
-        tried = f"depth {self.depth}, all points of files, what a power cut keeps and tears{kinds}"
+        cuts = ", what a power cut keeps and tears" if self.has_cuts else ", without power cuts"
+        tried = f"depth {self.depth}, all points of files{cuts}{kinds}"
         show(f"loop: wrote the settings {self.path}: {tried}; codes are added as the judge prints them")
-        if leaves_out:
-            show(f"loop: full disks and half writes are left out at depth {self.depth}; --kinds tries them")
 
     def write(self) -> None:
-        tree.write(self.path, made_text(self.label, self.codes or ["lost"], self.depth, self.has_kinds).encode())
+        tree.write(self.path, made_text(self.label, self.codes or ["lost"], self.depth, self.has_kinds, self.has_cuts).encode())
 
     def lower(self) -> None:
         """Takes a depth that is lower by one. Settings of one's own stay as they are: the lower depth stands in a copy, beside the answers."""

@@ -10,6 +10,9 @@ from pathlib import Path
 from .answers import WRITE_FAILED, Stopped
 
 OUTPUT, ERRORS = 1, 2
+RED, GREEN, YELLOW = "31", "32", "33"  # as a terminal has them
+CLEAR = "\r\x1b[K"  # makes a terminal's line empty
+COLUMNS = 80  # of a terminal that doesn't know its size
 CONTROL = re.compile(r"[\x00-\x1f\x7f]")
 LAST_LINES, LAST_BYTES = 5, 65536  # of what a program wrote, at most so much is shown
 
@@ -68,11 +71,44 @@ def last_lines(path: Path, begin: int = 0, end: int | None = None) -> str:
     return "\n".join(text.decode("utf-8", "surrogateescape").strip().splitlines()[-LAST_LINES:])
 
 
-def show(text: str) -> None:
-    """Writes lines to standard error. If that fails, only the exit status is left."""
+def is_terminal() -> bool:
+    """Whether standard error is a terminal on which a line can be written over."""
+    return os.isatty(ERRORS) and os.environ.get("TERM", "dumb") != "dumb"
+
+
+def coloured(line: str, colour: str) -> str:
+    return f"\x1b[{colour}m{line}\x1b[0m" if colour and is_terminal() and not os.environ.get("NO_COLOR") else line
+
+
+def show(text: str, colour: str = "") -> None:
+    """Writes lines to standard error, above the one that is written over. If that fails, only the exit status is left."""
     with contextlib.suppress(OSError):
         for line in text.splitlines():
-            write_whole(ERRORS, (escaped(line) + "\n").encode("utf-8", "surrogateescape"))
+            write_whole(ERRORS, f"{status.cleared()}{coloured(escaped(line), colour)}\n".encode("utf-8", "surrogateescape"))
+        status.write()
+
+
+class Status:
+    """The last line of a terminal, which is written over."""
+
+    def __init__(self) -> None:
+        self.text = ""
+
+    def cleared(self) -> str:
+        return CLEAR if self.text else ""
+
+    def write(self) -> None:
+        if self.text:
+            write_whole(ERRORS, (CLEAR + self.text).encode())
+
+    def show(self, text: str) -> None:
+        """Shows this text in place of the one before. An empty one leaves the line empty."""
+        with contextlib.suppress(OSError):
+            before, self.text = self.cleared(), text and text[:(os.get_terminal_size(ERRORS).columns or COLUMNS) - 1]
+            write_whole(ERRORS, (before + self.text).encode())
+
+
+status = Status()
 
 
 told: set[str] = set()

@@ -1,11 +1,18 @@
 """Describes faults for a person: which call on which file failed."""
 
+from collections import Counter
+
 from .outcome import Outcome
 from .scenario import Scenario, Unreadable
 from .shown import escaped
 
 TEAR = "power::tear"
 KEEPS = {"power::keep": "is kept", TEAR: "is torn"}
+STATES = {  # of the power cut, besides that in which it loses all that is pending
+    "names": "the pending changes of names are kept",
+    "contents": "the pending changes of contents are kept",
+    "live": "all pending changes are kept",
+}
 
 
 def ordinal(number: int) -> str:
@@ -72,7 +79,11 @@ def faults_in_words(outcome: Outcome) -> str:
     first_of_ever = {place for place, (point, number) in numbers.items() if for_ever.get(point) == number}
     said_by_tear = kept_of_torn(outcome, told) - first_of_ever
     parts = [fault_in_words(outcome, place, place in first_of_ever) for place in told if place not in said_by_tear]
-    return ", ".join(parts) or "without any fault"
+    return ", ".join([*(parts or ["without any fault"]), *state_in_words(outcome)])
+
+
+def state_in_words(outcome: Outcome) -> list[str]:
+    return [STATES[outcome.judgement.state]] if outcome.judgement.state else []
 
 
 def failure(outcome: Outcome) -> str:
@@ -80,10 +91,22 @@ def failure(outcome: Outcome) -> str:
     return escaped(f"{outcome.verdict}: {faults_in_words(outcome)}{why}")
 
 
-def group_of(outcome: Outcome) -> str:
-    """The calls that a cause consists of, without their numbers."""
+def group_of(outcome: Outcome) -> tuple[str, str]:
+    """What a failure came to, and the calls that it consists of, without their numbers."""
     places = [place for place, hit in enumerate(outcome.trace) if acts(hit)]
     said_by_tear = kept_of_torn(outcome, places)
     hits = [outcome.trace[place] for place in places if place not in said_by_tear]
     parts = [f"{hit[4]} {KEEPS[hit[1]]}" if hit[1] in KEEPS else f"{hit[1]} ({hit[4]}) {what(hit[3])}" for hit in hits]
-    return escaped(f"{outcome.verdict.removeprefix('fail ')}: {', '.join(dict.fromkeys(parts)) or 'without any fault'}")
+    parts = [*(dict.fromkeys(parts) or ["without any fault"]), *state_in_words(outcome)]
+    return escaped(outcome.verdict.removeprefix("fail ")), escaped(", ".join(parts))
+
+
+def in_order(groups: Counter[tuple[str, str]]) -> list[tuple[str, str]]:
+    """Groups by what they came to, those with the fewest events first: these say most plainly what is wrong."""
+    def events(group: tuple[str, str]) -> int:
+        return group[1].count(", ")
+
+    fewest: dict[str, int] = {}
+    for group in groups:
+        fewest[group[0]] = min(events(group), fewest.get(group[0], events(group)))
+    return sorted(groups, key=lambda group: (fewest[group[0]], group[0], events(group), -groups[group], group[1]))

@@ -69,13 +69,13 @@ def watched(decider: Decider, scenario: str) -> int:
         write([hit_line(hit)])
     for number in sorted(lines):
         write(lines[number])
-    tell_end(record, outcome, decider.tools)
+    tell_end(record, outcome, decider.tools, sorted(decider.losses))
     return 2 if record.status == REFUSED else 1 if outcome.verdict.startswith("fail") else 0
 
 
-def tell_end(record: Record, outcome: Outcome, tools: Tools) -> None:
-    """Shows what was pending at the last cut, the verdict, and what the programs wrote to standard error."""
+def tell_end(record: Record, outcome: Outcome, tools: Tools, losses: list[str]) -> None:
+    """Shows what was pending at the last cut, the losses that are known, the verdict, and what the programs wrote to standard error."""
     why = f": {outcome.judgement.why}" if outcome.judgement.why else ""
     last = record.rewound if record.said_again.exists() else record.run
-    write([*pending_lines(tools, last), f"{outcome.verdict}{why}: {faults_in_words(outcome)}"])
+    write([*pending_lines(tools, last), *[f"known: {code}" for code in losses], f"{outcome.verdict}{why}: {faults_in_words(outcome)}"])
     tell_errors(record.folder / "errors")

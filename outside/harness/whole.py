@@ -2,14 +2,16 @@
 
 import math
 import os
+import re
 import shlex
+import time
 from collections import Counter
 from collections.abc import Iterable, Iterator
 from dataclasses import dataclass
 from pathlib import Path
 from typing import NoReturn
 
-from . import tree
+from . import failing, tree
 from .answers import DIFFERS, Answers, Stopped, changed
 from .campaign import Campaign
 from .deciding import OTHERWISE, Decider
@@ -21,11 +23,12 @@ from .run import NOT_FOUND, Runner
 from .settings import Settings
 from .shard import Shard, places_in, scenario_in
 from .scenario import scenario_of
-from .shown import show, show_once, write_out
-from .telling import failure, group_of
+from .shown import GREEN, RED, YELLOW, show, show_once, write_out
+from .telling import failure, group_of, in_order
 from .workers import Workers
 
 LOOK_SHARE = 200  # checking the answers takes one part in so many of the time: the loop wrote them itself, and the next round checks them too
+MOST_OF_A_KIND = 10  # so many failures that have the same calls in common are printed one by one
 ALWAYS = "--page"
 FORMS = {ALWAYS: "page.html", "--junit": "junit.xml", "--json": "report.json"}
 TRUSTS = {  # what FAULTS_SYNC may be, and what that means
@@ -46,6 +49,7 @@ class Asked:
     forms: list[str]
     failures: int | None  # after how many it stops
     shard: Shard | None  # this machine's share of the campaign
+    failing: bool  # whether scenarios that failed once are tried first, and kept
 
 
 class Enough(Exception):
@@ -66,9 +70,12 @@ class Whole:
         self.asked = asked
         self.jobs = asked.jobs
         self.folder = Path(answers.path).parent
+        self.begun = time.monotonic()
         self.paklour = Paklour(str(settings.path), answers, LOOK_SHARE)
         self.workers = Workers(decider, asked.jobs)
         self.found: list[str] = []  # scenarios that fail
+        self.fails_again: list[str] = []  # those among the ones that failed once
+        self.failing: Counter[tuple[str, str]] = Counter()  # by its kind
         self.unresolved: Counter[str] = Counter()
         self.flaky: list[str] = []  # what is told of each run that did otherwise than the run that it grew from, until it was made again
         self.is_same = True  # whether no second run came out otherwise than the first
@@ -117,11 +124,15 @@ class Whole:
         why = outcome.judgement.why
         self.unresolved[why] += 1
         if self.unresolved[why] == 1:
-            show(": ".join(["unresolved", why, *[str(outcome.parting)] * (why == OTHERWISE), outcome.scenario]))
+            show(": ".join(["unresolved", why, *[str(outcome.parting)] * (why == OTHERWISE), outcome.scenario]), YELLOW)
 
     def tell_failure(self, outcome: Outcome) -> None:
+        """Prints a failure, or counts it if enough of its kind were printed."""
         self.found.append(outcome.scenario)
-        show(failure(outcome))
+        kind = group_of(outcome)
+        self.failing[kind] += 1
+        if self.failing[kind] <= MOST_OF_A_KIND:
+            show(failure(outcome), RED)
 
     def require_pass(self, outcome: Outcome) -> None:
         """Ends the campaign if the run without faults doesn't work. This run is no answer: the next campaign begins with it again."""
@@ -145,6 +156,7 @@ class Whole:
         show("\n".join(f"judge: {line}" for line in outcome.errors.splitlines()))
         if outcome.verdict != CRASHED and not on_disk:
             self.tell_trust(is_pending=bool(outcome.pending))
+        show(f"loop: if this is known, {shlex.join(['--known', outcome.verdict.removeprefix('fail ')])} goes on, and counts what else fails")
         raise Enough
 
     def works_on_disk(self) -> bool:
@@ -155,6 +167,8 @@ class Whole:
         """Prints whether the run without faults passes on file systems that promise more about names."""
         if not is_pending:
             return show("loop: no change is pending, so no power cut did this: look at the judge and at the program")
+        if not self.harness.is_killed_only and self.decider.works_killed():
+            show("loop: the run without faults passes if no power cut comes: if the program promises no sync, --kill tries it so")
         if "FAULTS_SYNC" in os.environ | self.harness.variables:
             return
         passing = [word for word in TRUSTS if self.decider.works(self.decider.runner.with_variables(FAULTS_SYNC=word))]
@@ -163,9 +177,6 @@ class Whole:
         if not passing:
             show(f"loop: the run without faults fails with FAULTS_SYNC={' and FAULTS_SYNC='.join(TRUSTS)} too: the pending changes need a sync after them")
 
-    def tell_again(self, scenario: str) -> None:
-        show(f"again: {self.asked.words} --try {shlex.quote(scenario)}")
-
     # ---- the campaign
 
     def run(self) -> int:
@@ -173,10 +184,32 @@ class Whole:
         for point, why in self.settings.refused_points():
             raise Stopped(f"{self.settings.path}: {point}: {why}")
         try:
+            if self.asked.failing:
+                self.try_failing()
             self.grow(campaign)
             return self.report() if not self.asked.shard else self.end_of_shard()
         except Enough:
             return self.end_early()
+
+    def try_failing(self) -> None:
+        """Tries the scenarios that failed once. They are no answers of this campaign, since a program that has changed may not meet their faults."""
+        known = failing.scenarios_in(failing.path_of(self.harness))
+        unmet = 0
+        for outcome in self.workers.run_again(known):
+            if outcome.verdict.startswith("fail"):
+                self.fails_again.append(outcome.scenario)
+                show(failure(outcome), RED)
+            elif outcome.verdict == UNRESOLVED:
+                self.tell_unresolved(outcome)
+            unmet += not failing.meets_all(outcome)
+        not_met = f", and {unmet} don't meet all of their faults any more" if unmet else ""
+        show(f"loop: {len(self.fails_again)} of {len(known)} scenarios that failed once fail again{not_met}")
+        if self.asked.failures and len(self.fails_again) >= self.asked.failures:
+            raise Enough
+
+    def keep_failing(self, found: list[str]) -> None:
+        if self.asked.failing and (count := failing.add(failing.path_of(self.harness), found)):
+            show(f"loop: added to {from_here(failing.path_of(self.harness))}, of the scenarios that fail: {count}")
 
     def grow(self, campaign: Campaign) -> None:
         """Tries scenarios until none is left. If there are more plans than a campaign may have, it goes on to a lower depth."""
@@ -198,34 +231,54 @@ class Whole:
 
     def end_early(self) -> int:
         """Runs the failures once more, as a report's findings are. The run without faults was just made, so it isn't made again."""
+        if self.fails_again and not self.found:
+            self.tell_counts()
+            self.tell_end("scenarios that failed once fail again, so nothing else was tried", self.fails_again[0])
+            return 1
+        if self.found == ["none"]:
+            self.tell_counts()
+            self.tell_end("the run without faults fails, so nothing else was tried", "none")
+            return 1
+        ways = self.confirm(self.found)
+        self.keep_failing(self.found)
         self.tell_counts()
-        if self.found != ["none"]:
-            self.confirm(self.found)
-            return self.status(1)
-        self.tell_again("none")
-        return 1
+        self.tell_end(came_to(self.answers.failing, f"{self.answers.count} plans that were tried", self.answers.unresolved, ways), self.found[0])
+        return self.status(1)
 
     def end_of_shard(self) -> int:
         """Ends a share of a campaign. It has no report: the campaign that joins the shares writes one, and runs failures once more."""
         self.tell_counts()
-        return self.status(1 if self.answers.failing else 0)
+        return self.status(1 if self.answers.failing or self.fails_again else 0)
 
     def report(self) -> int:
-        status, report = self.paklour.report(*["--strict"] * self.asked.strict)
+        status, report = self.paklour.strict_report(self.settings.is_made) if self.asked.strict else self.paklour.report()
         brief = self.paklour.report("--brief", tells=False)[1]
         tree.write(self.folder / "report", report)
         for form in self.asked.forms:
             tree.write(self.folder / FORMS[form], self.paklour.report(form, tells=False)[1])
         write_out(brief if self.asked.brief else report)
-        self.confirm(findings(report, self.settings.codes))
+        found = findings(report, self.settings.codes)
+        ways = self.confirm(found)
+        self.keep_failing(found)
         self.tell_counts()
-        return self.status(status)
+        plans, unresolved, fails = counts_of(report)
+        before = f", and {len(self.fails_again)} that failed once fail again" if self.fails_again else ""
+        self.tell_end(came_to(fails, f"{plans} plans", unresolved, ways) + before, *[*found, *self.fails_again][:1],
+            page=f"; page {from_here(self.folder / FORMS[ALWAYS])}")
+        return self.status(1 if self.fails_again and status == 0 else status)
 
     def status(self, of_report: int) -> int:
         """The exit status: that of the report, unless a run of this call didn't do the same each time, and so nobody knows what it came to."""
-        return DIFFERS if not self.is_same or of_report == 0 and self.unresolved[OTHERWISE] else of_report
+        return DIFFERS if not self.is_same or of_report == 0 and self.answers.unresolved else of_report
+
+    @property
+    def runs(self) -> int:
+        return self.decider.runner.count
 
     def tell_counts(self) -> None:
+        for kind, count in self.failing.items():
+            if count > MOST_OF_A_KIND:
+                show(f"loop: {count - MOST_OF_A_KIND} more failures like those above: {': '.join(kind)}")
         for why, count in self.unresolved.items():
             if count > 1:
                 more = "1 more plan is" if count == 2 else f"{count - 1} more plans are"
@@ -236,13 +289,24 @@ class Whole:
         if decider.unsteady:
             first = min(map(scenario_of, decider.unsteady), key=len)
             show(f"loop: runs that didn't come out the same again, and from which nothing more was derived: {len(decider.unsteady)}, the first of them {first}")
+        for code in self.harness.known:
+            count = decider.losses[code]
+            show(f"loop: known: {code}: {f'{count} judgements came to it, and count as passed' if count else 'no judgement came to it'}")
         derived = f"{decider.followed} plans were derived from other runs, {decider.tried} of them were run as a check"
         show(f"loop: {decider.runner.count} runs and {decider.judge.count} judgements; {derived}")
 
-    def confirm(self, scenarios: list[str]) -> None:
-        """Runs each finding and cause, and the run without faults, once more, and prints what the causes have in common."""
+    def tell_end(self, came_to: str, scenario: str = "", page: str = "") -> None:
+        """Prints what one looks for: what the campaign came to, and how that run is made again."""
+        colour = RED if scenario else YELLOW if self.answers.unresolved else GREEN
+        show(f"{came_to}; {time.monotonic() - self.begun:.1f} s{page}", colour)
+        if scenario:
+            show(f"again: {self.asked.words} --try {shlex.quote(scenario)}")
+
+    def confirm(self, scenarios: list[str]) -> int:
+        """Runs each finding and cause, and the run without faults, once more, and prints what the causes have in common. Returns in how many ways the
+        program fails."""
         lines = {scenario_in(line): line for line in self.answers.lines()}
-        groups: Counter[str] = Counter()
+        groups: Counter[tuple[str, str]] = Counter()
         for outcome in self.workers.run_again(["none", *scenarios]):
             line = lines[outcome.scenario]
             if outcome.answer(self.settings.depth > 0) != line and not (outcome.is_late and line.startswith(f"{outcome.verdict}\t")):
@@ -252,10 +316,9 @@ class Whole:
                 show(f"loop: the run did otherwise than before: {outcome.parting}: {outcome.scenario}")
             elif outcome.scenario != "none":
                 groups[group_of(outcome)] += 1
-        for group, count in groups.most_common():
-            show(f"{count} failure{'s' * (count > 1)}: {group}")
-        if scenarios:
-            self.tell_again(scenarios[0])
+        for group in in_order(groups):
+            show(f"{groups[group]} failure{'s' * (groups[group] > 1)}: {': '.join(group)}")
+        return len(groups)
 
     def tell_difference(self, verdict: str, hits: str, tried: Outcome) -> None:
         self.is_same = False
@@ -283,6 +346,23 @@ def findings(report: bytes, codes: list[str]) -> list[str]:
             code = max((code for code in codes if rest.startswith(code + " ")), key=len)
             found.append(rest[len(code) + 1:])
     return list(dict.fromkeys(found))
+
+
+def counts_of(report: bytes) -> tuple[int, int, int]:
+    """How many plans a whole report has, how many of them are unresolved, and how many fail."""
+    verdicts = Counter(re.findall(rb"^verdict [0-9]+ (pass|unresolved|fail)", report, re.MULTILINE))
+    return verdicts.total(), verdicts[b"unresolved"], verdicts[b"fail"]
+
+
+def from_here(path: Path) -> Path:
+    """The path as a person would name it."""
+    here = Path.cwd()
+    return path.resolve().relative_to(here) if path.resolve().is_relative_to(here) else path
+
+
+def came_to(count: int, plans: str, unresolved: int, ways: int) -> str:
+    fails = f"{count} of {plans} fail{'s' * (count == 1)}, in {ways} way{'s' * (ways != 1)}" if count else f"none of {plans} fails"
+    return fails + (f", and {unresolved} {'is' if unresolved == 1 else 'are'} unresolved" if unresolved else "")
 
 
 def decider_of(runner: Runner, settings: Settings, every_run: bool, answers: Answers) -> Decider:

@@ -55,8 +55,8 @@ def bytes_of(text: str, name: str) -> int:
     return whole_number(text[:-1] if shift else text, name, "number of bytes such as 500M") << shift
 
 
-def split(words: list[str], with_value: set[str], flags: set[str]) -> tuple[dict[str, str], list[str]]:
-    """The options and the other arguments. Behind `--` there are no options. `-j4` means `-j 4`."""
+def split(words: list[str], with_value: set[str], flags: set[str], repeated: frozenset[str] = frozenset()) -> tuple[dict[str, str], list[str]]:
+    """The options and the other arguments. Behind `--` there are no options. `-j4` means `-j 4`. An option that may be repeated has its values as lines."""
     options: dict[str, str] = {}
     others: list[str] = []
     rest = list(words)
@@ -71,7 +71,8 @@ def split(words: list[str], with_value: set[str], flags: set[str]) -> tuple[dict
         elif word in with_value:
             if not rest:
                 raise Usage(f"{word}: its value is missing")
-            options[word] = rest.pop(0)
+            before = f"{options[word]}\n" if word in repeated & options.keys() else ""
+            options[word] = before + rest.pop(0)
         elif word in flags:
             options[word] = "yes"
         else:

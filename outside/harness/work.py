@@ -13,9 +13,9 @@ import time
 from pathlib import Path
 
 from . import tree
-from .answers import Answers, Stopped
+from .answers import Answers
 from .disk import IN_MEMORY, disk_of, kind_of
-from .identity import NOTE, Identity, noted, refuse_others
+from .identity import NOTE, Identity, noted, other_in
 from .shown import show
 
 PREFIX = "paklour-"
@@ -59,6 +59,13 @@ def is_taken_away(folder: Path) -> bool:
     return False
 
 
+def why_not(place: Path, own: Identity, every_run: bool) -> str:
+    """Why a campaign can't go on from answers, or an empty text."""
+    if other := other_in(place, own):
+        return f"belongs to {other}"
+    return "may have answers that were derived from other runs" if every_run and not noted(place).get("every_run") else ""
+
+
 class Note:
     """The note beside answers: to which harness they belong, whether each comes from its own run, whether runs need a disk, and where they lie."""
 
@@ -67,12 +74,10 @@ class Note:
         known = noted(place)
         self.path = place.with_name(NOTE)
         self.said = {"harness": own, "every_run": every_run}
-        self.needs_disk: bool | None = known.get("needs_disk") if answers.count else None
         self.folders: list[str] = []  # where runs lie now
-        if answers.count:
-            refuse_others(place, own)
-        if answers.count and every_run and not known.get("every_run"):
-            raise Stopped(f"{place} may have answers that were derived from other runs: delete it, and start again with --every-run")
+        if answers.count and (why := why_not(place, own, every_run)):
+            show(f"loop: {place} {why}, so it is now {answers.set_aside()}, and this campaign begins anew")
+        self.needs_disk: bool | None = known.get("needs_disk") if answers.count else None
         for left in folders_in(known):
             if is_of_loop(left) and not is_taken_away(left):
                 show(f"loop: {left} has the runs of a campaign that was killed, and can't be deleted")

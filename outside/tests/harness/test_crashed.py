@@ -101,7 +101,7 @@ class Hung(FirstFails):
         self.assertNotIn("the hits changed", done.told)
 
     def test_a_program_that_may_hang(self):
-        done, verdicts = self.campaign(HANGS, status=0, allowed="hung\n")
+        done, verdicts = self.campaign(HANGS, status=5, allowed="hung\n")
         self.assertEqual(verdicts[FIRST], "unresolved")
         self.assertIn(f"\nunresolved: it was ended after 1 seconds (--seconds): {FIRST}\n", done.told)
 

@@ -46,9 +46,9 @@ class Flaws(Campaigns):
         self.each(r"fail lost: the 1st sys::fsync \(new\) fails", NOTE, "unchecked_sync")
 
     def test_rename_before_the_sync(self):
-        self.assertEqual(self.found(NOTE, "rename_first"), "")
-        found = r"fail lost: the 1st sys::fsync \(note\) (fails|ends the run), pending change 3 \(rename new -> note\) is kept"
-        self.each(found, NOTE, "rename_first", "--depth", 2)
+        self.each(r"fail lost: the 1st sys::fsync \(note\) (fails|ends the run), the pending changes of names are kept", NOTE, "rename_first")
+        self.each_loses("fail lost: the 1st sys::fsync (note) fails, pending change 3 (rename new -> note) is kept", NOTE, "rename_first",
+            "sys::fsync=1*return;power::keep=2*off->1*return")
 
     def test_a_folder_that_is_never_synced(self):
         self.each("fail lost: without any fault", NOTE, "no_folder_sync")
@@ -57,11 +57,12 @@ class Flaws(Campaigns):
         """The second record has 23 bytes with its sum, a blank and its end; the third, of 22, is never synced. Both flaws lose by one plan: one campaign
         comes to it, and the rest is tried by it alone."""
         torn = "fail lost: pending change 1 (write log 22 at 23) is torn"
-        for flaw in ("torn_taken", "torn_appended"):
-            self.assertEqual(self.found(LOG, flaw), "")
-        self.assertEqual(self.found(LOG, "torn_taken", "--depth", 2), torn)
+        self.assertEqual(self.found(LOG, "torn_appended"), "")
         for flaw in ("torn_taken", "torn_appended"):
             self.each_loses(torn, LOG, flaw, "power::keep=1*return;power::tear=1*return")
+
+    def test_a_record_of_which_half_was_written(self):
+        self.each(r"fail torn: the \d.. sys::write \(log\) .*does half.*, all pending changes are kept", LOG, "torn_taken")
 
     def test_a_sync_that_is_tried_again(self):
         self.each(r"fail lost: the 1st sys::fsync \(new\) fails", NOTE, "retry_sync")
@@ -73,9 +74,12 @@ class Flaws(Campaigns):
         self.each(r"fail lost: the 1st sys::write \(new\) does half", NOTE, "short_write")
         self.assertEqual(self.found(NOTE, "short_write", "--no-kinds"), "")
 
+    def test_a_greater_depth_finds_what_a_smaller_one_does(self):
+        self.each(r"fail lost: the 1st sys::write \(new\) does half.*", NOTE, "short_write", "--depth", 2)
+
     def test_a_clean_up_that_loses_the_old_file(self):
         self.assertEqual(self.found(NOTE, "clean_up"), "")
-        self.assertRegex(self.found(NOTE, "clean_up", "--depth", 2), r"^fail lost: .*the 2nd sys::link \(note\) fails")
+        self.assertRegex(self.found(NOTE, "clean_up", "--depth", 2), r"^fail lost: .*the 2nd sys::link \(note\) (fails|ends the run)")
         both = "fail lost: the 1st sys::write (new) fails, the 2nd sys::link (note) fails"
         self.each_loses(both, NOTE, "clean_up", "sys::write=1*return;sys::link=1*off->1*return")
 
@@ -85,10 +89,60 @@ class Flaws(Campaigns):
     def test_sound_ones(self):
         self.each("", NOTE, "sound")
         self.each("", LOG, "sound")
-        self.each("", NOTE, "sound", "--depth", 2, "--kinds")
+        self.each("", NOTE, "sound", "--depth", 2)
 
     def test_a_sound_log_two_faults_deep(self):
         self.assertEqual(self.found(LOG, "sound", "--depth", 2), "")
+
+
+SWITCHES = """#!/bin/sh
+mkdir new && sync new . && {how} && sync . && echo switched
+"""
+
+
+class Killed(Campaigns):
+    """A link that is replaced: `current` leads to a folder of one version or the next at each moment."""
+
+    def switched(self, how, **more):
+        prepare = "#!/bin/sh\nmkdir old && ln -s old current\n"
+        judge = '#!/bin/sh\ncase $(cat "$SAID"):$(readlink current) in switched:new | :old | :new) exit 0 ;; esac\necho gone; exit 1\n'
+        folder = self.harness(prepare=prepare, run=SWITCHES.format(how=how), judge=judge, **more)
+        return folder, self.loop("-j", 2, folder)
+
+    def test_a_link_that_is_removed_first(self):
+        """A power cut brings the old link back, as its removal isn't synced. A kill alone doesn't."""
+        folder, done = self.switched("rm current && ln -s new current")
+        killed = "fail gone: the 1st sys::symlink (current) ends the run, all pending changes are kept"
+        self.assertEqual(done.status, 1, done.told)
+        self.assertIn(killed, done.told.splitlines())
+        self.assertIn("fail gone\tsys::symlink=1*panic\tsys::mkdir;sys::open;sys::fsync;sys::open;sys::fsync;sys::unlink;sys::symlink;power::keep",
+            self.answers(folder))
+        again = self.loop(folder, "--try", "sys::symlink=1*panic")
+        self.assertEqual((again.status, again.out.splitlines()[-2:]), (1, ["pending: 1 unlink current -", killed]))
+
+    def test_with_recovery(self):
+        """It begins with what the kill left, and doesn't make the link anew; or it does."""
+        killed = "fail gone: the 1st sys::symlink (current) ends the run, all pending changes are kept"
+        for mends, is_gone in (("", True), ("[ -L current ] || ln -s old current; sync .", False)):
+            folder, done = self.switched("rm current && ln -s new current", again=f"#!/bin/sh\n: > started; {mends}\n")
+            self.assertEqual(killed in done.told.splitlines(), is_gone, done.told)
+            again = self.loop(folder, "--try", "sys::symlink=1*panic")
+            self.assertEqual((again.status, again.out.splitlines()[-1] == killed), (is_gone, is_gone), again.out)
+            shutil.rmtree(folder)
+
+    def test_one_that_is_renamed_into_place(self):
+        for more in ({}, {"again": "#!/bin/sh\n: > started\n"}):
+            folder, done = self.switched("ln -s new next && mv -T next current", **more)
+            self.assertEqual((done.status, [line for line in self.answers(folder) if line.startswith("fail")]), (0, []), done.told)
+            shutil.rmtree(folder)
+
+    def test_a_scenario_that_keeps_a_change_names_its_state(self):
+        """Behind the new link both changes are pending. A fault that isn't met keeps nothing."""
+        folder, _ = self.switched("rm current && ln -s new current")
+        synced, linked = "sys::fsync=2*off->1*panic", "sys::symlink=1*panic"
+        for scenario, status in {synced: 0, f"{synced};power::keep=1*return": 1, f"{synced};power::keep=2*return": 0,
+                f"{linked};power::keep=9*off->1*return": 1}.items():
+            self.assertEqual(self.loop(folder, "--try", scenario).status, status, scenario)
 
 
 class Languages(unittest.TestCase):

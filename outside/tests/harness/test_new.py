@@ -1,6 +1,8 @@
 """What `new` writes runs as it is."""
 
+import contextlib
 import os
+import pty
 import shutil
 import subprocess
 import unittest
@@ -55,6 +57,90 @@ class New(Campaigns):
         done = self.loop("--try", "none", self.here / "made")
         self.assertEqual(done.told, "already here\n")
 
+    def again(self, made):
+        """Makes anew what the judge expects."""
+        return subprocess.run([OUTSIDE / "new", "--expect", made], capture_output=True, text=True, check=False)
+
+    def test_a_file_that_was_there_before(self):
+        """It has its old or its new contents, never others: the judge that `new` writes convicts a rename before the sync."""
+        for text, status in ((SAFE, 0), ("#!/bin/sh\necho new > new && mv new note && sync note && sync .\n", 1)):
+            self.assertEqual(self.made(text).status, 0)
+            made = self.here / "made"
+            (made / "prepare").write_text("#!/bin/sh\necho old > note\n")
+            again = self.again(made)
+            self.assertEqual((again.returncode, again.stdout, again.stderr), (0, f"{OUTSIDE}/loop {made}\n", ""))
+            (made / "answers").unlink()
+            done = self.loop("-j", 2, made)
+            self.assertEqual(done.status, status, done.told)
+            if status:
+                self.assertIn("\nfail torn: the 1st sys::fsync (note) fails, the pending changes of names are kept\n", done.told)
+                self.assertIn("note: it has neither its old nor its new contents\n", self.loop(made, "--try", "sys::fsync=1*return").told)
+            shutil.rmtree(made)
+
+    def test_a_file_that_is_removed(self):
+        """Once that is promised, it doesn't come back."""
+        self.made("#!/bin/sh\nrm -f note\n")
+        made = self.here / "made"
+        (made / "prepare").write_text("#!/bin/sh\necho old > note\n")
+        self.assertEqual(self.again(made).returncode, 0)
+        (made / "answers").unlink()
+        done = self.loop("-j", 2, made)
+        self.assertEqual((done.status, "\njudge: note: it is as it was before\n" in done.told), (1, True), done.told)
+
+    def test_contents_that_differ_in_each_run(self):
+        """They count by their names alone."""
+        program = "#!/bin/sh\ndate +%s%N > 'a time' && echo same > note && echo $$ > \"$$.log\" && sync note 'a time' . && rm -f *.log\n"
+        done = self.made(program)
+        self.assertEqual((done.status, (self.here / "made" / "unjudged").read_text()), (0, "a?time\n"), done.told)
+
+    def test_names_that_differ_in_each_run(self):
+        """The judge doesn't look for them."""
+        self.made('#!/bin/sh\necho same > note && : > "$(date +%s).log" && sync note .\n')
+        self.assertEqual(os.listdir(self.here / "made" / "expected"), ["note"])
+
+    def answers(self, typed, *options):
+        """What `new` asks on a terminal, and the harness that it writes after these answers."""
+        person, terminal = pty.openpty()
+        os.write(person, typed.encode())
+        with subprocess.Popen([OUTSIDE / "new", *options, self.here / "made", "true"], stdin=terminal, stdout=subprocess.DEVNULL, stderr=terminal) as process:
+            os.close(terminal)
+            told = b""
+            with contextlib.suppress(OSError):  # as the end of a terminal is told
+                while read := os.read(person, 65536):
+                    told += read
+        os.close(person)
+        self.assertEqual(process.returncode, 0, told)
+        return told.decode()
+
+    def test_what_a_person_is_asked(self):
+        """An answer that is none of those is asked for again, and an empty one is the default."""
+        told = self.answers("never\nkill\nlinux\n\n")
+        self.assertEqual([told.count(question) for question in ("sync or kill [sync]", "strict or linux or journal [strict]", "no or yes [no]")], [2, 1, 1])
+        said = (self.here / "made" / "harness.py").read_text()
+        self.assertTrue("\nenvironment = {\"FAULTS_SYNC\": \"names\"}" in said and said.startswith('states = ["live"]'), said)
+        self.assertFalse((self.here / "made" / "allowed").exists())
+
+    def test_what_options_answer_is_not_asked(self):
+        told = self.answers("yes\n", "--promises", "sync", "--file-system", "strict")
+        self.assertNotIn("sync or kill", told)
+        self.assertEqual((self.here / "made" / "allowed").read_text(), "crashed\n")
+        self.assertFalse((self.here / "made" / "harness.py").exists())
+
+    def test_a_program_that_promises_no_sync(self):
+        done = self.made(UNSAFE, "--promises", "kill")
+        self.assertEqual(done.status, 0, done.told)
+        self.assertNotIn("power::", (self.here / "made" / "settings.toml").read_text())
+
+    def test_answers_that_mean_nothing(self):
+        for words, told in {("--promises", "x"): "--promises x: the values are sync, kill", ("--file-system",): "--file-system: its value is missing",
+                ("--every",): "--every: there is no such option"}.items():
+            made = subprocess.run([OUTSIDE / "new", *words], capture_output=True, text=True, check=False)
+            self.assertEqual((made.returncode, made.stderr), (2, f"new: {told} ({OUTSIDE}/new --help lists the options)\n"))
+        (self.here / "made").mkdir()
+        made = self.again(self.here / "made")
+        self.assertEqual((made.returncode, made.stderr), (1, f"new: {self.here}/made/judge doesn't look at `expected`: --expect is for a harness that "
+            "paklour-new wrote for a command\n"))
+
     def failed(self, text, *options):
         """What `new` says of a program that fails in an empty folder. The harness stays, for its `prepare` to be written."""
         program = self.here / "program"
@@ -67,17 +153,20 @@ class New(Campaigns):
 
     def test_a_command_that_fails(self):
         made = self.here / "made"
-        self.assertEqual(self.failed("#!/bin/sh\ncat input\n"), f"cat: input: No such file or directory\nnew: {made}/run ended with 1 in an empty folder. If it "
-            f"needs files, let {made}/prepare make them, and let {made}/judge check the promises without {made}/expected, which is missing. If the command "
-            f"was wrong, delete {made}\n")
+        told = self.failed("#!/bin/sh\ncat input && echo new > note && sync note .\n")
+        self.assertEqual(told, f"cat: input: No such file or directory\nnew: {made}/run ended with 1. If it needs files, let {made}/prepare make them, and then call paklour-new --expect {made}. If the command was wrong, delete {made}\n")
+        (made / "prepare").write_text("#!/bin/sh\necho word > input\n")
+        self.assertEqual(self.again(made).returncode, 0)
+        self.assertEqual(sorted(os.listdir(made / "expected")), ["input", "note"])
+        self.assertEqual(self.loop("-j", 2, "--no-kinds", made).status, 0)
 
     def test_a_delivery_that_fails(self):
         told = self.failed("#!/bin/sh\ncat > spool\nexit 75\n", "--mail")
-        self.assertTrue(told.startswith(f"new: {self.here}/made/run ended with 75 in an empty folder. "), told)
+        self.assertTrue(told.startswith(f"new: {self.here}/made/run ended with 75. "), told)
 
     def test_a_server_that_fails(self):
         told = self.failed("#!/bin/sh\necho not so\necho no socket >&2\nexit 3\n", "--server", "ready")
-        self.assertTrue(told.startswith(f"not so\nno socket\nnew: {self.here}/made/run ended with 1 in an empty folder. "), told)
+        self.assertTrue(told.startswith(f"not so\nno socket\nnew: {self.here}/made/run ended with 1. "), told)
 
     def test_a_server_that_is_not_ready_in_time(self):
         """Ended by its time, `run` shows what the server said."""
@@ -105,12 +194,13 @@ class New(Campaigns):
         self.assertRegex(done.told, "fail (lost|torn): ")
 
     def test_a_program_that_is_changed(self):
-        """It is linked into the harness, so its old answers are refused."""
+        """It is linked into the harness, so its old answers say nothing."""
         self.assertEqual(self.made(SAFE).status, 0)
         self.assertEqual(os.readlink(self.here / "made" / "program"), "../program")
         (self.here / "program").write_text(SAFE + "# changed\n")
         done = self.loop(self.here / "made")
-        self.assertEqual((done.status, done.told), (2, f"loop: {self.here}/made/answers belongs to a harness with another program: delete it, and start again\n"))
+        self.assertEqual(done.status, 0)
+        self.assertIn(f"loop: {self.here}/made/answers belongs to a harness with another program, so it is now {self.here}/made/answers.1, ", done.told)
 
     def test_a_harness_that_is_copied(self):
         """With its program it runs the copy, and without it says that the program is missing."""

@@ -97,7 +97,7 @@ class Places(Campaigns):
             harness = self.here / "harness"
             done = self.loop("-j", 1, "--no-kinds", "--into", into, harness if harness.exists() else self.harness(run=SAVES, judge=JUDGES), **variables)
             self.assertEqual(done.status, 0, done.told)
-            counts.add(done.told.splitlines()[-1])
+            counts.add(done.told.splitlines()[-2])
         self.assertEqual(len(counts), 1, counts)
         self.assertFalse(self.needs_disk(self.here / "into0"))
 

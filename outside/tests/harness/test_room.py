@@ -69,7 +69,7 @@ class Taken(Large):
         """It alone is unresolved, and nothing else comes otherwise."""
         folder = self.harness(run=SWELLS, judge=JUDGES)
         done = self.loop("-j", 4, "--room", "40M", folder)
-        self.assertEqual(done.status, 0, done.told)
+        self.assertEqual(done.status, 5, done.told)
         said = [line for line in done.told.splitlines() if line.startswith("unresolved: ")]
         self.assertEqual(len(said), 1, done.told)
         self.assertRegex(said[0], r"^unresolved: it took more than the \d+ bytes that all runs together may take \(--room\): sys::fsync=1\*return$")

@@ -100,12 +100,12 @@ class TornInWords(unittest.TestCase):
     def test_one_by_half(self):
         told = self.outcome(("power::keep", "go"), ("power::keep", "return"), ("power::tear", "return"), ("power::keep", "go"))
         self.assertEqual(faults_in_words(told), "pending change 2 (write a 7 at 0) is torn")
-        self.assertEqual(group_of(told), "torn: a is torn")
+        self.assertEqual(group_of(told), ("torn", "a is torn"))
 
     def test_one_whole_and_one_by_half(self):
         told = self.outcome(("power::keep", "go"), ("power::keep", "return"), ("power::tear", "go"), ("power::keep", "return"), ("power::tear", "return"))
         self.assertEqual(faults_in_words(told), "pending change 2 (write a) is kept, pending change 3 (write a 4 at 7) is torn")
-        self.assertEqual(group_of(told), "torn: a is kept, a is torn")
+        self.assertEqual(group_of(told), ("torn", "a is kept, a is torn"))
 
     def test_all_from_then_on(self):
         hits = ("power::keep", "go"), ("power::keep", "return"), ("power::tear", "return"), ("power::keep", "return"), ("power::tear", "return")
@@ -131,7 +131,7 @@ class Made(Campaigns):
 
     def settings(self, name):
         with mock.patch("harness.settings.show"):
-            return Settings(Harness(name, self.here, {}), self.here, Answers(str(self.here / "answers")), None, None, None)
+            return Settings(Harness(name, self.here, {}), self.here, Answers(str(self.here / "answers")), None, None, has_kinds=True)
 
     def test_a_long_name(self):
         self.assertEqual(self.settings("x" * 250).table["outside"]["label"], "x" * 174 + ", settings by paklour-loop")

@@ -1,7 +1,9 @@
 """What has to be told, and never passes."""
 
+import contextlib
 import json
 import os
+import pty
 import re
 import shutil
 import signal
@@ -10,6 +12,9 @@ import sys
 import time
 import unittest
 import xml.etree.ElementTree
+from collections import Counter
+
+from harness.telling import in_order
 
 from .base import JUDGES, LOG, LOOP, NOTE, OUTSIDE, SAVES, Campaigns
 
@@ -86,8 +91,15 @@ class Refused(Campaigns):
     def test_answers_of_another_harness(self):
         folder = self.harness(run="#!/bin/sh\n: > here; echo here\n", judge="#!/bin/sh\ntrue\n")
         self.assertEqual(self.loop("-j", 2, folder).status, 0)
-        (folder / "judge").write_text("#!/bin/sh\ntrue # changed\n")
-        self.refused("belongs to a harness with another judge: delete it, and start again\n", folder)
+        before = (folder / "answers").read_bytes()
+        for number in (1, 2):
+            (folder / "judge").write_text(f"#!/bin/sh\ntrue # changed {number}\n")
+            done = self.loop("-j", 2, folder)
+            self.assertEqual(done.status, 0)
+            self.assertIn(f"loop: {folder}/answers belongs to a harness with another judge, so it is now {folder}/answers.{number}, and this campaign begins anew\n",
+                done.told)
+            self.assertEqual(sorted((folder / f"answers.{number}").read_bytes().splitlines()), sorted(before.splitlines()))
+        self.assertNotIn("answers belongs", self.loop("-j", 2, folder).told, "what was set aside is no part of the harness")
 
     def test_two_campaigns_in_one_folder(self):
         folder = self.harness(run="#!/bin/sh\nsleep 1; : > here\n", judge="#!/bin/sh\ntrue\n")
@@ -157,8 +169,9 @@ class Unresolved(Campaigns):
         judge = '#!/bin/sh\ncase "$(tail -n 1 "$SAID")" in saved) ;; begun) echo later >&2; exit 4 ;; *) echo early >&2; exit 3 ;; esac\n'
         folder = self.harness(run=run, judge=judge)
         done = self.loop("-j", 1, "--no-kinds", folder)
-        self.assertEqual(done.status, 0, done.told)
+        self.assertEqual(done.status, 5, done.told)
         lines = done.told.splitlines()
+        self.assertRegex(lines.pop(), r"^none of 24 plans fails, and 22 are unresolved; ")
         for why in ("judge ended with 3: early", "judge ended with 4: later"):
             self.assertEqual(sum(line.startswith(f"unresolved: {why}: ") for line in lines), 1, done.told)
         more = [re.fullmatch(r"loop: (\d+) more plans are unresolved for this reason: judge ended with (3: early|4: later)", line) for line in lines[-3:-1]]
@@ -270,22 +283,77 @@ half writes; codes are added as the judge prints them", "loop: 14 plans with one
         self.assertEqual((self.here / "report").read_text().splitlines()[0], "target note, settings by paklour-loop")
         self.assertIn("fail lost: the 1st sys::fsync (new) fails", lines)
         self.assertIn("1 failure: lost: sys::fsync (new) fails", lines)
-        again = next(line for line in lines if line.startswith("again: "))
-        self.assertTrue(again.endswith(f"{NOTE} --into {self.here} --try 'sys::fsync=1*return'"), again)
-        self.assertEqual((self.here / "report").read_text().splitlines()[-1], "cause 9 lost sys::fsync=1*return")
+        self.assertIn("1 failure: lost: sys::fsync (new) fails, sys::fsync (.) fails, the pending changes of names are kept", lines)
+        self.assertRegex(lines[-2], rf"^2 of 17 plans fail, in 2 ways; \d+\.\d s; page {self.here}/page.html$")
+        self.assertTrue(lines[-1].startswith("again: ") and lines[-1].endswith(f"{NOTE} --into {self.here} --try 'sys::fsync=1*return'"), lines[-1])
+        self.assertEqual((self.here / "report").read_text().splitlines()[-2:], ["cause 9 lost sys::fsync=1*return", "cause 16 lost sys::fsync=return"])
         self.assertIn("<html", (self.here / "page.html").read_text())
 
-    def test_kinds_that_a_greater_depth_leaves_out(self):
-        """Unless an option says which are tried."""
+    def on_terminal(self, folder, **variables):
+        """What a terminal gets of a campaign."""
+        reader, writer = pty.openpty()
+        with subprocess.Popen([sys.executable, LOOP, "-j", "2", folder], env=self.environment | {"TERM": "xterm"} | variables, stdin=subprocess.DEVNULL,
+                stdout=subprocess.DEVNULL, stderr=writer) as process:
+            os.close(writer)
+            told = b""
+            with contextlib.suppress(OSError):  # as the end of a terminal is told
+                while read := os.read(reader, 65536):
+                    told += read
+        os.close(reader)
+        return process.returncode, told.decode().replace("\r\n", "\n")
+
+    def test_a_terminal(self):
+        """One line is written over, and the lines that stay are above it."""
+        folder = self.harness(run=SAVES.replace("sync new", "{ sync new || true; }"), judge=JUDGES)
+        status, told = self.on_terminal(folder)
+        self.assertEqual(status, 1, told)
+        stays = [line.rpartition("\r\x1b[K")[2] for line in told.rstrip("\n").split("\n")]
+        self.assertRegex(told, r"\r\x1b\[K\d+ of \d+ plans answered by \d+ runs, \d+ failing; \d+ s, time left \S+")
+        self.assertIn("\x1b[31mfail lost: the 1st sys::fsync (new) fails\x1b[0m", stays)
+        self.assertRegex(stays[-2], r"^\x1b\[31m\d+ of \d+ plans fails?, in \d+ ways?; \d+\.\d s; page .*/page.html\x1b\[0m$")
+        self.assertRegex(stays[-1], r"^again: ")
+        self.assertFalse([line for line in stays if "answered by" in line], "none of these lines stays")
+
+    def test_a_terminal_without_colours_or_without_lines_that_are_written_over(self):
+        folder = self.harness(run=SAVES.replace("sync new", "{ sync new || true; }"), judge=JUDGES)
+        told = self.on_terminal(folder, NO_COLOR="1")[1]
+        self.assertIn("\r\x1b[K", told)
+        self.assertNotIn("\x1b[3", told)
+        (folder / "answers").unlink()
+        told = self.on_terminal(folder, TERM="dumb")[1]
+        self.assertNotIn("\x1b", told)
+        self.assertRegex(told, r"\nloop: 1 answered, \d+ still to answer, 0 failing, time left unknown\n")
+
+    def test_many_failures_of_a_kind(self):
+        """A program that never looks at what a write came to: each of seven fails once, and each but the last also from then on."""
+        writes = "import os\nnote = os.open('note', os.O_WRONLY | os.O_CREAT)\nos.fsync(os.open('.', os.O_RDONLY))\nfor _ in range(7):\n" \
+            "    try: os.write(note, b'x')\n    except OSError: pass\nos.fsync(note)\nprint('saved')\n"
+        folder = self.harness(run=f"#!{sys.executable} -S\n{writes}", judge='#!/bin/sh\n[ ! -s "$SAID" ] || [ "$(cat note)" = xxxxxxx ] || { echo lost; exit 1; }\n')
+        done = self.loop("-j", 2, "--no-kinds", folder)
+        self.assertEqual(len([line for line in done.told.splitlines() if line.startswith("fail ")]), 10, done.told)
+        self.assertIn("\n13 failures: lost: sys::write (note) fails\nloop: 3 more failures like those above: lost: sys::write (note) fails\n", done.told)
+
+    def test_in_which_order_groups_are_told(self):
+        """By what they came to, and those with the fewest events first, however many they are."""
+        plain, two, many = ("lost", "a fails"), ("lost", "a fails, b fails"), ("corrupt", "a fails, c fails")
+        self.assertEqual(in_order(Counter({many: 9, two: 5, plain: 1})), [plain, two, many])
+
+    def test_gaps_in_settings_that_the_loop_made(self):
+        """It lists all points of files, so one that no run reaches is none. In settings of one's own it is."""
         folder = self.harness(run=SAVES, judge=JUDGES)
-        left_out = "loop: full disks and half writes are left out at depth {}; --kinds tries them"
-        for words, line in ((["--depth", 2], left_out.format(2)), (["--depth", 3], left_out.format(3)), (["--depth", 2, "--kinds"], None),
-                (["--depth", 2, "--no-kinds"], None), ([], None)):
-            into = self.here / "into"
-            done = self.loop("-x", *words, "--into", into, folder)
-            lines = done.told.splitlines()
-            self.assertEqual([text for text in lines if "left out" in text], [line] if line else [], done.told)
-            self.assertTrue(lines[0].startswith(f"loop: wrote the settings {into}/settings.toml: ") and (not line or lines[1] == line), done.told)
+        done = self.loop("-j", 2, "--no-kinds", "--strict", folder)
+        self.assertEqual((done.status, "strict: " in done.told), (0, False), done.told)
+        (folder / "settings.toml").write_text((folder / "settings.toml").read_text().split("\n", 1)[1])
+        done = self.loop("-j", 2, "--strict", folder)
+        self.assertEqual((done.status, "\nstrict: no run reaches sys::rmdir\n" in done.told), (5, True), done.told)
+
+    def test_each_depth_has_full_disks_and_half_writes(self):
+        """Unless an option leaves them out."""
+        folder, into = self.harness(run=SAVES, judge=JUDGES), self.here / "into"
+        for words, has_kinds in (([], True), (["--depth", 2], True), (["--depth", 2, "--no-kinds"], False)):
+            told = self.loop("-x", *words, "--into", into, folder).told.splitlines()[0]
+            self.assertTrue(told.startswith(f"loop: wrote the settings {into}/settings.toml: "), told)
+            self.assertEqual((", full disks and half writes" in told, "return(HALF)" in (into / "settings.toml").read_text()), (has_kinds, has_kinds))
             (into / "answers").unlink()
 
     def test_one_run_leaves_the_settings_as_they_are(self):
@@ -344,9 +412,9 @@ half writes; codes are added as the judge prints them", "loop: 14 plans with one
     def test_all_forms_in_one_command(self):
         done = self.loop("-j", 2, "--junit", "--json", "--page", "--progress", "--into", self.here, NOTE, FLAW="unchecked_sync")
         self.assertEqual(done.status, 1)
-        self.assertEqual(json.loads((self.here / "report.json").read_text())["counts"]["fail"], 1)
+        self.assertEqual(json.loads((self.here / "report.json").read_text())["counts"]["fail"], 2)
         suite = xml.etree.ElementTree.parse(self.here / "junit.xml").getroot()[0]
-        self.assertEqual((suite.get("tests"), suite.get("failures")), ("17", "1"))
+        self.assertEqual((suite.get("tests"), suite.get("failures")), ("17", "2"))
         self.assertIn("<html", (self.here / "page.html").read_text())
         self.assertRegex(done.told, r"loop: 1 answered, 14 still to answer, 0 failing, time left (unknown|0:00:\d\d)\n")
 

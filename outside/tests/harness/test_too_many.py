@@ -33,7 +33,7 @@ class TooMany(Campaigns):
         self.assertTrue((self.here / "two" / "page.html").exists())
 
     def test_settings_that_the_loop_makes(self):
-        self.lowered("--depth", 2)
+        self.lowered("--depth", 2, "--no-kinds")
 
     def test_settings_of_ones_own_stay_as_they_are(self):
         own = self.here / "own.toml"

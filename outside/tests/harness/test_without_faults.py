@@ -59,5 +59,60 @@ class Fails(Campaigns):
         self.assertNotIn("no change is pending", told)
 
 
+class GoesOn(Campaigns):
+    """A program that never syncs its folder, and renames before the sync; and one that writes in place."""
+
+    RUN = "#!/bin/sh\nprintf new > new && mv new note && sync note && echo saved\n"
+    IN_PLACE = "#!/bin/sh\nprintf new > note && echo saved\n"
+    JUDGE = '#!/bin/sh\n[ -e note ] || [ ! -s "$SAID" ] || { echo lost; exit 1; }\n[ ! -e note ] || [ "$(cat note)" = new ] || { echo torn; exit 1; }\n'
+
+    def test_what_one_may_do_is_told(self):
+        done = self.loop("-j", 2, self.harness(run=self.RUN, judge=self.JUDGE))
+        self.assertEqual(done.status, 1)
+        lines = done.told.splitlines()
+        self.assertIn("loop: the run without faults passes if no power cut comes: if the program promises no sync, --kill tries it so", lines)
+        self.assertIn("loop: if this is known, --known lost goes on, and counts what else fails", lines)
+        self.assertRegex(lines[-2], r"^the run without faults fails, so nothing else was tried; \d+\.\d s$")
+
+    def test_a_known_loss(self):
+        """It counts as passed; what else is broken in another state of the same run fails."""
+        folder = self.harness(run=self.RUN, judge=self.JUDGE)
+        done = self.loop("-j", 2, "--known", "lost", "--known", "never", folder)
+        self.assertEqual(done.status, 1, done.told)
+        self.assertEqual({answer.split("\t")[0] for answer in self.answers(folder)}, {"pass", "fail torn"})
+        self.assertIn("pass\tnone\t", "\n".join(self.answers(folder)))
+        self.assertRegex(done.told, r"\nloop: known: lost: [1-9]\d* judgements came to it, and count as passed\nloop: known: never: no judgement came to it\n")
+        self.assertEqual((folder / "report").read_text().splitlines()[0], "target harness, settings by paklour-loop, known: lost, never")
+        again = done.told.splitlines()[-1]
+        self.assertIn(" --known lost --known never --try ", again)
+        shown = self.loop(folder, "--known", "lost", "--known", "never", "--try", "none")
+        self.assertEqual((shown.status, shown.out.splitlines()[-2:]), (0, ["known: lost", "pass: without any fault"]))
+
+    def test_a_killed_program_alone(self):
+        """A rename before the sync is none of its flaws, and a file that is emptied before it is written is."""
+        folder = self.harness(run=self.RUN, judge=self.JUDGE)
+        self.assertEqual(self.loop("-j", 2, "--kill", folder).status, 0)
+        (folder / "run").write_text(self.IN_PLACE)
+        (folder / "answers").unlink()
+        done = self.loop("-j", 2, "--kill", folder)
+        self.assertEqual((done.status, {answer.split("\t")[0] for answer in self.answers(folder)}), (1, {"pass", "fail torn"}), done.told)
+        self.assertNotIn("power::", (folder / "settings.toml").read_text() + (folder / "answers").read_text())
+        self.assertEqual((folder / "report").read_text().splitlines()[0], "target harness, settings by paklour-loop, killed without a power cut")
+        self.assertIn("fail torn: the 1st sys::write (note) ends the run\n", done.told)
+
+    def test_what_it_cannot_judge(self):
+        folder = self.harness(run=self.RUN, judge=self.JUDGE, again=TRUE)
+        self.assertIn("loop: --kill: `again` of this harness begins after a power cut", self.loop("--kill", folder).told)
+        (folder / "again").unlink()
+        (folder / "settings.toml").write_text('target = "outside"\ndepth = 1\n[outside]\nlabel = "x"\ncodes = ["lost"]\npoints = ["sys::open"]\n')
+        self.assertIn("settings.toml has settings of your own: leave out power::keep there", self.loop("--kill", folder).told)
+
+    def test_a_crash_that_is_known(self):
+        folder = self.harness(run=SAVES.replace("&& sync .", "&& { sync . || { sh -c 'kill -ABRT $$'; exit 1; }; }"), judge=JUDGES)
+        for options, status in ([], 1), (["--known", "crashed"], 0):
+            done = self.loop("-j", 2, "--no-kinds", *options, "--into", self.here / f"into{status}", folder)
+            self.assertEqual((done.status, "fail crashed: " in done.told), (status, status == 1), done.told)
+
+
 if __name__ == "__main__":
     unittest.main()
