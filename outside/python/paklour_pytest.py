@@ -24,7 +24,6 @@ OLDEST = (3, 11)  # the Python that the loop needs
 STEPS = ("prepare", "run", "again", "judge")
 OF_HARNESS = (*STEPS, "environment", "order", "pin", "unjudged", "allowed", "states")  # what a harness.py may define; other words are options
 SHORT = {"jobs": "-j"}
-REFUSED, STALE = 2, ": delete it, and start again"  # how the loop ends, and what it says, if answers belong to another harness
 HEAD = """import importlib.util as _util
 import sys as _sys
 
@@ -81,7 +80,7 @@ class Campaigns:
             files = [Path(shutil.which("paklour")), *map(file_of, functions), *(self.here / path for path in listed(program))]
             keep(folder / "answers", program is not None, files)
             where = ["--into", folder, self.here / harness] if harness else [folder]
-            status, told = self.run(folder / "answers", [*loop_for(functions), *options, *where])
+            status, told = called([*loop_for(functions), *options, *where], self.here)
         if status:
             fail(told.rstrip("\n") or f"{LOOP} ended with {status} and printed nothing on standard error")
         print(told, end="", file=sys.stderr)
@@ -95,14 +94,6 @@ class Campaigns:
         folder = (cache.mkdir("paklour") if cache else self.request.getfixturevalue("tmp_path")).resolve() / short
         folder.mkdir(exist_ok=True)
         return folder
-
-    def run(self, answers, words):
-        """Calls the loop, and once more without the answers that it refuses. Its status, and what it wrote to standard error."""
-        status, told = called(words, self.here)
-        if status == REFUSED and told.startswith(f"loop: {answers} ") and STALE in told:
-            answers.unlink()
-            return called(words, self.here)
-        return status, told
 
 
 def called(words, here):
@@ -165,7 +156,9 @@ def file_of(function):
 
 
 def keep(answers, may, paths):
-    """Deletes answers of an earlier call, unless they may be kept and what these paths have is the same as then."""
+    """Deletes answers that the loop gave another name, and those of an earlier call, unless they may be kept and these paths have the same as then."""
+    for other in answers.parent.glob(f"{answers.name}.[0-9]*"):
+        other.unlink()
     sums = answers.with_name(".sums")
     now = "".join(f"{hashlib.sha256(file.read_bytes()).hexdigest()}  {file}\n" for path in paths for file in files_in(path))
     if not may or not sums.exists() or sums.read_text("utf-8") != now:

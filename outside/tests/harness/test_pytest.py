@@ -230,10 +230,12 @@ def test_it(paklour):
         first, second = self.pytest(), self.pytest()
         self.assertEqual(sorted(os.listdir(self.project / "saving")), ["judge", "run"])
         self.write("saving/judge", JUDGES + "# changed\n", 0o755)
-        third = self.pytest()
-        self.assertEqual([first[0], second[0], third[0]], [0, 0, 0], first[1] + second[1] + third[1])
+        third, fourth = self.pytest(), self.pytest()
+        self.assertEqual([done[0] for done in (first, second, third, fourth)], [0] * 4, first[1] + second[1] + third[1] + fourth[1])
         self.assertGreater(self.runs(first[1]), 1)
-        self.assertEqual((self.runs(second[1]), self.runs(third[1])), (1, self.runs(first[1])))
+        self.assertEqual([self.runs(done[1]) for done in (second, third, fourth)], [1, self.runs(first[1]), 1])
+        self.assertIn("so it is now", third[1])
+        self.assertEqual(list(self.project.rglob("answers.1")), [])
 
     def test_options(self):
         status, said = self.saves(SOUND, ", depth=2, kinds=False, strict=None, failures=1, whole=True")
