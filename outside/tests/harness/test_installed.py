@@ -61,6 +61,12 @@ class Installed(unittest.TestCase):
                 self.assertEqual((done.returncode, done.stderr), (0, ""))
                 self.assertIn(f"Usage: {name} ", done.stdout)
 
+    def test_the_plugin_of_pytest_is_there(self):
+        """In the folder that docs/TEST_SUITES.md names."""
+        place = "lib/paklour/python"
+        self.assertEqual(os.listdir(self.prefix / place), ["paklour_pytest.py"])
+        self.assertIn(f"\npythonpath = /usr/{place}\n", (TOP / "docs" / "TEST_SUITES.md").read_text("utf-8"))
+
     def test_each_has_a_page_and_completions(self):
         share = self.prefix / "share"
         for place in ("man/man1/{}.1", "bash-completion/completions/{}", "zsh/site-functions/_{}", "fish/vendor_completions.d/{}.fish"):
