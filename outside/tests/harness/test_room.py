@@ -72,7 +72,7 @@ class Taken(Large):
         self.assertEqual(done.status, 5, done.told)
         said = [line for line in done.told.splitlines() if line.startswith("unresolved: ")]
         self.assertEqual(len(said), 1, done.told)
-        self.assertRegex(said[0], r"^unresolved: it took more than the \d+ bytes that all runs together may take \(--room\): sys::fsync=1\*return$")
+        self.assertRegex(said[0], r"^unresolved: it took more than the \d+ bytes that all runs together may take \(--room\): sys::(fsync=1\*return|open=1\*off->return)$")
         unresolved = {answer.split("\t")[1] for answer in self.answers(folder) if not answer.startswith("pass")}
         # Where its first open fails, `sync` tries another.
         self.assertEqual(unresolved, {"sys::fsync=1*return", "sys::open=1*off->return"})
