@@ -91,9 +91,14 @@ class Model:
             if self.live.kinds[change.makes] == "file":
                 self.moments[change.makes] = [Moment(b"", position=len(self.sequence) + 1)]
         for part, (folder, name, number) in zip(self.next_parts(change, len(change.parts)), change.parts):
-            self.entries.setdefault((folder, name), [Version(None, None)]).append(Version(part, number))
-            if folder in self.synced_folders and change.makes is None:
+            versions = self.entries.setdefault((folder, name), [Version(None, None)])
+            if change.makes is None and (folder in self.synced_folders or self.profile.leaves["names"] == "any"):
                 self.may_last.add(part)
+                if number is not None and versions[-1].value is not None:  # what was there is taken away, and what takes its place isn't there
+                    gone = (part[0], part[1] + len(change.parts))
+                    versions.append(Version(gone, None))
+                    self.may_last.add(gone)
+            versions.append(Version(part, number))
 
     def take_contents(self, change: Contents) -> None:
         moments = self.moments[change.number]
@@ -223,7 +228,7 @@ class Model:
         """The changes of the sequence that are there, and those that are there or not, each for itself."""
         every = self.all_parts(len(self.sequence))
         if self.profile.leaves["names"] == "any":
-            yield self.lasting, every - self.lasting
+            yield self.lasting, (every | self.may_last) - self.lasting
             return
         first = next((part[0] for part in sorted(every) if part not in self.lasting), len(self.sequence))
         for count in range(first, len(self.sequence) + 1):
