@@ -66,7 +66,7 @@ def lacking(file_system: str) -> str:
             return f"no {name}"
     if not RECORDER.exists():
         return "no recorder, which needs libfuse3-dev"
-    for program in (FORMATS[file_system].make[0], "losetup", "fusermount3"):
+    for program in (FORMATS[file_system].make[0], "losetup"):
         if not shutil.which(program):
             return f"no {program}"
     kind = FORMATS[file_system].type or file_system
