@@ -205,14 +205,14 @@ describe("in Chromium", { skip: program === null ? "Chromium isn't installed, so
   const rows = () => browser.evaluate(`[...document.querySelectorAll(".finding details[open] tr")].map((row) =>
     [...row.cells].map((cell) => cell.textContent).join("|") + (row.className ? " " + row.className : ""))`);
 
-  test("the first failure stands hit by hit beside the run without faults, and the page tells how it is made again", async () => {
+  test("the first failure stands hit by hit beside the run without its last fault, and the page tells how it is made again", async () => {
     const document = JSON.parse(exampleReport("replace_rename_first"));
     await open(document);
     assert.deepEqual(await rows(), [
-      "hit|this run|hit|the run without faults", "1|1st create|1|1st create same", "2|1st write|2|1st write same", "3|2nd write|3|2nd write same",
-      "4|1st rename|4|1st rename same", "5|1st sync fails|5|1st sync fault-line", "6|1st pending change isn\u2019t kept|6|1st sync_dir",
-      "7|2nd pending change isn\u2019t kept||\u2013", "8|3rd pending change isn\u2019t kept||\u2013", "9|4th pending change is kept||\u2013 fault-line",
-      "|fail torn||pass ends"]);
+      "hit|this run|hit|the run without its last fault", "1|1st create|1|1st create same", "2|1st write|2|1st write same", "3|2nd write|3|2nd write same",
+      "4|1st rename|4|1st rename same", "5|1st sync fails|5|1st sync fails fault-line",
+      ...["6|1st", "7|2nd", "8|3rd"].map((hit) => `${hit} pending change isn\u2019t kept|${hit} pending change isn\u2019t kept same`),
+      "9|4th pending change is kept|9|4th pending change isn\u2019t kept fault-line", "|fail torn||pass ends"]);
     const again = await browser.evaluate("document.getElementById('again').textContent");
     const { program_version: version, command, settings } = document.about;
     for (const text of [`paklour ${version}`, command, settings.trim()]) assert.ok(again.includes(text), text);

@@ -158,17 +158,18 @@ test("a run that is drawn by chance is that of its plan alone", () => {
   assert.notEqual(runKey(3, "a=20%return"), runKey(4, "a=20%return"));
 });
 
-test("the run of a finding, beside the run without faults", () => {
+test("the run of a finding, beside that of the plan from which its plan grew", () => {
   const campaign = campaignBy(exampleReport("replace_rename_first"));
   const run = campaign.runs.get("replace::sync=1*return;power::keep=3*off->1*return");
   const other = campaign.runs.beside(run);
-  assert.equal(other.scenario, "");
+  assert.equal(other.scenario, "replace::sync=1*return");
   const lines = linesOf(run, other, campaign.names);
   assert.deepEqual(lines.map(({ here, there, same, fault }) => [`${here.ordinal} ${here.point}`, here.answer, there?.point ?? null, same, fault]), [
     ["1 replace::create", null, "replace::create", true, false], ["1 replace::write", null, "replace::write", true, false],
     ["2 replace::write", null, "replace::write", true, false], ["1 replace::rename", null, "replace::rename", true, false],
-    ["1 replace::sync", "return", "replace::sync", false, true], ["1 power::keep", null, "replace::sync_dir", false, false],
-    ["2 power::keep", null, null, false, false], ["3 power::keep", null, null, false, false], ["4 power::keep", "return", null, false, true]]);
+    ["1 replace::sync", "return", "replace::sync", true, true], ["1 power::keep", null, "power::keep", true, false],
+    ["2 power::keep", null, "power::keep", true, false], ["3 power::keep", null, "power::keep", true, false],
+    ["4 power::keep", "return", "power::keep", false, true]]);
 });
 
 test("each run first differs from the one beside it at a fault", () => {
