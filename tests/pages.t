@@ -72,6 +72,7 @@ Where the other shells are installed, they read their own.
   loop
   new
   out
+  python
   
   here/usr/share/doc/paklour:
   CHANGELOG.md
