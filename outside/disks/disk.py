@@ -69,6 +69,8 @@ def lacking(file_system: str) -> str:
     for program in (FORMATS[file_system].make[0], "losetup"):
         if not shutil.which(program):
             return f"no {program}"
+    if subprocess.run(["unshare", "--mount", "losetup", "--find"], capture_output=True, check=False).returncode:
+        return "no right to mount, or no free loop device"
     kind = FORMATS[file_system].type or file_system
     if shutil.which("modprobe"):
         subprocess.run(["modprobe", "-q", kind], check=False)
