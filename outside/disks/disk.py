@@ -62,7 +62,7 @@ def lacking(file_system: str) -> str:
     if os.geteuid() != 0:
         return "no root"
     for name in ("/dev/fuse", "/dev/loop-control"):
-        if not os.path.exists(name):
+        if not os.access(name, os.R_OK | os.W_OK):
             return f"no {name}"
     if not RECORDER.exists():
         return "no recorder, which needs libfuse3-dev"
