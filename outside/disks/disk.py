@@ -20,6 +20,7 @@ BLOCK = 4096
 BLKFLSBUF = 0x1261  # an ioctl: nothing of a device stays in memory
 CLONE_NEWNS = 0x20000
 MS_PRIVATE_ALL = 0x44000
+ALL_USERS = ["0", "0", "4294967295"]  # as /proc/self/uid_map has them where root is the root of the system
 MNT_DETACH = 2
 WRITE, FLUSH, MARK = range(3)
 RECORD = struct.Struct("=QQQ")
@@ -59,7 +60,7 @@ def called(*words: str) -> str:
 
 def lacking(file_system: str) -> str:
     """Why no disk of this file system can be recorded here, or nothing if it can."""
-    if os.geteuid() != 0:
+    if os.geteuid() != 0 or Path("/proc/self/uid_map").read_text(encoding="ascii").split() != ALL_USERS:
         return "no root"
     for name in ("/dev/fuse", "/dev/loop-control"):
         if not os.access(name, os.R_OK | os.W_OK):
