@@ -15,7 +15,7 @@ NOTE = "campaign.json"  # beside the answers: says to which harness they belong
 FAILING = "failing"  # the scenarios that failed once: answers don't depend on them
 SET_ASIDE = re.compile(r"answers\.[0-9]+")  # answers that belong to a harness as it was before
 WRITTEN = {"answers", NOTE, FAILING, "report", "page.html", "junit.xml", "report.json",  # files that the loop writes beside a harness
-    *(f"{name}.new" for name in ("campaign", "settings", "report", "page", "junit"))}  # and what it renames to these
+    *(f"{name}.new" for name in ("campaign", "settings", "settings.lowered", FAILING, "report", "page", "junit"))}  # and what it renames to these
 TOLD = 3  # at most so many names of what differs are printed
 
 Identity = dict[str, object]  # as JSON has it

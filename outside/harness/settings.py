@@ -102,7 +102,7 @@ class Settings:
             return
         lowered = re.sub(r"^([ \t]*[\"']?depth[\"']?[ \t]*=[ \t]*)[0-9]+", rf"\g<1>{self.depth}", text_of(self.path), count=1, flags=re.MULTILINE)
         self.path = self.folder / LOWERED
-        self.path.write_text(lowered, "utf-8", "surrogateescape")
+        tree.write(self.path, lowered.encode("utf-8", "surrogateescape"))
 
     def take_code(self, answer: str) -> None:
         """Adds the code of an answer to the settings, before the answer is recorded."""

@@ -13,7 +13,7 @@ OUTPUT, ERRORS = 1, 2
 RED, GREEN, YELLOW = "31", "32", "33"  # as a terminal has them
 CLEAR = "\r\x1b[K"  # makes a terminal's line empty
 COLUMNS = 80  # of a terminal that doesn't know its size
-CONTROL = re.compile(r"[\x00-\x1f\x7f]")
+CONTROL = re.compile(r"[\x00-\x1f\x7f-\x9f\udc80-\udc9f]")  # those of Unicode, as which a terminal may also take bytes that are no UTF-8
 LAST_LINES, LAST_BYTES = 5, 65536  # of what a program wrote, at most so much is shown
 
 
@@ -49,8 +49,8 @@ def write_out(text: bytes) -> None:
 
 
 def escaped(text: str) -> str:
-    """The text with each control byte as \\x1b."""
-    return CONTROL.sub(lambda found: f"\\x{ord(found[0]):02x}", text)
+    """The text with each control character as \\x1b."""
+    return CONTROL.sub(lambda found: f"\\x{ord(found[0]) & 0xff:02x}", text)
 
 
 def plain(text: bytes, most: int) -> str:

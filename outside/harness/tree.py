@@ -124,7 +124,9 @@ def write(path: Path, contents: bytes) -> None:
     """Writes a file, whole or not at all. If that fails, the error has the file's name, which Python itself gives only if it can't be opened."""
     new = path.with_suffix(".new")
     try:
-        new.write_bytes(contents)
+        new.unlink(missing_ok=True)  # what a loop that was killed has left, or a link, through which nothing is to be written
+        with open(new, "xb") as file:
+            file.write(contents)
         new.rename(path)
     except OSError as error:
         new.unlink(missing_ok=True)

@@ -234,7 +234,8 @@ void place_of(const struct found *found, struct place *place);
 
 /* ---- hits */
 
-/* Counts a hit and returns what the call does. With HALF it moves half of what it would have moved. With NOT_YET it has to wait, and is served again later. With FAIL it has been answered already. */
+/* Counts a hit and returns what the call does. With HALF it moves half of what it would have moved. With NOT_YET it has to wait, and is served again
+   later. With FAIL it has been answered already. */
 enum answer hit(struct call *call, enum point point, const char *path, const char *flags);
 
 /* Half of so many bytes, at least one: a program that goes on with the rest comes to its end. */

@@ -1,4 +1,4 @@
-"""The loop deletes its own folders, and nothing that is mounted in them."""
+"""The loop deletes its own folders, and nothing that is mounted in them, and writes through no link."""
 
 import contextlib
 import os
@@ -63,6 +63,14 @@ class Folders(Campaigns):
         for name in ("link", "file"):
             tree.remove(self.here / name)
         self.assertEqual(os.listdir(self.here), ["bin"])
+
+    def test_nothing_is_written_through_a_link(self):
+        (self.here / "other").write_text("another's")
+        for name in ("report", "report.new"):
+            (self.here / name).symlink_to("other")
+        tree.write(self.here / "report", b"a report")
+        self.assertEqual([(self.here / name).read_text() for name in ("other", "report")], ["another's", "a report"])
+        self.assertFalse((self.here / "report").is_symlink() or os.path.lexists(self.here / "report.new"))
 
 
 @unittest.skipUnless(may_mount(), "nothing may be mounted here")

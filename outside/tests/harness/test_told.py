@@ -262,6 +262,12 @@ class Shown(Campaigns):
         self.assertNotIn("\033", done.told)
         self.assertIn('fail co?de"', done.told)
 
+    def test_other_characters_that_control_a_terminal(self):
+        """U+009B begins a command of a terminal by itself, and some terminals also take the byte alone for it. No other letter is changed."""
+        run = "#!/bin/sh\nname=$(printf 'a\\302\\233b\\233c\\303\\251')\nprintf x > \"$name\"; echo done\n"
+        done = self.loop("-j", 1, self.harness(run=run, judge="#!/bin/sh\n[ -s a* ] || { echo lost; exit 1; }\n"))
+        self.assertIn("\npending: 1 create a\\x9bb\\x9bc\u00e9 -\n", done.told)
+
     def test_letters_of_any_kind(self):
         judge = "#!/bin/sh\n[ ! -s \"$SAID\" ] || exit 0\necho 'lost \U0001f600 \"\\'\nexit 1\n"
         folder = self.harness(run=SAVES, judge=judge).rename(self.here / 'a \U0001f600 "\x7f')
