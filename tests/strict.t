@@ -91,10 +91,10 @@ A control character of a listed scenario stands in the report as it is, so that 
   $ paklour try --scenario "replace::sync=print($(printf '\033'))" small.toml 2>&1 > /dev/null
   scenario: a control character: what follows it in the text may look like a line of its own
 
-On standard error somebody else's names have each control character as `\x` and two digits, so they say nothing to the terminal, and begin no line.
+On standard error a key, a name or a word of answers has each control character as `\x` and two digits, so none begins a line or a command of the terminal.
 
-  $ sed '1a "pears\\u001b[31m\\nfirst none" = 1' small.toml | paklour run
-  settings: unknown key pears\x1b[31m\x0afirst none
+  $ sed '1a "pears\\u001b[31m\\u009b\\nfirst none" = 1' small.toml | paklour run
+  settings: unknown key pears\x1b[31m\x9b\x0afirst none
   [2]
   $ paklour try --scenario "evil$(printf '\033\177é')[2J=1*return" small.toml 2>&1 > /dev/null
   scenario: no point is named evil\x1b\x7fé[2J

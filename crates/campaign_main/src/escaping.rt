@@ -10,14 +10,14 @@ use std::fmt::Write;
 fn write_shown(out: &mut String, character: char) -> Result<(), AllocError>
     ensures { OnOk result (string_bytes out.new ≡ string_bytes out.old ++ shown character) }
 {
-    if character.is_ascii_control() {
+    if character.is_control() {
         write!(out, "\\x{:02x}", character as u32)
     } else {
         out.push(character)
     }
 }
 
-/// Appends a text with each ASCII control character as `\x1b`.
+/// Appends a text with each control character as `\x1b`.
 pub fn write_escaped(out: &mut String, text: &str) -> Result<(), AllocError>
     ensures { OnOk result (string_bytes out.new ≡ string_bytes out.old ++ escaped text.now) }
 {
