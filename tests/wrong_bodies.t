@@ -3,27 +3,27 @@ worked out by hand from the head of the tool.
 
   $ PATH="$TESTDIR/toy:$PATH"; bodies() { "$TESTDIR/../tools/wrong_bodies" "$@"; }
   $ git init -q . && git config user.name t && git config user.email t@example.org
-  $ mkdir -p crates/toy/src crates/toy/must-fail crates/toy/proofs/scripted
+  $ mkdir -p tools crates/toy/src crates/toy/must-fail crates/toy/proofs/scripted
   $ for name in plain other scripted; do printf 'fn %s() {\n    proved %s\n}\n\n' $name $name; done > crates/toy/src/lib.rt
   $ printf 'use a\n\npub returns : goal.returns\nreturns c = c\n\npub old : goal.old\nold c = c\n' > crates/toy/proofs/scripted/Answers.antt
   $ edit() { printf 'file: src/lib.rt\nold: proved %s\nnew: %s\n' "$2" "$3" > "crates/toy/must-fail/$1.edit"; }
 
 A body is refused where a goal stays open, or where its answer doesn't prove it; the first goal is told. One that is proved isn't refused.
 
-  $ edit open plain 'open returns'; edit answered other 'script sums'
+  $ edit open plain 'open returns'; edit answered other 'script returns-sums'
   $ bodies --all
-  toy/answered: refused: toy::other at sums
-  toy/open: refused: toy::plain at returns
+  toy/answered: refused: toy::other at returns-sums (whole)
+  toy/open: refused: toy::plain at returns (whole)
   2 passed, 0 failed
   $ edit open plain 'cycle returns'
   $ bodies --all
-  toy/answered: refused: toy::other at sums
-  toy/open: refused: toy::plain at returns
+  toy/answered: refused: toy::other at returns-sums (whole)
+  toy/open: refused: toy::plain at returns (whole)
   2 passed, 0 failed
   $ edit right plain 'proved otherwise'; edit open plain 'open returns'
   $ bodies --all
-  toy/answered: refused: toy::other at sums
-  toy/open: refused: toy::plain at returns
+  toy/answered: refused: toy::other at returns-sums (whole)
+  toy/open: refused: toy::plain at returns (whole)
   toy/right: NOT REFUSED: proved
   2 passed, 1 failed
   [1]
@@ -33,41 +33,90 @@ Where only the script doesn't fit, as it names a goal that the edit took away, t
 
   $ edit stale scripted 'gone old'
   $ bodies toy
-  toy/answered: refused: toy::other at sums
-  toy/open: refused: toy::plain at returns
+  toy/answered: refused: toy::other at returns-sums (whole)
+  toy/open: refused: toy::plain at returns (whole)
   toy/stale: NOT REFUSED: proved
   2 passed, 1 failed
   [1]
   $ edit stale scripted 'gone old open returns'
   $ bodies toy
-  toy/answered: refused: toy::other at sums
-  toy/open: refused: toy::plain at returns
-  toy/stale: refused: toy::scripted at returns
+  toy/answered: refused: toy::other at returns-sums (whole)
+  toy/open: refused: toy::plain at returns (whole)
+  toy/stale: refused: toy::scripted at returns (without)
   3 passed, 0 failed
+
+A long error goes on in lines that begin with two blanks. An error in a lemma takes that lemma away, and neither what is imported nor the answers behind it.
+
+  $ edit stale scripted 'long old'
+  $ bodies toy | grep stale
+  toy/stale: NOT REFUSED: proved
+  $ cp crates/toy/proofs/scripted/Answers.antt answers; sed -i '2a help : x\nhelp = x\n' crates/toy/proofs/scripted/Answers.antt
+  $ edit stale scripted 'lemma help'
+  $ bodies toy | grep stale
+  toy/stale: NOT REFUSED: proved
+  $ mv answers crates/toy/proofs/scripted/Answers.antt; edit stale scripted 'gone old open returns'; bodies toy > told
+
+An edit is refused for its reason at a goal of its own function, or at one that it names.
+
+  $ edit open plain 'open fill-requires'
+  $ bodies toy | grep open
+  toy/open: NOT REFUSED: it is refused at no goal of its own, toy::plain at fill-requires
+  $ echo 'at: fill-requires' >> crates/toy/must-fail/open.edit
+  $ bodies toy | grep open
+  toy/open: refused: toy::plain at fill-requires (whole)
+  $ edit open plain 'open returns'
+
+Where answers were left out, they are from the body as it is too: a clause that isn't proved there either shows nothing, whatever the way to it is. A right body in
+the edit's shape shows it, or a reason that somebody wrote.
+
+  $ sed -i 's/proved scripted/needs returns/' crates/toy/src/lib.rt
+  $ renamed() { printf 'file: src/lib.rt\nold: needs returns\nnew: gone returns open %s\n%s\n' "$1" "${2-}" > crates/toy/must-fail/stale.edit; bodies toy | grep stale; }
+  $ renamed returns-else
+  toy/stale: NOT REFUSED: its control isn't proved either, toy::scripted at returns-else
+  $ renamed returns-else-clause-sum
+  toy/stale: refused: toy::scripted at returns-else-clause-sum (without)
+  $ renamed returns-else 'right: proved otherwise'; renamed returns-else 'right: open returns'; renamed returns-else 'by hand: the sum is one too large'
+  toy/stale: refused: toy::scripted at returns-else (right)
+  toy/stale: NOT REFUSED: its control isn't proved either, toy::scripted at returns-else
+  toy/stale: refused: toy::scripted at returns-else (by hand)
+  $ echo 'by hand: so it is' >> crates/toy/must-fail/open.edit
+  $ bodies toy | grep more
+  NOT REFUSED: more than one edit in 20 is judged by hand: toy/open, toy/stale
+  $ sed -i 's/needs returns/proved scripted/' crates/toy/src/lib.rt; edit open plain 'open returns'; edit stale scripted 'gone old open returns'; bodies toy > told
+
+What was refused before there were controls stays so in the gate, until it is tried anew.
+
+  $ sed -i 's/proved scripted/needs returns/' crates/toy/src/lib.rt; renamed returns-else
+  toy/stale: NOT REFUSED: its control isn't proved either, toy::scripted at returns-else
+  $ printf 'toy/stale\t0\ttoy::scripted\treturns-else\tunshown\n' >> tools/wrong_bodies.tsv; bodies | grep stale
+  toy/stale: refused: toy::scripted at returns-else (unshown)
+  $ bodies toy | grep stale
+  toy/stale: NOT REFUSED: its control isn't proved either, toy::scripted at returns-else
+  $ sed -i 's/needs returns/proved scripted/' crates/toy/src/lib.rt; edit stale scripted 'gone old open returns'; bodies toy > told
 
 The list has where each was refused, and a digest of what that rests on.
 
-  $ cut -f 1,3,4 must-fail.tsv
-  toy/answered	toy::other	sums
-  toy/open	toy::plain	returns
-  toy/stale	toy::scripted	returns
-  $ cut -f 2 must-fail.tsv | grep -cE '^[0-9a-f]{20}$'
+  $ cut -f 1,3- tools/wrong_bodies.tsv
+  toy/answered	toy::other	returns-sums	whole
+  toy/open	toy::plain	returns	whole
+  toy/stale	toy::scripted	returns	without
+  $ cut -f 2 tools/wrong_bodies.tsv | grep -cE '^[0-9a-f]{20}$'
   3
 
 Without a word those are tried that the list doesn't have as they are now, those of a promise, and up to 20 that are drawn, at most five of a crate: here all. One
 that is refused elsewhere than the list says fails, and so does a line without an edit.
 
   $ bodies
-  toy/answered: refused: toy::other at sums
-  toy/open: refused: toy::plain at returns
-  toy/stale: refused: toy::scripted at returns
+  toy/answered: refused: toy::other at returns-sums (whole)
+  toy/open: refused: toy::plain at returns (whole)
+  toy/stale: refused: toy::scripted at returns (without)
   3 passed, 0 failed
-  $ sed -i 's/sums$/products/' must-fail.tsv; printf 'toy/lost\t0\ttoy::plain\treturns\n' >> must-fail.tsv
+  $ sed -i 's/returns-sums/returns-products/' tools/wrong_bodies.tsv; printf 'toy/lost\t0\ttoy::plain\treturns\twhole\n' >> tools/wrong_bodies.tsv
   $ bodies
-  toy/lost: NOT REFUSED: must-fail.tsv has a line for it, and there is no such edit
-  toy/answered: NOT REFUSED where must-fail.tsv says, toy::other at products, but toy::other at sums
-  toy/open: refused: toy::plain at returns
-  toy/stale: refused: toy::scripted at returns
+  toy/lost: NOT REFUSED: tools/wrong_bodies.tsv has a line for it, and there is no such edit
+  toy/answered: NOT REFUSED where tools/wrong_bodies.tsv says, toy::other at returns-products, but toy::other at returns-sums
+  toy/open: refused: toy::plain at returns (whole)
+  toy/stale: refused: toy::scripted at returns (without)
   2 passed, 2 failed
   [1]
 
@@ -78,22 +127,22 @@ isn't refused there.
   $ printf 'const LIMIT: u32 = 1;\n' >> crates/toy/src/lib.rt; edit wide other 'open returns'; printf 'old: u32 = 1\nnew: u32 = 2\n' >> crates/toy/must-fail/wide.edit
   $ checks --all; checks
   toy, the whole crate: wide
-  toy/wide: refused: toy::other at returns
+  toy/wide: refused: toy::other at returns (whole)
   1 passed, 0 failed
   toy: wide
-  toy/wide: refused: toy::other at returns
+  toy/wide: refused: toy::other at returns (whole)
   1 passed, 0 failed
-  $ sed -i 's/toy::other/toy::plain/' must-fail.tsv; checks
+  $ sed -i 's/toy::other/toy::plain/' tools/wrong_bodies.tsv; checks
   toy: wide
   toy, the whole crate: wide
-  toy/wide: NOT REFUSED where must-fail.tsv says, toy::plain at returns, but toy::other at returns
+  toy/wide: NOT REFUSED where tools/wrong_bodies.tsv says, toy::plain at returns, but toy::other at returns
   0 passed, 1 failed
-  $ rm crates/toy/must-fail/wide.edit; edit open plain 'open returns'; edit answered other 'script sums'; edit stale scripted 'gone old open returns'
+  $ rm crates/toy/must-fail/wide.edit; edit open plain 'open returns'; edit answered other 'script returns-sums'; edit stale scripted 'gone old open returns'
 
 Of a public constant with a text of more than 4,096 bytes its name counts, and not what the text is; a shorter text counts, and so does one that isn't public.
 
   $ constant() { printf '%s WHOLE: &str = r###"%s"###;\n\npub const LAST: &str = r###"z"###;\n' "$1" "$(head -c "$2" /dev/zero | tr '\0' "$3")" > crates/toy/src/text.rt; }
-  $ digest() { bodies --all > told; cut -f 2 must-fail.tsv | head -n 1; }
+  $ digest() { bodies --all > told; cut -f 2 tools/wrong_bodies.tsv | head -n 1; }
   $ same() { [ "$(digest)" = "$last" ] && echo same || { last=$(digest); echo another; }; }
   $ constant 'pub const' 4097 a; same; constant 'pub const' 9000 b; same
   another
@@ -253,7 +302,7 @@ What is imported under another name is named by that, in the crate, and in the o
 Where crates are named, the edits of others aren't looked at, and their lines stay.
 
   $ sed 's/proved/nowhere/' crates/toy/must-fail/open.edit > edit; mkdir -p crates/low/src crates/low/must-fail; echo > crates/low/src/lib.rt; mv edit crates/low/must-fail/bad.edit
-  $ printf 'low/bad\t0\tlow::near\treturns\n' >> must-fail.tsv; stale toy; stale low; grep -c ^low/bad must-fail.tsv; rm -r crates/low; bodies --stale no
+  $ printf 'low/bad\t0\tlow::near\treturns\twhole\n' >> tools/wrong_bodies.tsv; stale toy; stale low; grep -c ^low/bad tools/wrong_bodies.tsv; rm -r crates/low; bodies --stale no
   2 passed, 0 failed
   0 passed, 1 failed
   1

@@ -8,7 +8,7 @@ use Rattle.std.proofs.lemmas.Option.{slice_get-get_or, slice_get_within}
 use Rattle.answered_runs.specs.declared.segments.Segment.{Segment}
 use Rattle.answered_runs.specs.declared.tree.Next.TheVariants.{Hit}
 use Rattle.answered_runs.specs.declared.tree.Said.{Said}
-use Rattle.answered_runs.specs.inside.Segments.{AreLaid, IsNumberAt, IsPutOn, answer_at, expand, segment_at}
+use Rattle.answered_runs.specs.inside.Segments.{AreLaid, ArePutOn, IsAlike, IsNumberAt, IsPutOn, answer_at, expand, segment_at}
 
 pub laid_up : (first : ℕ) (ss : List Segment) (end : ℕ) → AreLaid first ss end → first ≤ end
 laid_up first [] end e = omega (arith, e)
@@ -230,3 +230,110 @@ of_number ss place number end d is = sym is.segment ∙ slice_get-get_or ss numb
 
 pub said_of : (ss : List Segment) (end place : ℕ) (s : Segment) → AreLaid 0 ss end → segment_at ss place ≡ Some s → slice_get (expand ss) place ≡ Some s.said
 said_of ss end place s laid e = said_in 0 ss end place s laid (ap (segment_at ss) (let same : 0 + place ≡ place = omega arith in same) ∙ e)
+
+-- ---- places of one segment
+
+-- where a segment lies that has a place
+lies : (first : ℕ) (ss : List Segment) (end place : ℕ) (s : Segment) → AreLaid first ss end → first ≤ place → segment_at ss place ≡ Some s
+    → (s.first ≤ place) × (place < s.first + s.count) × (s.first + s.count ≤ end)
+lies first [] end place s laid low e = absurd cc
+lies first (x ∷ ss) end place s (is, some, rest) low e = by_test (lies (first + x.count) ss end place s rest) (nat_lt place (x.first + x.count)) refl e
+  where
+    by_test : (first + x.count ≤ place → segment_at ss place ≡ Some s → (s.first ≤ place) × (place < s.first + s.count) × (s.first + s.count ≤ end)) → (b : Bool) → nat_lt place (x.first + x.count) ≡ b
+        → cond b (Some x) (segment_at ss place) ≡ Some s → (s.first ≤ place) × (place < s.first + s.count) × (s.first + s.count ≤ end)
+    by_test later true f h =
+        let same : x ≡ s = cc in
+        let up = laid_up (first + x.count) ss end rest in
+        subst (λ (y : Segment). (y.first ≤ place) × (place < y.first + y.count) × (y.first + y.count ≤ end)) same
+        (omega (arith, is, low), grind (arith, nat_tests, f), omega (arith, is, up))
+    by_test later false f h = later (grind (arith, nat_tests, f, is)) h
+
+-- a segment that has a place has the further ones before its end
+also_there : (first : ℕ) (ss : List Segment) (end place n : ℕ) (s : Segment) → AreLaid first ss end → first ≤ place → segment_at ss place ≡ Some s → place ≤ n → n < s.first + s.count
+    → segment_at ss n ≡ Some s
+also_there first [] end place n s laid low e up less = absurd cc
+also_there first (x ∷ ss) end place n s (is, some, rest) low e up less =
+    by_test (λ past. also_there (first + x.count) ss end place n s rest past) (nat_lt place (x.first + x.count)) refl e
+  where
+    by_test : (first + x.count ≤ place → segment_at ss place ≡ Some s → place ≤ n → n < s.first + s.count → segment_at ss n ≡ Some s) → (b : Bool) → nat_lt place (x.first + x.count) ≡ b
+        → cond b (Some x) (segment_at ss place) ≡ Some s → cond (nat_lt n (x.first + x.count)) (Some x) (segment_at ss n) ≡ Some s
+    by_test later true f h =
+        let same : x ≡ s = cc in
+        let within : n < x.first + x.count = subst (λ (y : Segment). n < y.first + y.count) (sym same) less in
+        ap (λ (b : Bool). cond b (Some x) (segment_at ss n)) (below n (x.first + x.count) within) ∙ h
+    by_test later false f h =
+        let past : x.first + x.count ≤ place = grind (arith, nat_tests, f) in
+        ap (λ (b : Bool). cond b (Some x) (segment_at ss n)) (not_below n (x.first + x.count) (omega (arith, past, up))) ∙ later (omega (arith, past, is)) h up less
+
+module _ (ss : List Segment) (end place : ℕ) (s : Segment) (laid : AreLaid 0 ss end) (at : segment_at ss place ≡ Some s) where
+  pub lies_there : (s.first ≤ place) × (place < s.first + s.count) × (s.first + s.count ≤ end)
+  lies_there = lies 0 ss end place s laid (omega arith) at
+
+  pub alike : (n : ℕ) → place + n + 1 < s.first + s.count → IsAlike ss s.answer place n
+  alike n less = record {
+    leads = answer_in ss (place + n) s (also_there 0 ss end place (place + n) s laid (omega arith) at (omega arith) (omega (arith, less)));
+    said = said_of ss end (place + n + 1) s laid (also_there 0 ss end place (place + n + 1) s laid (omega arith) at (omega arith) less) ∙ sym (said_of ss end place s laid at);
+  }
+
+-- ---- several places more
+
+set_same : (ss : List Segment) (i : ℕ) (s : Segment) → slice_get ss i ≡ Some s → slice_set ss i s ≡ ss
+set_same [] i s e = absurd cc
+set_same (x ∷ ss) zero s e = let same : x ≡ s = cc in ap (λ (y : Segment). y ∷ ss) (sym same)
+set_same (x ∷ ss) (suc i) s e = ap (λ (l : List Segment). x ∷ l) (set_same ss i s e)
+
+set_twice : (ss : List Segment) (i : ℕ) (s t : Segment) → slice_set (slice_set ss i s) i t ≡ slice_set ss i t
+set_twice [] i s t = refl
+set_twice (x ∷ ss) zero s t = refl
+set_twice (x ∷ ss) (suc i) s t = ap (λ (l : List Segment). x ∷ l) (set_twice ss i s t)
+
+get_set : (ss : List Segment) (i : ℕ) (s t : Segment) → slice_get ss i ≡ Some s → slice_get (slice_set ss i t) i ≡ Some t
+get_set [] i s t e = absurd cc
+get_set (x ∷ ss) zero s t e = refl
+get_set (x ∷ ss) (suc i) s t e = get_set ss i s t e
+
+long_set : (ss : List Segment) (i : ℕ) (s : Segment) → length (slice_set ss i s) ≡ length ss
+long_set [] i s = refl
+long_set (x ∷ ss) zero s = refl
+long_set (x ∷ ss) (suc i) s = ap suc (long_set ss i s)
+
+set_end : (ss : List Segment) (s t : Segment) → slice_set (ss ++ s ∷ []) (length ss) t ≡ ss ++ t ∷ []
+set_end [] s t = refl
+set_end (x ∷ ss) s t = ap (λ (l : List Segment). x ∷ l) (set_end ss s t)
+
+get_end : (ss : List Segment) (s : Segment) → slice_get (ss ++ s ∷ []) (length ss) ≡ Some s
+get_end [] s = refl
+get_end (x ∷ ss) s = get_end ss s
+
+long_end : (ss : List Segment) (s : Segment) → suc (length ss) ≡ length (ss ++ s ∷ [])
+long_end [] s = refl
+long_end (x ∷ ss) s = ap suc (long_end ss s)
+
+pub all_joined : (n : ℕ) (old : List Segment) (i : ℕ) (s : Segment) (place : ℕ) (said : Said) (answer : ℕ) → AreLaid 0 old place → suc i ≡ length old
+    → slice_get old i ≡ Some s → s.said ≡ said → s.answer ≡ answer → ArePutOn n old (slice_set old i (record s { count = s.count + n })) place said answer
+all_joined zero old i s place said answer laid long e f g =
+    ap (λ (m : ℕ). slice_set old i (record s { count = m })) (let none : s.count + 0 ≡ s.count = omega arith in none) ∙ set_same old i s e
+all_joined (suc n) old i s place said answer laid long e f g =
+    let put = put_joined old i s place said answer laid long e f g in
+    let middle : List Segment = slice_set old i (longer s) in
+    let rest = all_joined n middle i (longer s) (place + 1) said answer put.laid (long ∙ sym (long_set old i (longer s))) (get_set old i s (longer s) e) f g in
+    let same : slice_set middle i (record s { count = (s.count + 1) + n }) ≡ slice_set old i (record s { count = s.count + suc n }) =
+    set_twice old i (longer s) (record s { count = (s.count + 1) + n }) ∙ ap (λ (m : ℕ). slice_set old i (record s { count = m })) (let more : (s.count + 1) + n ≡ s.count + suc n = omega arith in more)
+    in
+    (middle, put, subst (λ (l : List Segment). ArePutOn n middle l (place + 1) said answer) same rest)
+
+pub all_pushed : (n : ℕ) (old : List Segment) (place : ℕ) (said : Said) (answer : ℕ) → AreLaid 0 old place
+    → ArePutOn (suc n) old (old ++ record { first = place; count = suc n; said = said; answer = answer } ∷ []) place said answer
+all_pushed n old place said answer laid =
+    let one : Segment = record { first = place; count = 1; said = said; answer = answer } in
+    let middle : List Segment = old ++ one ∷ [] in
+    let put = put_pushed old place said answer laid in
+    let rest = all_joined n middle (length old) one (place + 1) said answer put.laid (long_end old one) (get_end old one) refl refl in
+    let same : slice_set middle (length old) (record one { count = 1 + n }) ≡ old ++ record { first = place; count = suc n; said = said; answer = answer } ∷ [] =
+    set_end old one (record one { count = 1 + n }) ∙ ap (λ (m : ℕ). old ++ record { first = place; count = m; said = said; answer = answer } ∷ []) (let more : 1 + n ≡ suc n = omega arith in more)
+    in
+    (middle, put, subst (λ (l : List Segment). ArePutOn n middle l (place + 1) said answer) same rest)
+
+-- one place more
+pub one_put : (old new : List Segment) (place : ℕ) (said : Said) (answer : ℕ) → ArePutOn 1 old new place said answer → IsPutOn old new place said answer
+one_put old new place said answer (middle, put, same) = subst (λ (l : List Segment). IsPutOn old l place said answer) (sym same) put

@@ -63,7 +63,7 @@ way_same a b e =
     ((Decides-eqb a.place b.place).0 f.0, (Decides-eqb a.answer b.answer).0 f.1)
 
 -- no way comes from a later place, or by a later number
-no_way : (ways : List (Way × ℕ)) (places most n a : ℕ) → AllByRecursion (λ (w : Way × ℕ). (w.0.place < places) × (w.0.answer < most)) ways → (places ≤ n) ⊎ (most ≤ a) → look ways n a ≡ None
+pub no_way : (ways : List (Way × ℕ)) (places most n a : ℕ) → AllByRecursion (λ (w : Way × ℕ). (w.0.place < places) × (w.0.answer < most)) ways → (places ≤ n) ⊎ (most ≤ a) → look ways n a ≡ None
 no_way [] places most n a all past = refl
 no_way (w ∷ ways) places most n a all past = by_test (no_way ways places most n a all.1 past) (way_eq (way_at n a) w.0) refl
   where
@@ -90,7 +90,7 @@ not_own (Some b) a h = by_test (b == a) refl
 
 -- the tree before a place was added, and the tree after it
 module _ (said : List Said) (segs news : List Segment) (ways more : List (Way × ℕ)) (texts added : List (List ℕ)) (last place : ℕ) (r : Reply) (a : ℕ) (here x : Said)
-    (laid : AreLaid 0 segs last) (numbered : AreNumbered segs ways texts (last + 1)) (old_said : said ≡ expand segs ++ here ∷ []) where
+    (laid : AreLaid 0 segs last) (numbered : AreNumbered segs ways texts last) (old_said : said ≡ expand segs ++ here ∷ []) where
   abbrev t : Tree
   t = record { said = said; segments = segs; ways = ways; texts = texts }
 
@@ -133,7 +133,7 @@ module _ (said : List Said) (segs news : List Segment) (ways more : List (Way ×
     new_leads : (n : ℕ) (b : ℕ) → 4 + length texts ≤ b → lead (answer_at segs n) (look ways n b) n b ≡ None
     new_leads n b new =
         ap (λ (x : Bool). cond x (Some (n + 1)) (look ways n b)) (not_own (answer_at segs n) b (λ c e same. let low = own_low segs n (4 + length texts) c numbered.own e in omega (arith, new, same, low)))
-        ∙ no_way ways (last + 1) (4 + length texts) n b numbered.others (inr new)
+        ∙ no_way ways last (4 + length texts) n b numbered.others (inr new)
 
     -- ---- behind the last place
     module _ (put : IsPutOn segs news last here a) (same : more ≡ ways) (at : place ≡ last) where

@@ -8,6 +8,7 @@ pub mod LineReading
 pub mod Laid
 pub mod Numbers
 pub mod Leading
+pub mod GoingOn
 pub mod PlayedHits
 pub mod Places
 pub mod PutHits

@@ -1,13 +1,16 @@
 -- What a run says, put into a tree hit by hit.
-use Rattle.std.proofs.Common.{◌≡◌, ◌⊎◌, inl, inr, ℕ, ◌+◌, ◌<◌, ◌≤◌, Option, Some, None, List, [], ◌∷◌, ◌++◌, length, take, get_or, refl, ap, sym, ◌∙◌, subst, arith, true, false, Result}
+use Rattle.std.proofs.Common.{◌≡◌, ◌⊎◌, inl, inr, ℕ, ◌+◌, ◌<◌, ◌≤◌, Option, Some, None, List, [], ◌∷◌, ◌++◌, length, take, get_or, replicate, zero, suc, append_assoc, refl, ap, sym, ◌∙◌, subst, arith, true, false, Result}
 use Rattle.std.specs.Prelude.{IfOk, slice_get}
 use Rattle.std.specs.declared.alloc.AllocError.{AllocError}
-use Rattle.std.proofs.lemmas.List.{length-take-le, take_more}
+use Rattle.std.proofs.lemmas.List.{append-nil, length-take-le, take_more}
+use Rattle.std.proofs.lemmas.Option.{slice_get-get_or, slice_get_within}
 use Rattle.std.proofs.lemmas.Bool.{cases_lt}
 use Rattle.scenario_values.specs.Scenario.{Entries, IsScenario}
 use Rattle.scenario_values.specs.Tidied.{tidied}
-use Rattle.action_eval.specs.Answers.{Reply, Go, Run, cuts_short, given_of, hit, is_cut_short, replies, run_of, start}
+use Rattle.action_eval.specs.Answers.{AllGo, GoesOn, Reply, Go, Run, cuts_short, given_of, hit, hits_of, is_cut_short, replies, reply_to, run_of, start, stopped}
 use Rattle.action_eval.specs.SameMeaning.{Meaning, meaning}
+use Rattle.action_eval.proofs.CallerLemmas.{replies_more}
+use Rattle.action_eval.proofs.CallerLemmas as caller
 use Rattle.action_eval.proofs.RunLaws.{tidied_means}
 use Rattle.target_trait.specs.Cuts.{IsAsking}
 use Rattle.target_trait.specs.Play.{Move, Ask, Done, Unknown}
@@ -21,13 +24,21 @@ use Rattle.grown_runs.specs.declared.known.breaks.Break.TheVariants.{Differs, No
 use Rattle.answered_runs.specs.declared.broken.Conflict.{Conflict}
 use Rattle.answered_runs.specs.declared.broken.Conflict.TheVariants as conflict
 use Rattle.answered_runs.specs.declared.saying.SeenRun.{SeenRun}
+use Rattle.answered_runs.specs.declared.tree.Next.TheVariants.{Hit}
 use Rattle.answered_runs.specs.declared.tree.Said.{Said}
-use Rattle.answered_runs.specs.inside.Trees.{EndsThere, Enters, Grows, HasBegun, IsBroken, IsConflict, IsPauseFault, IsPut, IsSaid, IsSeen, IsSound, Leads, Puts, Tree, line_seen, move_of, walk}
+use Rattle.answered_runs.specs.inside.Trees.{EndsThere, Enters, Follows, Grows, HasBegun, IsBroken, IsConflict, IsNext, IsPauseFault, IsPut, IsSaid, IsSeen, IsSound, Leads, Puts, Tree, line_seen, move_of, walk}
 use Rattle.answered_runs.proofs.Places.{Entered, entered, grows_on, leads_grow, name_is}
 use Rattle.answered_runs.proofs.PlayedHits.{length_replies, replies_over, short_over}
 
 tail_same : (r : Reply) (xs ys : List Reply) → (let l : List Reply = r ∷ xs in l) ≡ r ∷ ys → xs ≡ ys
 tail_same r xs ys e = cc
+
+some_same : (a b : ℕ) → (let o : Option ℕ = Some a in o) ≡ Some b → a ≡ b
+some_same a b e = cc
+
+last_same : (xs : List Reply) (x y : Reply) → xs ++ x ∷ [] ≡ xs ++ y ∷ [] → x ≡ y
+last_same [] x y e = cc
+last_same (z ∷ xs) x y e = last_same xs x y (tail_same z (xs ++ x ∷ []) (xs ++ y ∷ []) e)
 
 hits_same : (xs ys : List ℕ) → (let o : Option (List ℕ) = Some xs in o) ≡ Some ys → xs ≡ ys
 hits_same xs ys e = cc
@@ -417,6 +428,55 @@ module _ (a : Answered) (w : Entries) (run : SeenRun) where
 
       pub pauses : is_cut_short now ≡ true → IsSeen a (tidied w) run → (found : Option BrokenRun) → IsPauseFault run (i + 1) found → IsPut a t0 u (line_seen (tidied w) run) found
       pauses stops = paused a (tidied w) run t0 u i m g (tidy_run (i + 1)) less refl (short_now ∙ stops)
+
+    -- several hits that go
+    abbrev hit_of : ℕ → Said
+    hit_of point = record { line = run.line; next = Hit point }
+
+    -- a run that goes on at its next hit isn't stopped there
+    still : (r : Run) (p : ℕ) → stopped r ≡ None → replies (hit r p) ≡ replies r ++ Go ∷ [] → stopped (hit r p) ≡ None
+    still r p runs told =
+        let go : reply_to r p ≡ Go = last_same (replies r) (reply_to r p) Go (sym (replies_more r p runs) ∙ told) in
+        subst (λ (q : Reply). GoesOn q (hit r p)) go (caller.goes_on r p runs)
+
+    one_more : IsSeen a (tidied w) run → (t0 t u : Tree) (i place point : ℕ) (now : Run) → Playing t0 t i place Go now → slice_get run.hits.now i ≡ Some point
+        → Enters t u place Go (hit_of point) (place + 1) → IsNext u (place + 1) (Ask point) → replies (hit now point) ≡ replies now ++ Go ∷ [] → stopped (hit now point) ≡ None
+        → Playing t0 u (i + 1) (place + 1) Go (hit now point)
+    one_more seen t0 t u i place point now p at enters next told runs =
+        let less : i < length run.hits.now = slice_get_within run.hits.now i point at in
+        let is : get_or run.hits.now i 0 ≡ point = some_same (get_or run.hits.now i 0) point (sym (slice_get-get_or run.hits.now i 0 less) ∙ at) in
+        let moves : Ask point ≡ move_said run.verdict (slice_get run.hits.now i) = sym (ap (move_said run.verdict) at) in
+        let g : Through a (tidied w) run t0 u i (place + 1) =
+        through a (tidied w) run t0 t i place Go (tidy_run i) p.putting seen u (hit_of point) (place + 1) refl moves enters next.said (i + 1) next.at next.move_is
+        in
+        plays_on t0 u i (place + 1) g less (hit now point) (ap (hit now) (sym is) ∙ next_played i now p.now_is less) now Go p.now_is told (ap cuts_short runs)
+
+    pub plays_far : IsSeen a (tidied w) run → (t0 : Tree) (point n : ℕ) (t u : Tree) (i place : ℕ) (now : Run) → Playing t0 t i place Go now → stopped now ≡ None
+        → ((m : ℕ) → m < n → slice_get run.hits.now (i + m) ≡ Some point) → Follows n t u place (hit_of point) → AllGo now (replicate n point)
+        → Playing t0 u (i + n) (place + n) Go (hits_of now (replicate n point))
+    plays_far seen t0 point zero t u i place now p runs hits same go =
+        let here : i ≡ i + 0 = omega arith in
+        let there : place ≡ place + 0 = omega arith in
+        subst (λ (m : ℕ). Playing t0 u m (place + 0) Go (hits_of now [])) here
+        (subst (λ (m : ℕ). Playing t0 u i m Go (hits_of now [])) there
+        (subst (Playing t0 u i place Go) (ap (λ (l : List ℕ). let r : Run = record { given = now.given; hits = l } in r) (sym (append-nil now.hits)))
+        (subst (λ (v : Tree). Playing t0 v i place Go now) (sym same) p)))
+    plays_far seen t0 point (suc n) t u i place now p runs hits (middle, enters, next, rest) (told, more) =
+        let zero_more : i + 0 ≡ i = omega arith in
+        let at : slice_get run.hits.now i ≡ Some point = ap (slice_get run.hits.now) (sym zero_more) ∙ hits 0 (omega arith) in
+        let runs_on = still now point runs told in
+        let first = one_more seen t0 t middle i place point now p at enters next told runs_on in
+        let far = plays_far seen t0 point n middle u (i + 1) (place + 1) (hit now point) first runs_on (λ m less. later m less) rest more in
+        let here : (i + 1) + n ≡ i + suc n = omega arith in
+        let there : (place + 1) + n ≡ place + suc n = omega arith in
+        subst (λ (m : ℕ). Playing t0 u m (place + suc n) Go (hits_of now (point ∷ replicate n point))) here
+        (subst (λ (m : ℕ). Playing t0 u ((i + 1) + n) m Go (hits_of now (point ∷ replicate n point))) there
+        (subst (Playing t0 u ((i + 1) + n) ((place + 1) + n) Go) (ap (λ (l : List ℕ). let r : Run = record { given = now.given; hits = l } in r) (append_assoc now.hits (point ∷ []) (replicate n point))) far))
+      where
+        later : (m : ℕ) → m < n → slice_get run.hits.now ((i + 1) + m) ≡ Some point
+        later m less =
+            let moved : (i + 1) + m ≡ i + (m + 1) = omega arith in
+            ap (slice_get run.hits.now) moved ∙ hits (m + 1) (omega (arith, less))
 
 -- ---- a session without hits
 

@@ -25,7 +25,6 @@ use Rattle.grown_plans.specs.GrownPlans.{Subject}
 use Rattle.grown_plans.specs.Promises.{CanBeTried, IsLawful}
 use Rattle.grown_plans.proofs.ListedKinds.{listed_can}
 use Rattle.grown_plans.proofs.Members.{all_weaker}
-use Rattle.grown_runs.specs.known.Known.{Agrees, Told}
 use Rattle.grown_runs.specs.known.KnownPart.{known_part}
 use Rattle.grown_runs.specs.known.ToldPart.{part_known}
 use Rattle.grown_runs.proofs.KnownLemmas.Listed.{part_is}

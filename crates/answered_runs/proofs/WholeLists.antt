@@ -6,7 +6,6 @@ use Rattle.action_eval.specs.declared.rig.Rig.{Rig}
 use Rattle.grown_runs.specs.known.Known.{KnownRuns, Told}
 use Rattle.grown_runs.specs.known.Looks.{IsLook}
 use Rattle.grown_runs.specs.declared.known.table.Look.{Look}
-use Rattle.grown_runs.specs.declared.known.table.Look.TheVariants as look
 use Rattle.grown_runs.proofs.KnownLemmas.Found.{found_at}
 use Rattle.answer_text.specs.declared.runs.ToldRun.{ToldRun}
 use Rattle.answered_runs.specs.Answered.{Answered, plan_told}

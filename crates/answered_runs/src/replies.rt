@@ -11,7 +11,8 @@ use std::alloc::{AllocError, Global};
 /// The number of no answer.
 pub(crate) const NONE: usize = 0;
 
-const GO: usize = 1;
+/// The number of `Go`.
+pub(crate) const GO: usize = 1;
 
 const HALT: usize = 2;
 

@@ -1,10 +1,11 @@
 //! A run with hits, put into the tree of what lines say.
-ghost use Rattle.std.specs.Prelude.{◌≡◌, ◌<◌, ◌≤◌, IfOk, length};
+ghost use Rattle.std.specs.Prelude.{◌≡◌, ◌<◌, ◌≤◌, ◌+◌, ◌^◌, ℕ, true, IfOk, None, OnOk, Some, length, slice_get};
 ghost use Rattle.std.specs.List.{AllByRecursion};
 ghost use Rattle.scenario_values.specs.Scenario.{IsScenario};
 ghost use Rattle.scenario_values.specs.Tidied.{tidied};
-ghost use Rattle.action_eval.specs.Answers.{reply_of_answer};
-ghost use Rattle.answered_runs.specs.inside.Trees.{Enters, HasBegun, IsBroken, IsConflict, IsPauseFault, IsPut, IsSeen, IsSound, line_seen};
+ghost use Rattle.action_eval.specs.Answers.{Go, reply_of_answer, stopped};
+ghost use Rattle.target_trait.specs.Play.{Ask};
+ghost use Rattle.answered_runs.specs.inside.Trees.{Enters, GoesAlong, HasBegun, IsBroken, IsConflict, IsNext, IsPauseFault, IsPut, IsSeen, IsSound, line_seen};
 
 use crate::broken::{BrokenRun, Conflict};
 use crate::table::AnsweredRuns;
@@ -78,6 +79,62 @@ fn after_pause(run: &SeenRun<'_>, count: usize) -> Option<BrokenRun>
     })
 }
 
+/// How many hits from this number on are of this point, up to the first one that isn't.
+fn count_alike(hits: &[u32], number: usize, point: u32) -> usize
+    requires { number ≤ length hits.now }
+    ensures alike { (m : ℕ) → m < result → slice_get hits.now (number + m) ≡ Some point }
+    ensures within { number + result ≤ length hits.now }
+{
+    for count in 0..hits.len() - number {
+        if hits[number + count] != point {
+            return count;
+        }
+    }
+    hits.len() - number
+}
+
+/// Plays the hits from this number on that are of this point and go, as far as the tree says the same of each, or nothing yet. The place comes after
+/// the answers so far, and is that of a hit of the point. Returns how many hits these are.
+fn go_along(
+    tree: &mut AnswerTree,
+    session: &mut Session<'_>,
+    run: &SeenRun<'_>,
+    number: usize,
+    place: u32,
+    point: u32,
+) -> Result<u32, AllocError>
+    requires number { number ≤ length run.now.hits.now }
+    requires few { length run.now.hits.now ≤ 65536 }
+    requires place { IsNext tree.old place (Ask point) }
+    requires known { point < length session.old.given.catalogue }
+    requires running { stopped session.old ≡ None }
+    ensures along { IfOk result (GoesAlong tree.old tree.new session.old session.new run.now number place point) }
+    ensures running { OnOk result (stopped session.new ≡ None) }
+    ensures fits { IfOk result (λ n. place + n < 2 ^ 32) }
+{
+    let line = run.line;
+    let next = Next::Hit(point);
+    let most = count_alike(run.hits, number, point);
+    if tree.ends_with(place, Said { line, next }) {
+        let count = session.pass(point, most)? as u32;
+        tree.go_on(count)?;
+        return Ok(count);
+    }
+    let most = tree.along(place, most as u32) as usize;
+    let count = session.pass(point, most)?;
+    Ok(count as u32)
+}
+
+/// Whether a run goes on after an answer as if nothing had happened.
+fn goes(answer: &Answer<'_>) -> bool
+    ensures { result ≡ true → reply_of_answer answer.now ≡ Go }
+{
+    match answer {
+        Answer::Go => true,
+        Answer::Halt | Answer::Return(_) => false,
+    }
+}
+
 /// Puts what a run says into the tree, or finds how it contradicts what is there, or itself. A session without hits plays it. The run is recorded of
 /// the session's scenario, tidied.
 pub(crate) fn put_run(
@@ -97,16 +154,23 @@ pub(crate) fn put_run(
     let line = run.line;
     let mut place = 0;
     let mut answer = Answer::Go;
-    for number in 0..run.hits.len() {
+    let mut number = 0;
+    while number < run.hits.len() {
         let point = run.hits[number];
         let next = Next::Hit(point);
+        number += 1;
         place = follow(tree, place, answer, Said { line, next })?;
-        if let Some(broken) = broken_at(tree.said(place), Said { line, next }, number as u32 + 1) {
+        if let Some(broken) = broken_at(tree.said(place), Said { line, next }, number as u32) {
             return Ok(Some(broken));
         }
         answer = session.ask_on(point)?;
         if session.is_cut_short() {
-            return Ok(after_pause(run, number + 1));
+            return Ok(after_pause(run, number));
+        }
+        if goes(&answer) && session.stopped().is_none() {
+            let count = go_along(tree, session, run, number, place, point)?;
+            number += count as usize;
+            place += count;
         }
     }
     let next = Next::End(run.verdict);

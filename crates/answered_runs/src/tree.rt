@@ -1,10 +1,11 @@
 //! What lines say comes next after answers.
-ghost use Rattle.std.specs.Prelude.{◌≡◌, ◌<◌, None, slice_get, length, IfOk, Some};
+ghost use Rattle.std.specs.Prelude.{◌≡◌, ◌<◌, ◌≤◌, ◌+◌, ◌^◌, ℕ, true, None, slice_get, length, IfOk, OnOk, Some};
 ghost use Rattle.action_eval.specs.Answers.{reply_of_answer};
-ghost use Rattle.answered_runs.specs.inside.Trees.{Adds, IsNew, way};
+ghost use Rattle.answered_runs.specs.declared.tree.Said.{Said};
+ghost use Rattle.answered_runs.specs.inside.Trees.{Adds, AddsOn, IsAlike, IsNew, way};
 
-use crate::replies::{NONE, number_in, number_of};
-use crate::segments::{Segment, answer_at, put_place, said_at};
+use crate::replies::{GO, NONE, number_in, number_of};
+use crate::segments::{Segment, alike_after, answer_at, put_places, said_at};
 use action_eval::Answer;
 use indexmap::{IndexMap, IndexSet};
 use scenario_values::Text;
@@ -50,6 +51,13 @@ pub(crate) struct AnswerTree {
     ways: IndexMap<Way, u32>,
 }
 
+/// Whether two lines say the same, and are the same line.
+fn is_same(one: Said, other: Said) -> bool
+    ensures { result ≡ true → one ≡ other }
+{
+    one == other
+}
+
 impl Model for AnswerTree {
     ghost use Rattle.std.specs.Prelude.{◌++◌, ◌∷◌, ◌+◌, []};
     ghost use Rattle.answered_runs.specs.inside.Trees.{Tree};
@@ -64,7 +72,7 @@ impl Model for AnswerTree {
       texts = t.texts.keys;
     } };
 
-    ghost invariant = { λ t. AreLaid 0 t.segments.items t.last × AreNumbered t.segments.items t.ways.entries t.texts.keys (t.last + 1) };
+    ghost invariant = { λ t. AreLaid 0 t.segments.items t.last × AreNumbered t.segments.items t.ways.entries t.texts.keys t.last };
 }
 
 impl AnswerTree {
@@ -110,6 +118,42 @@ impl AnswerTree {
         Ok(self.ways.get(&Way { place, answer }).copied())
     }
 
+    /// How many places after this one `Go` leads to, one after another, while the same is said at each; at most so many.
+    pub(crate) fn along(&self, place: u32, most: u32) -> u32
+        requires { place < length self.now.said }
+        ensures alike { (n : ℕ) → n < result → IsAlike self.now place n }
+        ensures few { result ≤ most }
+        ensures fits { place + result < 2 ^ 32 }
+    {
+        if place == self.last {
+            return 0;
+        }
+        let alike = alike_after(self.segments.as_slice(), place, GO);
+        if alike < most { alike } else { most }
+    }
+
+    /// Whether a place is the last one, and this is said there.
+    pub(crate) fn ends_with(&self, place: u32, said: Said) -> bool
+        ensures { result ≡ true → (length self.now.said ≡ place + 1) × (slice_get self.now.said place ≡ Some said) }
+    {
+        place == self.last && is_same(self.said, said)
+    }
+
+    /// Leads `Go` from the last place to a new one, and so on, so many times, and puts down at each what is said at the last place.
+    pub(crate) fn go_on(&mut self, count: u32) -> Result<(), AllocError>
+        ensures ok { OnOk result ((place : ℕ) (said : Said) → length self.old.said ≡ place + 1 → slice_get self.old.said place ≡ Some said
+            → AddsOn count self.old self.new place said) }
+        ensures fits { OnOk result ((place : ℕ) → length self.old.said ≡ place + 1 → place + count < 2 ^ 32) }
+    {
+        let last = self.last;
+        let Some(end) = last.checked_add(count) else {
+            return Err(AllocError);
+        };
+        put_places(&mut self.segments, last, self.said, GO, count)?;
+        self.last = end;
+        Ok(())
+    }
+
     /// Leads an answer that no line had at a place to a new place, and puts down what is said there.
     pub(crate) fn add(
         &mut self,
@@ -127,10 +171,10 @@ impl AnswerTree {
         };
         let answer = number_of(self.alloc, &mut self.texts, answer)?;
         if place == last {
-            put_place(&mut self.segments, last, self.said, answer)?;
+            put_places(&mut self.segments, last, self.said, answer, 1)?;
         } else {
             self.ways.insert(Way { place, answer }, next)?;
-            put_place(&mut self.segments, last, self.said, NONE)?;
+            put_places(&mut self.segments, last, self.said, NONE, 1)?;
         }
         self.last = next;
         self.said = said;

@@ -1,5 +1,5 @@
 -- What a report says of failures, over whatever plans: each code with which a plan fails has one finding, which has the least number and is reduced.
-use Rattle.std.proofs.Common.{◌≡◌, ◌≢◌, ℕ, zero, suc, ◌<◌, ◌&&◌, Bool, true, false, Option, Some, All, List, [], ◌∷◌, length, refl, ap, sym, ◌∙◌, subst, arith, eq-eqb}
+use Rattle.std.proofs.Common.{◌≡◌, ◌≢◌, ℕ, zero, suc, ◌+◌, ◌<◌, ◌&&◌, Bool, true, false, Option, Some, All, List, [], ◌∷◌, length, refl, ap, sym, ◌∙◌, subst, arith, eq-eqb}
 use Rattle.std.specs.Prelude.{AllPairs, Contains, remove, slice_get, slice_index_or}
 use Rattle.std.specs.List.{range_with_len}
 use Rattle.std.proofs.lemmas.List.{get_or-map, length-map}
@@ -13,7 +13,7 @@ use Rattle.target_trait.specs.declared.judgement.Verdict.{Verdict}
 use Rattle.target_trait.specs.declared.judgement.Verdict.TheVariants as verdict
 use Rattle.grown_plans.specs.Runs.{Met}
 use Rattle.grown_plans.proofs.Members.{contains_map}
-use Rattle.result_book.specs.Verdicts.{numbered}
+use Rattle.result_book.specs.Verdicts.{numbered, verdicts_from}
 use Rattle.result_book.specs.FirstFailures.{first_failures, AreFirstFailures}
 use Rattle.result_book.specs.FirstFailure.{FailsAt}
 use Rattle.result_book.proofs.EachCodeLemmas.{firsts_of}
@@ -44,6 +44,15 @@ without_one asked code s m fault low =
     (right_fails (are_faults (all_faults s) (remove all fault)) (fails_with code (asked (without fault s)))
     (without_are_faults (all_faults s) fault all (all_are_faults (all_faults s))) (m.1.each fault (omega (arith, low, size))))
 
+-- a verdict by its number is that of the plan of this number
+said_at : (asked : ℕ → Entries → Verdict) (from : ℕ) (entries : List Entries) (n : ℕ) (v : Verdict) → slice_get (verdicts_from asked from entries) n ≡ Some v
+    → asked (from + n) (slice_index_or entries n []) ≡ v
+said_at asked from [] n v e = absurd cc
+said_at asked from (x ∷ entries) zero v e =
+    ap (λ (k : ℕ). asked k x) (let none : from + 0 ≡ from = omega arith in none) ∙ (let same : asked from x ≡ v = cc in same)
+said_at asked from (x ∷ entries) (suc n) v e =
+    ap (λ (k : ℕ). asked k (slice_index_or entries n [])) (let more : from + suc n ≡ from + 1 + n = omega arith in more) ∙ said_at asked (from + 1) entries n v e
+
 at_number : (vs : List Verdict) (n code : ℕ) → FailsAt vs n code → slice_get vs n ≡ Some (verdict.Fail code)
 at_number [] n code e = absurd cc
 at_number (v ∷ vs) zero code e = ap (λ (x : Verdict). Some x) e
@@ -72,6 +81,9 @@ module _ (c : Campaign) (label counts : List ℕ) (entries : List Entries) (grow
       let reduces : ReducesToMinimal (say c) f = subst (ReducesToMinimal (say c)) here (minimal n none low) in
       subst (IsReduced (grower c) told) (sym here) (record {
         fails = at_number told.report.verdicts first.0 first.1 least.0;
+        scenario_fails =
+            ap (λ (n : ℕ). say c n f.scenario) (let none : first.0 ≡ 0 + first.0 = omega arith in none)
+            ∙ said_at (say c) 0 entries first.0 (verdict.Fail first.1) (at_number told.report.verdicts first.0 first.1 least.0);
         least = λ other less comes. least.1 other less (get_or_from_slice_get told.report.verdicts other (verdict.Fail first.1) verdict.Pass comes);
         reduced_fails = own_code first.1 (say c first.0 f.reduced) reduces.0;
         minimal = without_one (say c first.0) first.1 f.reduced reduces;

@@ -1,5 +1,5 @@
 -- The report of a campaign keeps what it promises.
-use Rattle.std.proofs.Common.{◌≡◌, ◌≢◌, ℕ, zero, suc, ◌+◌, ◌<◌, ◌≤◌, ◌^◌, ◌==◌, ◌&&◌, not, Bool, true, false, cond, Option, None, Some, IfSome, All, List, [], ◌∷◌, map, length, refl, ap, sym, ◌∙◌, subst, arith}
+use Rattle.std.proofs.Common.{◌≡◌, ◌≢◌, ℕ, zero, suc, ◌+◌, ◌<◌, ◌≤◌, ◌^◌, ◌==◌, ◌&&◌, inl, not, Bool, true, false, cond, Option, Some, IfSome, All, List, [], ◌∷◌, map, length, refl, ap, sym, ◌∙◌, subst, arith}
 use Rattle.std.specs.Prelude.{Contains, flat_map, slice_get, slice_index_or}
 use Rattle.std.specs.List.{AllByRecursion, list_all, range_with_len}
 use Rattle.std.proofs.lemmas.List.{get_or-map, length-map}
@@ -11,7 +11,8 @@ use Rattle.target_trait.specs.Outcomes.{verdict_with}
 use Rattle.target_trait.specs.declared.judgement.Verdict.{Verdict}
 use Rattle.target_trait.specs.declared.judgement.Verdict.TheVariants as verdict
 use Rattle.plan_gen.specs.PlanList.{further_list}
-use Rattle.grown_plans.specs.GrownPlans.{Subject, rigs_of, scenario_of, onward, grown, beyond}
+use Rattle.grown_plans.specs.Runs.{Met}
+use Rattle.grown_plans.specs.GrownPlans.{Subject, rigs_of, run_of_plan, scenario_of, level, levels, onward, grown, beyond, reached}
 use Rattle.grown_runs.specs.Grown.{level_sizes, reached_each}
 use Rattle.campaign_core.proofs.Grown.{list_is}
 use Rattle.grown_plans.specs.Promises.{IsLawful, IsCause, lesser, verdict_of_plan, verdict_of_rigs}
@@ -22,20 +23,21 @@ use Rattle.grown_runs.specs.GrownRuns.{over, verdict_by, fails_with, cause_by, c
 use Rattle.result_book.specs.Verdicts.{verdicts_from, numbered}
 use Rattle.result_book.specs.FirstFailures.{first_failures}
 use Rattle.report.specs.Reports.{FindingFacts, CauseFacts, GrowthFacts}
-use Rattle.campaign_given.specs.Given.{IsGiven}
 use Rattle.campaign_core.specs.Headline.{Campaign, census, grower, plans, plans_to, say, growth, report, told_in, EachIsMinimal, KeepsPromises}
 use Rattle.campaign_core.specs.Findings.{cause_of, finding, growth_of, reduction, IsCauseAmong, ReducesToMinimal}
 use Rattle.campaign_core.proofs.Causes.{causes_are_causes}
 use Rattle.campaign_core.proofs.Findings.{found_of, once_each, reduced_at}
-use Rattle.campaign_core.specs.promises.Told.{Told}
-use Rattle.campaign_core.specs.promises.Promises.{IsFinding, IsReduced, Promises}
+use Rattle.campaign_core.specs.promises.Behaviours.{times_hit}
+use Rattle.campaign_core.specs.promises.Told.{HasVerdict, Told}
+use Rattle.campaign_core.specs.promises.Promises.{Complete, HasFewest, IsReduced, Promises, Sound, nothing_unseen}
 use Rattle.campaign_core.specs.promises.Promises.{IsCause as IsToldCause}
 use Rattle.campaign_core.proofs.PromisesLemmas.Failures.{of_level, has_cause, fewest}
 use Rattle.campaign_core.proofs.PromisesLemmas.Least.{no_lesser}
 use Rattle.campaign_core.proofs.PromisesLemmas.Numbers.{get_front, get_map}
 use Rattle.campaign_core.proofs.PromisesLemmas.Counted.{level_sizes as sizes_of_levels, size_beyond}
+use Rattle.campaign_core.proofs.PromisesLemmas.Facts.{at_point, census_counts, first_level, long_range, reached_by, without_faults}
 use Rattle.campaign_core.proofs.PromisesLemmas.KeepsEach.{keeps_each}
-use Rattle.campaign_core.proofs.PromisesLemmas.Grew.{Grew, IsCauseOf, all_numbers, counted, twice, skipped_none, told_behaves, told_judged, whole_told, onward_told, most_reached}
+use Rattle.campaign_core.proofs.PromisesLemmas.Grew.{Grew, IsCauseOf, all_numbers, behaves_at, counted, twice, skipped_none, told_behaves, told_judged, whole_told, onward_told, most_reached}
 
 -- ---- verdicts by numbers
 
@@ -88,7 +90,7 @@ in_flat {A} {B} f d xs from (suc count) (suc k) x y low at is =
 
 -- ---- the facts of a campaign
 
-all_each : {A : Type 0} (P : A → Type 0) (xs : List A) → All P xs → AllByRecursion P xs
+pub all_each : {A : Type 0} (P : A → Type 0) (xs : List A) → All P xs → AllByRecursion P xs
 all_each P [] a = tt
 all_each P (x ∷ xs) a = (a 0 x (omega arith), all_each P xs (λ k d low. a (suc k) d (omega (arith, low))))
 
@@ -138,6 +140,9 @@ module _ (k : Campaign) (d : ℕ) (is : Some d ≡ k.given.depth) where
         refl,
       )
 
+  listed_causes : All (IsCauseAmong (grower k) k.given.plans.seed (grown (grower k) d)) grew.causes
+  listed_causes = causes_are_causes k (Some d) is
+
   has_grown : Grew (grower k) d (told_in k grew)
   has_grown = record {
     depth = refl;
@@ -151,38 +156,28 @@ module _ (k : Campaign) (d : ℕ) (is : Some d ≡ k.given.depth) where
         (λ n c low. is_cause_of (slice_index_or grew.causes n c) (listed_causes n c low));
     causes_listed = listed_cause;
   }
-    where
-      listed_causes : All (IsCauseAmong (grower k) k.given.plans.seed (grown (grower k) d)) grew.causes
-      listed_causes = causes_are_causes k (Some d) is
 
 -- ---- findings
 
-module _ (k : Campaign) (d : ℕ) (is_depth : Some d ≡ k.given.depth) (l : IsLawful (grower k)) (given : IsGiven k.given) (minimal : All (ReducesToMinimal (say k)) (report k).findings) where
+module _ (k : Campaign) (d : ℕ) (is_depth : Some d ≡ k.given.depth) (l : IsLawful (grower k)) (few_hits : k.given.max_hits < 2 ^ 32) (low_depth : d ≤ 64) (minimal : All (ReducesToMinimal (say k)) (report k).findings) where
   abbrev firsts : List (ℕ × ℕ)
   firsts = first_failures (numbered (report k).verdicts)
 
   abbrev told : Told
   told = told_in k (grew k d is_depth)
 
-  few_hits : k.given.max_hits < 2 ^ 32
-  few_hits = let few = given.few_hits in omega (arith, few)
-
-  low_depth : d ≤ 64
-  low_depth = subst (λ (depth : Option ℕ). IfSome depth (λ faults. faults ≤ 64)) (sym is_depth) given.low_depth
-
   scenario_at : (number : ℕ) (plan : List Rig) → slice_get (grown (grower k) d) number ≡ Some plan → slice_index_or (plans k) number [] ≡ scenario_of (grower k) plan
   scenario_at number plan at = get_or_from_slice_get (plans k) number (scenario_of (grower k) plan) [] (plan_at k d is_depth number plan at)
 
   -- what is reported of the first failure at a place
-  finding_at : (n : ℕ) (none : FindingFacts) → n < length (report k).findings → IsFinding (grower k) told (slice_index_or (report k).findings n none)
+  finding_at : (n : ℕ) (none : FindingFacts) → n < length (report k).findings → HasFewest (grower k) told (slice_index_or (report k).findings n none)
   finding_at n none low =
       let first : ℕ × ℕ = slice_index_or firsts n (0, 0) in
       let f : FindingFacts = finding (say k) (plans k) first in
       let size = length-map firsts (finding (say k) (plans k)) in
       let here : slice_index_or (report k).findings n none ≡ f = get_or-map (finding (say k) (plans k)) firsts n (0, 0) none (omega (arith, low, size)) in
       let is : IsReduced (grower k) told f = subst (IsReduced (grower k) told) here (reduced_at k k.label (census k) (plans k) (growth k) told.growth told.behaviours minimal n none low) in
-      subst (IsFinding (grower k) told) (sym here) (record {
-        reduced = is;
+      subst (HasFewest (grower k) told) (sym here) (record {
         fewest = fewest (grower k) l d told (has_grown k d is_depth) first.0 first.1 is.least;
         keeps_each = λ of_level. keeps_each (grower k) l few_hits d low_depth told (has_grown k d is_depth) first.0 first.1 is.least of_level
             (reduction (say k) first.0 first.1 f.scenario).kept f.scenario (scenario_at first.0) is.reduced_fails;
@@ -192,12 +187,14 @@ module _ (k : Campaign) (d : ℕ) (is_depth : Some d ≡ k.given.depth) (l : IsL
   cause_at_place n none low =
       let g = has_grown k d is_depth in
       let c : CauseFacts = slice_index_or told.growth.causes n none in
+      let among : IsCauseAmong (grower k) k.given.plans.seed (grown (grower k) d) c = listed_causes k d is_depth n none low in
       let h : IsCauseOf (grower k) d told c = recursive_at (IsCauseOf (grower k) d told) told.growth.causes n none g.causes_are low in
       let numbers = all_numbers (grower k) l d told g in
       let inside : c.number < length (grown (grower k) d) = slice_get_within (grown (grower k) d) c.number h.0 h.1 in
       record {
         told_of = omega (arith, inside, numbers);
         fails = g.comes c.number h.0 h.1 ∙ ap (λ (v : Verdict). Some v) h.2.0;
+        scenario_fails = ap (say k c.number) among.scenario ∙ among.least.0;
         least = λ levels_low found hits left b has behaves answered.
             let own = of_level (grower k) l d told g c.number found levels_low b in
             let same : own.plan ≡ h.0 = some_is own.plan h.0 (sym own.at_grown ∙ h.1) in
@@ -208,31 +205,61 @@ module _ (k : Campaign) (d : ℕ) (is_depth : Some d ≡ k.given.depth) (l : IsL
       recursive_at : (P : CauseFacts → Type 0) (xs : List CauseFacts) (n : ℕ) (none : CauseFacts) → AllByRecursion P xs → n < length xs → P (slice_index_or xs n none)
       recursive_at P xs n none a low = All-from_recursion P xs a n none low
 
-  keeps : Promises (grower k) told
-  keeps =
+  -- the run without faults
+  first_plan : slice_get (grown (grower k) d) 0 ≡ Some []
+  first_plan = get_front (levels (grower k) d) (onward (grower k) d) 0 [] (first_level (grower k) d)
+
+  clean_is : HasVerdict told 0 told.report.clean
+  clean_is =
+      let comes = comes_at k d is_depth 0 [] first_plan in
+      comes ∙ ap (λ (v : Verdict). Some v) (sym (get_or_from_slice_get (report k).verdicts 0 (verdict_of_plan (grower k) k.given.plans.seed 0 []) verdict.Unresolved comes))
+
+  sound : Sound (grower k) d told
+  sound =
       let g = has_grown k d is_depth in
       record {
         behaves = told_behaves (grower k) l d told g;
         judged = told_judged (grower k) l d told g;
-        nothing_skipped = skipped_none (grower k) l d told g;
-        sizes = sizes_of_levels (grower k) l d told g;
-        beyond = size_beyond (grower k) l d told g;
         all_told = counted (grower k) l d told g;
         nothing_twice = twice (grower k) l d told g;
-        from_then_on = onward_told (grower k) l d told g;
-        whole = whole_told (grower k) l d told g;
-        findings = finding_at;
-        found = found_of k k.label (census k) (plans k) (growth k) told.growth told.behaviours minimal;
+        depth = refl;
+        levels = long_range (λ n. length (level (grower k) n)) (d + 1) ∙ (let one_more : d + 1 ≡ suc d = omega arith in one_more);
+        clean = (run_of_plan (grower k) [], behaves_at (grower k) l d told g 0 [] first_plan, without_faults (grower k) l, clean_is);
+        points = long_range (reached (grower k) d) (length k.points);
+        reached = λ point times at many.
+            reached_by (grower k) told (grown (grower k) d) (grown (grower k) d) refl (λ plan there. there) point times (at_point (reached (grower k) d) (length k.points) point times at) many;
+        findings = reduced_at k k.label (census k) (plans k) (growth k) told.growth told.behaviours minimal;
         once = once_each k k.label (census k) (plans k) (growth k) told.growth told.behaviours minimal;
         causes = cause_at_place;
-        caused = has_cause (grower k) l d told g;
-        reached = most_reached (grower k) l d told g;
       }
 
--- For a campaign with a depth or without.
-pub keeps_promises : (k : Campaign) → IsLawful (grower k) → IsGiven k.given → EachIsMinimal k → KeepsPromises k
-keeps_promises k l given minimal = by_depth k.given.depth refl
-  where
-    by_depth : (depth : Option ℕ) → depth ≡ k.given.depth → IfSome (growth_of (grower k) k.given.plans.seed (plans k) depth) (λ g. Promises (grower k) (told_in k g))
-    by_depth None is = tt
-    by_depth (Some d) is = keeps k d is l given minimal
+  complete : Complete (grower k) d told nothing_unseen
+  complete =
+      let g = has_grown k d is_depth in
+      record {
+        nothing_skipped = λ hits b few. inl (skipped_none (grower k) l d told g hits b few);
+        from_then_on = λ before after hit text ret b few on. inl (onward_told (grower k) l d told g before after hit text ret b few on);
+        whole = λ none hits b. inl (whole_told (grower k) l d told g none hits b);
+        found = found_of k k.label (census k) (plans k) (growth k) told.growth told.behaviours minimal;
+        caused = λ number code hits low b comes. inl (has_cause (grower k) l d told g number code hits low b comes);
+      }
+
+  keeps : Promises (grower k) d told
+  keeps =
+      let g = has_grown k d is_depth in
+      record {
+        seen = record { sound = sound; complete = complete };
+        sizes = sizes_of_levels (grower k) l d told g;
+        beyond = size_beyond (grower k) l d told g;
+        fewest = finding_at;
+        most = most_reached (grower k) l d told g;
+        census = λ hits told_so.
+            let same : run_of_plan (grower k) [] ≡ hits = some_is (run_of_plan (grower k) []) hits (sym (behaves_at (grower k) l d told g 0 [] first_plan) ∙ told_so) in
+            subst (λ (ms : List Met). census k ≡ map (λ point. times_hit point ms) (range_with_len 0 (length k.points))) same (census_counts (grower k) l d k.given.plans.seed first_plan);
+      }
+
+-- Of a campaign with a depth.
+pub keeps_promises : (k : Campaign) → IsLawful (grower k) → k.given.max_hits < 2 ^ 32 → IfSome k.given.depth (λ depth. depth ≤ 64) → EachIsMinimal k → KeepsPromises k
+keeps_promises k l few low minimal = λ depth is.
+    let low_depth : depth ≤ 64 = subst (λ (o : Option ℕ). IfSome o (λ d. d ≤ 64)) is low in
+    (grew k depth (sym is), ap (λ (o : Option ℕ). growth_of (grower k) k.given.plans.seed (plans k) o) is, keeps k depth (sym is) l few low_depth minimal)

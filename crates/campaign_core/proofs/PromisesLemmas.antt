@@ -10,3 +10,4 @@ pub mod Least
 pub mod KeptRigs
 pub mod Counted
 pub mod KeepsEach
+pub mod Facts

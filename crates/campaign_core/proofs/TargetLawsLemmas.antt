@@ -1,4 +1,3 @@
 pub mod Candidates
-pub mod Rechecked
 pub mod Names
 pub mod NamesAt

@@ -1,5 +1,5 @@
 -- What a campaign comes to, as a function of what its target asks and of its settings.
-use Rattle.std.specs.Prelude.{ℕ, List, [], Option, None, Some, IfSome, All, map, slice_get}
+use Rattle.std.specs.Prelude.{◌≡◌, ℕ, List, [], Option, None, Some, IfSome, All, map, slice_get}
 use Rattle.scenario_values.specs.Scenario.{Entries}
 use Rattle.action_eval.specs.Answers.{Reply}
 use Rattle.action_eval.specs.declared.rig.Kind.{Kind}
@@ -112,9 +112,10 @@ told_in c growth = record {
   behaviours = map (run_of_plan (grower c)) (grown (grower c) growth.depth);
 }
 
--- What the report of a campaign with a depth promises.
+-- What the report of a campaign promises, if its settings give a depth: it tells how plans grew to that depth, and that is so.
 abbrev pub KeepsPromises : Campaign → Type 0
-KeepsPromises c = IfSome (report c).growth (λ growth. Promises (grower c) (told_in c growth))
+KeepsPromises c = (depth : ℕ) → c.given.depth ≡ Some depth
+    → (growth : GrowthFacts) × ((report c).growth ≡ Some growth) × Promises (grower c) depth (told_in c growth)
 
 -- Each cause that the report lists is one, including those with a sticky fault.
 abbrev pub EachIsCause : Campaign → Type 0

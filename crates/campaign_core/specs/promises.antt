@@ -1,5 +1,4 @@
 pub mod Behaviours
 pub mod Told
 pub mod Promises
-pub mod AsSeen
 pub mod WrongReports

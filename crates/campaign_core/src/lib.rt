@@ -31,7 +31,8 @@ pub use listing::{plan_list, plan_scenario, plans_text};
 pub use planned::{Planned, plan_campaign, plans_of};
 pub use probe::fault_count;
 pub use promises::{
-    a_plan_plays_its_behaviour, a_scenario_plays_a_behaviour, made_up_runs_keep_no_promises,
+    a_plan_plays_its_behaviour, a_scenario_plays_a_behaviour, no_made_up_fact_is_told,
+    no_made_up_run_is_told,
 };
 pub use ran::{Ran, run_campaign};
 pub use reducing::reduce_one;
@@ -39,9 +40,6 @@ pub use reporting::causes_of;
 pub use results::Results;
 pub use running::{campaign, write_campaign};
 pub use subject::{Host, Subject};
-pub use target_laws::{
-    BrokenLaw, CampaignCases, Candidate, CatalogueFault, ChangedVerdict, Looked, broken_law,
-    changed_verdict, first_broken_law, first_changed_verdict,
-};
+pub use target_laws::{BrokenLaw, Candidate, CatalogueFault, Looked, broken_law, first_broken_law};
 pub use trying::try_one;
 pub use written::write_judged;

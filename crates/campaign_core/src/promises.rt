@@ -5,5 +5,6 @@
 mod laws;
 
 pub use laws::{
-    a_plan_plays_its_behaviour, a_scenario_plays_a_behaviour, made_up_runs_keep_no_promises,
+    a_plan_plays_its_behaviour, a_scenario_plays_a_behaviour, no_made_up_fact_is_told,
+    no_made_up_run_is_told,
 };

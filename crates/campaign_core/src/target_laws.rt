@@ -3,10 +3,8 @@
 mod broken;
 mod candidate;
 mod catalogue;
-mod recheck;
 mod trial;
 
 pub use broken::{BrokenLaw, broken_law, first_broken_law};
 pub use candidate::{Candidate, Looked};
 pub use catalogue::CatalogueFault;
-pub use recheck::{CampaignCases, ChangedVerdict, changed_verdict, first_changed_verdict};

@@ -9,7 +9,6 @@ mod TextLemmas
 mod RunLemmas
 mod StrictLemmas
 pub mod KeepLemmas
-mod SteadyLemmas
 mod PlanQuestions
 mod LineLemmas
 mod FollowLemmas

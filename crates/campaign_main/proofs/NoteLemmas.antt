@@ -54,9 +54,9 @@ of-few may plans t h =
     ]
 
 module _ (c : Campaign) where
-  may-run : (form : Form) (strict recheck : Bool) → NotesFor (order.Run form strict recheck) (run_answer form strict c)
+  may-run : (form : Form) (strict : Bool) → NotesFor (order.Run form strict) (run_answer form strict c)
   unfolding run_answer
-  may-run form strict recheck = of-few (MayNote (order.Run form strict recheck)) _ _ (c, refl)
+  may-run form strict = of-few (MayNote (order.Run form strict)) _ _ (c, refl)
 
   may-plans : NotesFor order.Plans (plans_answer c)
   unfolding plans_answer
@@ -78,7 +78,7 @@ module _ (c : Campaign) where
   may-explain end which (Err refusal) = tt
 
   pub may-with : (end : Run → List (List ℕ)) (o : Order) → NotesFor o (answer_with end o c)
-  may-with end (order.Run form strict recheck) = may-run form strict recheck
+  may-with end (order.Run form strict) = may-run form strict
   may-with end order.Plans = may-plans
   may-with end (order.Try which) = may-try which (taken c which)
   may-with end (order.Reduce which) = may-reduce which (taken c which)
@@ -93,7 +93,7 @@ module _ (calls : Run → List (List ℕ)) (points : List (List ℕ)) where
 
 may-outside : (o : Order) (depth : Option ℕ) (plans : List Entries) (points : List (List ℕ)) (listed : List Entries) → NotesFor o (outside_answer o depth plans (listed_notes points listed))
 unfolding outside_answer
-may-outside (order.Run form strict recheck) depth plans points listed = tt
+may-outside (order.Run form strict) depth plans points listed = tt
 may-outside order.Plans None plans points listed = of-few (MayNote order.Plans) plans _ (points, (listed, refl))
 may-outside order.Plans (Some depth) plans points listed = tt
 may-outside (order.Try which) depth plans points listed = tt

@@ -89,7 +89,7 @@ of_few_plans plans text = if nat_lt most_plans (length plans) then Err too_many_
 
 -- What a document says of the program: its version, whether `target` or `answers` shows the runs, and the command.
 abbrev pub notes_with : List ℕ → List ℕ → NotesFacts
-notes_with told_by command = record { version = codes "0.5.0"; told_by = told_by; command = command }
+notes_with told_by command = record { version = codes "0.7.0"; told_by = told_by; command = command }
 
 -- The form that a command's words name.
 abbrev pub form_in : Form → ReportForm
@@ -153,7 +153,7 @@ taken_answer answer (Err refusal) = Err refusal
 
 -- The answer to an order. An explained run has these lines of its end.
 abbrev pub answer_with : (Run → List (List ℕ)) → Order → Campaign → Answer
-answer_with end (order.Run form strict recheck) c = run_answer form strict c
+answer_with end (order.Run form strict) c = run_answer form strict c
 answer_with end order.Plans c = plans_answer c
 answer_with end (order.Try which) c = taken_answer (try_answer c) (taken c which)
 answer_with end (order.Reduce which) c = taken_answer (reduce_answer c) (taken c which)
@@ -196,7 +196,7 @@ cut_answer calls points order c = answer_with (cut_end calls points c.asks) orde
 unfoldable pub outside_answer : Order → Option ℕ → List Entries → List ℕ → Answer
 outside_answer order.Plans None plans notes = of_few_plans plans (text_of (plan_lines 0 plans), Clean, notes)
 outside_answer order.Plans (Some depth) plans notes = Err outside_with_depth
-outside_answer (order.Run form strict recheck) depth plans notes = Err outside_target
+outside_answer (order.Run form strict) depth plans notes = Err outside_target
 outside_answer (order.Try which) depth plans notes = Err outside_target
 outside_answer (order.Reduce which) depth plans notes = Err outside_target
 outside_answer (order.Explain which) depth plans notes = Err outside_target

@@ -131,7 +131,7 @@ NotesListed notes = (points : List (List ℕ)) × ((listed : List Entries) × (n
 
 -- Which notes an order may have: `run` those on some campaign's report, `plans` those on listed scenarios, the others those on one scenario.
 abbrev pub MayNote : Order → List ℕ → Type 0
-MayNote (order.Run form strict recheck) notes = (c : Campaign) × (notes ≡ report_notes strict c)
+MayNote (order.Run form strict) notes = (c : Campaign) × (notes ≡ report_notes strict c)
 MayNote order.Plans notes = NotesListed notes
 MayNote (order.Try which) notes = NotesAScenario notes
 MayNote (order.Reduce which) notes = NotesAScenario notes

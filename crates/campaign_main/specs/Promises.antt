@@ -14,7 +14,7 @@ RunKeepsPromises c = EachIsMinimal c × EachIsTried c
 
 -- What the text of each order promises. `reduce` promises of its reduced scenario what a report does.
 abbrev pub KeepsPromises : Order → Campaign → Type 0
-KeepsPromises (order.Run form strict recheck) c = RunKeepsPromises c
+KeepsPromises (order.Run form strict) c = RunKeepsPromises c
 KeepsPromises order.Plans c = Unit {0}
 KeepsPromises (order.Try which) c = Unit {0}
 KeepsPromises (order.Reduce which) c = IfOk (taken c which) (λ t. IsReducedToMinimal c t.0 t.1)

@@ -12,7 +12,6 @@ ghost use Rattle.campaign_main.specs.Promises.{KeepsPromises, RunKeepsPromises};
 use crate::exit::{Answered, Conclusion, concluded, judged};
 use crate::fault::CommandFault;
 use crate::notes::{is_doubted, listed_of, notes_on, report_notes_on};
-use crate::steady::check_steady;
 use campaign_core::{
     CampaignFault, Ending, Host, Ran, Subject, ToExplain, explain_one, plan_list, plan_scenario,
     reduce_one, run_campaign, try_one, write_campaign,
@@ -69,38 +68,21 @@ where
     write_campaign(host, subject, &form_in(form), ran, output)
 }
 
-/// How a campaign is run and reported.
-#[derive(Clone, Copy)]
-pub struct Running {
-    pub form: Form,
-    /// Whether the report is strict. The same runs then show which points none of them hits.
-    pub strict: bool,
-    /// Whether each plan that fails is run once more before anything is written.
-    pub recheck: bool,
-}
-
 /// Runs a campaign, and writes its report.
-pub fn run_plans<T: Target + Send, W: Sink, H: Threads + Wait + Sync, G: Gate>(
+fn run_plans<T: Target + Send, W: Sink, H: Threads + Wait + Sync, G: Gate>(
     host: &Host<'_, G, H>,
     subject: &Subject<'_, T>,
-    running: Running,
+    form: Form,
+    strict: bool,
     output: &mut W,
 ) -> Result<Answered, CommandFault>
 where
     T::Workload: Sync,
     requires { W.has_failed output.old ≡ false }
-    ensures text { ComesTo (run_answer running.form running.strict (campaign_in T.Target subject.now)) (change W.Sink output.old output.new) result }
+    ensures text { ComesTo (run_answer form strict (campaign_in T.Target subject.now)) (change W.Sink output.old output.new) result }
     ensures promises { OnOk result (RunKeepsPromises (campaign_in T.Target subject.now)) }
 {
-    let Running {
-        form,
-        strict,
-        recheck,
-    } = running;
     let ran = run_campaign(host, subject, strict)?;
-    if recheck {
-        check_steady(host.alloc, subject, &ran)?;
-    }
     let notes = report_notes_on(host.alloc, subject, &ran, strict)?;
     let ending = report_plans(host, subject, form, &ran, output)?;
     let doubted = is_doubted(strict, notes.as_str());
@@ -251,14 +233,7 @@ where
     ensures promises { OnOk result (KeepsPromises order.now (campaign_in T.Target subject.now)) }
 {
     match order {
-        Order::Run { form, strict, .. } => {
-            let running = Running {
-                form: *form,
-                strict: *strict,
-                recheck: false,
-            };
-            run_plans(host, subject, running, output)
-        }
+        Order::Run { form, strict } => run_plans(host, subject, *form, *strict, output),
         Order::Plans => list_plans(host, subject, output),
         Order::Try(which) => try_which(host, subject, which, output),
         Order::Reduce(which) => reduce_which(host, subject, which, output),

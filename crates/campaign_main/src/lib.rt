@@ -21,7 +21,6 @@ mod performing;
 mod questions;
 mod refusals;
 mod run_notes;
-mod steady;
 mod subject;
 mod telling;
 mod told;

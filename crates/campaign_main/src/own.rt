@@ -10,7 +10,7 @@ ghost use Rattle.campaign_main.specs.Ends.{ComesTo, EndsAs, EndsBy, Leaves, Note
 ghost use Rattle.campaign_main.specs.Promises.{KeepsPromises};
 ghost use Rattle.campaign_main.specs.OwnTarget.{OwnKeepsPromises, own_text_answer, own_words_line, target_answer, worded_answer, worded_text_answer};
 
-use crate::command::{Running, command, run_plans};
+use crate::command::command;
 use crate::exit::{Answered, Exit};
 use crate::fault::CommandFault;
 use crate::input::read_all;
@@ -46,8 +46,8 @@ fn check_lawful<T: Target>(alloc: Global, subject: &Subject<'_, T>) -> Result<()
     }
 }
 
-/// Does what is ordered with a target that the program brings itself, as [`command`] does. The target's laws are checked first, and with `recheck`
-/// each plan that fails is run once more. If the target breaks a law or changes its verdict, which no proved target does, the command is refused.
+/// Does what is ordered with a target that the program brings itself, as [`command`] does. The target's laws are checked first. If it breaks
+/// one, which no proved target does, the command is refused.
 pub fn own_command<T: Target + Send, D: RunEnd<T>, W: Sink, H: Threads + Wait + Sync, G: Gate>(
     host: &Host<'_, G, H>,
     subject: &Subject<'_, T>,
@@ -64,21 +64,7 @@ where
     ensures promises { OnOk result (KeepsPromises order.now (campaign_in T.Target subject.now)) }
 {
     check_lawful(host.alloc, subject)?;
-    match order {
-        Order::Run {
-            form,
-            strict,
-            recheck: true,
-        } => {
-            let running = Running {
-                form: *form,
-                strict: *strict,
-                recheck: true,
-            };
-            run_plans(host, subject, running, output)
-        }
-        _ => command(host, subject, end, order, output),
-    }
+    command(host, subject, end, order, output)
 }
 
 /// Does what is ordered with this target and its workload, by these settings, and writes the command's text to the output. It is what
@@ -142,8 +128,7 @@ where
 /// `variant` nor a target's table; each of these keys is refused as an unknown one is. If the settings are empty, each key has its default.
 ///
 /// A target that isn't proved is checked first: if it breaks a law of [`campaign_core::broken_law`], the command is refused with a line that names the
-/// law, such as `target: asks after a halt`. If the order is to run with `recheck`, each plan that fails is run once more. If the verdict is another
-/// then, the command is refused with the plan and both verdicts: `target: plan 12: fail lost, then pass`.
+/// law, such as `target: asks after a halt`.
 ///
 /// [`crate::perform`] says what is returned, and for which readers and sinks the contract says which text, which fault and which reduced scenarios.
 pub fn perform_target<

@@ -53,7 +53,6 @@ pub fn whole_run() -> Order {
     Order::Run {
         form: Form::Whole,
         strict: false,
-        recheck: false,
     }
 }
 

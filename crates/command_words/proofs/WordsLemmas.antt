@@ -138,7 +138,6 @@ values-rows f =
       first_value-rows f (codes "shard"),
       first_value-rows f (codes "follow"),
       first_value-rows f (codes "strict"),
-      first_value-rows f (codes "recheck"),
       first_value-rows f (codes "progress"),
       first_value-rows f (codes "progress-plain"),
       first_value-rows f (codes "file"),

@@ -107,10 +107,6 @@ progress_plain_rule = flag_rule (codes "progress-plain")
 abbrev pub strict_rule : Rule
 strict_rule = flag_rule (codes "strict")
 
--- The flag --recheck.
-abbrev pub recheck_rule : Rule
-recheck_rule = flag_rule (codes "recheck")
-
 -- ---- commands
 
 -- A command that takes FILE alone.
@@ -133,10 +129,6 @@ scenario_app name = with_rule (with_rule (with_rule (new_app name) scenario_rule
 abbrev pub shown_app : App → App
 shown_app app = with_rule (with_rule app progress_rule) progress_plain_rule
 
--- A command that may run each failing plan once more.
-abbrev pub rechecked_app : App → App
-rechecked_app app = with_rule app recheck_rule
-
 -- A command that prints which scenarios are still to be tried: all, a part of them, how many, or all as soon as each is known. FILE is required, since
 -- standard input has the answers.
 abbrev pub asks_app : Text → App
@@ -156,7 +148,7 @@ with_commands app (s ∷ rest) = with_commands (with_subcommand app s) rest
 
 abbrev pub campaign_commands : List Shape
 campaign_commands =
-    (shown_app (rechecked_app (report_app (codes "run")))).top ∷ (file_app (codes "plans")).top ∷ (shown_app (file_app (codes "page"))).top ∷ []
+    (shown_app (report_app (codes "run"))).top ∷ (file_app (codes "plans")).top ∷ (shown_app (file_app (codes "page"))).top ∷ []
 
 abbrev pub scenario_commands : List Shape
 scenario_commands =
@@ -203,7 +195,6 @@ pub record Values : Type 0 where
   pub shard : Option Text
   pub follow : Option Text
   pub strict : Option Text
-  pub recheck : Option Text
   pub progress : Option Text
   pub progress_plain : Option Text
   pub file : Option Text
@@ -222,7 +213,6 @@ values_in rows = record {
   shard = first_of (codes "shard") rows;
   follow = first_of (codes "follow") rows;
   strict = first_of (codes "strict") rows;
-  recheck = first_of (codes "recheck") rows;
   progress = first_of (codes "progress") rows;
   progress_plain = first_of (codes "progress-plain") rows;
   file = first_of (codes "file") rows;
@@ -243,7 +233,6 @@ values_of f = record {
   shard = first_value f (codes "shard");
   follow = first_value f (codes "follow");
   strict = first_value f (codes "strict");
-  recheck = first_value f (codes "recheck");
   progress = first_value f (codes "progress");
   progress_plain = first_value f (codes "progress-plain");
   file = first_value f (codes "file");
@@ -292,14 +281,13 @@ abbrev pub progress_form_of : Values → ProgressForm
 progress_form_of v = if is_set v.progress_plain then shows.Plain else (if is_set v.progress then shows.Line else shows.Off)
 
 -- A report is that of `run`, in the form that its flags name, or that of `page`, which takes none of these flags.
-abbrev pub IsReport : Text → Values → Form → Bool → Bool → Type 0
-IsReport name v form strict recheck =
-    ((name ≡ codes "run") × (form_of v ≡ Some form) × (strict ≡ is_set v.strict) × (recheck ≡ is_set v.recheck))
-    ⊎ ((name ≡ codes "page") × (form ≡ Page) × (strict ≡ false) × (recheck ≡ false))
+abbrev pub IsReport : Text → Values → Form → Bool → Type 0
+IsReport name v form strict =
+    ((name ≡ codes "run") × (form_of v ≡ Some form) × (strict ≡ is_set v.strict)) ⊎ ((name ≡ codes "page") × (form ≡ Page) × (strict ≡ false))
 
 -- A command's name and its values give this order.
 abbrev pub IsOrder : Text → Values → Order → Type 0
-IsOrder name v (order.Run form strict recheck) = IsReport name v form strict recheck
+IsOrder name v (order.Run form strict) = IsReport name v form strict
 IsOrder name v order.Plans = name ≡ codes "plans"
 IsOrder name v (order.Try which) = (name ≡ codes "try") × IsWhich v which
 IsOrder name v (order.Reduce which) = (name ≡ codes "reduce") × IsWhich v which
@@ -339,10 +327,9 @@ abbrev pub IsFollowLine : Values → Line → Type 0
 IsFollowLine v (Follow own) = (is_set v.left ≡ false) × (v.shard ≡ None) × (v.file ≡ Some (string_bytes own))
 IsFollowLine v _ = ⊥
 
--- Without a command the program runs a campaign: with the whole report, neither strict nor rechecked, with settings from standard input, and without
--- progress.
+-- Without a command the program runs a campaign: with the whole report, not strict, with settings from standard input, and without progress.
 abbrev pub IsRun : Line → Type 0
-IsRun (Own (order.Run Whole false false) progress file) = (progress ≡ shows.Off) × (file ≡ None)
+IsRun (Own (order.Run Whole false) progress file) = (progress ≡ shows.Off) × (file ≡ None)
 IsRun _ = ⊥
 
 -- A command's name and its values give this line.

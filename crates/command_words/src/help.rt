@@ -78,9 +78,6 @@ pub const FOLLOW: &str = "Go on while answers come, and write each scenario as s
 
 pub const STRICT: &str = "Warn on standard error about gaps in the report, and then end with 5";
 
-pub const RECHECK: &str =
-    "For your own target: run failing plans again, and refuse it if a verdict changes";
-
 pub const PROGRESS: &str =
     "Show on standard error how far it is; --progress=plain: in lines, for logs";
 

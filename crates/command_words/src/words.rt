@@ -2,7 +2,7 @@
 ghost use Rattle.std.specs.Prelude.{◌≡◌, ◌↔◌, ◌∷◌, [], IsTrue, Some, None, not, option_map, is_some, true, false, ◌++◌, IfOk, IfErr, IfSome, OnOk, map, codes, string_bytes};
 ghost use Rattle.clap.specs.Words.{app_of, fault_of, first_value, found_of, new_app, rule_of, subcommand_of, takes};
 ghost use Rattle.clap.specs.declared.builder.command.Command.TheViews.{out-Command as fields_of};
-ghost use Rattle.command_words.specs.Words.{AsksToSee, HasAlso, HasNeeded, IsFaultOf, IsFollowLine, IsLine, IsLineOf, IsName, IsOrder, IsOrderName, IsPart, IsQuestion, IsQuestionName, IsRefusedFor, IsScenarioName, IsWhich, bare_app, campaign_commands, choice_fault, choice_kinds, file_app, file_rule, flag_rule, follow_kinds, form_of, formed_app, told_app, named_if, needed_file_rule, paklour, is_followed, is_set, part_kinds, progress_form_of, spelled, spelled_word, asks_app, question_commands, question_report_app, rechecked_app, report_app, scenario_app, scenario_commands, shown_app, value_rule, values_of, which_kinds, with_commands, words_fault, IsReportQuestion, is_alone, named_shown, only, only_kinds, report_kinds};
+ghost use Rattle.command_words.specs.Words.{AsksToSee, HasAlso, HasNeeded, IsFaultOf, IsFollowLine, IsLine, IsLineOf, IsName, IsOrder, IsOrderName, IsPart, IsQuestion, IsQuestionName, IsRefusedFor, IsScenarioName, IsWhich, bare_app, campaign_commands, choice_fault, choice_kinds, file_app, file_rule, flag_rule, follow_kinds, form_of, formed_app, told_app, named_if, needed_file_rule, paklour, is_followed, is_set, part_kinds, progress_form_of, spelled, spelled_word, asks_app, question_commands, question_report_app, report_app, scenario_app, scenario_commands, shown_app, value_rule, values_of, which_kinds, with_commands, words_fault, IsReportQuestion, is_alone, named_shown, only, only_kinds, report_kinds};
 ghost use Rattle.command_words.specs.declared.words.WordsFault.TheVariants.{Memory};
 
 use crate::help;
@@ -15,7 +15,7 @@ use std::error::Error;
 use std::fmt;
 
 /// The version of the program, as `paklour --version` writes it.
-pub const VERSION: &str = "0.5.0";
+pub const VERSION: &str = "0.7.0";
 
 /// The scenario that a command takes.
 #[derive(Debug, Drop)]
@@ -78,13 +78,8 @@ pub enum ProgressForm {
 /// What the program is to do.
 #[derive(Debug, Drop)]
 pub enum Order {
-    /// Run a campaign, and write its report. If `strict` is set, warn on standard error of what makes the report say less than it seems to. If
-    /// `recheck` is set, run each plan that fails once more first, and refuse the command if the verdicts differ.
-    Run {
-        form: Form,
-        strict: bool,
-        recheck: bool,
-    },
+    /// Run a campaign, and write its report. If `strict` is set, warn on standard error of what makes the report say less than it seems to.
+    Run { form: Form, strict: bool },
     /// List a campaign's plans.
     Plans,
     /// Try a scenario.
@@ -299,14 +294,10 @@ fn scenario_command<'a>(
 
 // The command that runs a campaign and reports it.
 fn run_command<'a>(alloc: Global) -> Result<Command<'a>, AllocError>
-    ensures app { IfOk result (λ command. app_of command ≡ shown_app (rechecked_app (report_app (codes "run")))) }
+    ensures app { IfOk result (λ command. app_of command ≡ shown_app (report_app (codes "run"))) }
     ensures local { IfOk result (λ command. (fields_of command).has_globals ≡ false) }
 {
-    let command = report_command(alloc, "run", help::RUN, help::RUN_EXAMPLES)?.arg(flag_arg(
-        alloc,
-        "recheck",
-        help::RECHECK,
-    ))?;
+    let command = report_command(alloc, "run", help::RUN, help::RUN_EXAMPLES)?;
     with_progress(alloc, command)
 }
 
@@ -489,7 +480,6 @@ fn read_spelled(alloc: Global, words: &[&str]) -> Result<Line, WordsFault>
             order: Order::Run {
                 form: Form::Whole,
                 strict: false,
-                recheck: false,
             },
             progress: ProgressForm::Off,
             file: None,
@@ -728,13 +718,11 @@ fn order_of<'a>(alloc: Global, name: &str, own: &ArgMatches<'a>) -> Result<Order
         "run" => Ok(Order::Run {
             form: form_of(alloc, own)?,
             strict: is_strict(own),
-            recheck: is_set(own, "recheck"),
         }),
         "plans" => Ok(Order::Plans),
         "page" => Ok(Order::Run {
             form: Form::Page,
             strict: false,
-            recheck: false,
         }),
         "try" => Ok(Order::Try(which_of(alloc, name, own)?)),
         "reduce" => Ok(Order::Reduce(which_of(alloc, name, own)?)),

@@ -11,8 +11,5 @@ mod reductions;
 
 pub use censuses::{census_of_a_transfer, looped_census_of_a_transfer};
 pub use commands::{journal_is_cut, transfer_is_performed};
-pub use looks::{
-    law_that_a_candidate_breaks, law_that_a_transfer_breaks, plan_that_a_candidate_changes,
-    plan_that_says_otherwise,
-};
+pub use looks::{law_that_a_candidate_breaks, law_that_a_transfer_breaks};
 pub use reductions::{Pair, reduced_by_a_core, reduced_by_workers, reduced_plainly};

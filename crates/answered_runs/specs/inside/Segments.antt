@@ -1,5 +1,5 @@
 -- How a tree is kept: places that follow one another in segments, and beside these the ways to other places.
-use Rattle.std.specs.Prelude.{◌≡◌, ◌+◌, ◌<◌, ◌==◌, ◌&&◌, ℕ, Bool, false, List, [], ◌∷◌, ◌++◌, length, replicate, slice_get, Option, None, Some, option_and_then, nat_lt, if◌then◌else◌}
+use Rattle.std.specs.Prelude.{◌≡◌, ◌+◌, ◌<◌, ◌==◌, ◌&&◌, ℕ, zero, suc, Bool, false, List, [], ◌∷◌, ◌++◌, length, replicate, slice_get, Option, None, Some, option_and_then, nat_lt, if◌then◌else◌}
 use Rattle.std.specs.List.{AllByRecursion}
 use Rattle.std.specs.Map.{lookup}
 use Rattle.std.specs.Option.{option_map_or}
@@ -42,6 +42,16 @@ pub record IsPutOn (old new : List Segment) (place : ℕ) (said : Said) (answer 
   pub here : answer_at new place ≡ Some answer
   pub answers : (most : ℕ) → answer < most → AllByRecursion (λ (s : Segment). s.answer < most) old → AllByRecursion (λ (s : Segment). s.answer < most) new
 
+-- So many more places were put behind those of segments, each as the one before.
+abbrev pub ArePutOn : ℕ → List Segment → List Segment → ℕ → Said → ℕ → Type 0
+ArePutOn zero old new place said answer = new ≡ old
+ArePutOn (suc n) old new place said answer = (middle : List Segment) × IsPutOn old middle place said answer × ArePutOn n middle new (place + 1) said answer
+
+-- The answer leads from `place + n` to the next place, and what is said at that one is said at `place` too.
+pub record IsAlike (segments : List Segment) (answer place n : ℕ) : Type 0 where
+  pub leads : answer_at segments (place + n) ≡ Some answer
+  pub said : slice_get (expand segments) (place + n + 1) ≡ slice_get (expand segments) place
+
 abbrev pub way_eq : Way → Way → Bool
 way_eq a b = (a.place == b.place) && (a.answer == b.answer)
 
@@ -58,7 +68,7 @@ leads_by segments ways place answer = if is_own (answer_at segments place) answe
 abbrev pub leads_in : List Segment → List (Way × ℕ) → List (List ℕ) → ℕ → Reply → Option ℕ
 leads_in segments ways texts place r = option_and_then (leads_by segments ways place) (number_in texts r)
 
--- The answers in segments and ways have numbers, and the ways come from places.
+-- The answers in segments and ways have numbers, and the ways come from places before this one.
 pub record AreNumbered (segments : List Segment) (ways : List (Way × ℕ)) (texts : List (List ℕ)) (places : ℕ) : Type 0 where
   pub own : AllByRecursion (λ (s : Segment). s.answer < 4 + length texts) segments
   pub others : AllByRecursion (λ (w : Way × ℕ). (w.0.place < places) × (w.0.answer < 4 + length texts)) ways

@@ -1,7 +1,7 @@
 -- What lines say comes next after answers, as a tree of places. Private contracts cite it.
-use Rattle.std.specs.Prelude.{◌≡◌, ◌≢◌, ◌⊎◌, ◌<◌, ℕ, List, [], ◌∷◌, ◌++◌, length, Option, None, Some, option_and_then, slice_get, IfSome}
+use Rattle.std.specs.Prelude.{◌≡◌, ◌≢◌, ◌⊎◌, ◌<◌, ◌+◌, ℕ, zero, suc, List, [], ◌∷◌, ◌++◌, length, replicate, Option, None, Some, option_and_then, slice_get, IfSome}
 use Rattle.std.specs.List.{AllByRecursion}
-use Rattle.action_eval.specs.Answers.{Reply, Go, Run, given_of, start}
+use Rattle.action_eval.specs.Answers.{AllGo, Reply, Go, Run, given_of, hits_of, start}
 use Rattle.target_trait.specs.Cuts.{IsAsking}
 use Rattle.target_trait.specs.Play.{Move, Ask}
 use Rattle.target_trait.specs.declared.judgement.Verdict.{Verdict}
@@ -52,6 +52,16 @@ pub record Adds (t u : Tree) (place : ℕ) (r : Reply) (x : Said) (next : ℕ) :
   pub leads : way u place r ≡ Some next
   pub kept : (n : ℕ) (q : Reply) (m : ℕ) → way t n q ≡ Some m → way u n q ≡ Some m
   pub only : (n : ℕ) (q : Reply) (m : ℕ) → way u n q ≡ Some m → (way t n q ≡ Some m) ⊎ ((n ≡ place) × (q ≡ r) × (m ≡ next))
+
+-- So many new places, each of which `Go` leads to from the one before; the same is said at each.
+abbrev pub AddsOn : ℕ → Tree → Tree → ℕ → Said → Type 0
+AddsOn zero t u place x = u ≡ t
+AddsOn (suc n) t u place x = (middle : Tree) × Adds t middle place Go x (place + 1) × AddsOn n middle u (place + 1) x
+
+-- `Go` leads from `place + n` to the next place, and what is said at that one is said at `place` too.
+pub record IsAlike (t : Tree) (place n : ℕ) : Type 0 where
+  pub leads : way t (place + n) Go ≡ Some (place + n + 1)
+  pub said : slice_get t.said (place + n + 1) ≡ slice_get t.said place
 
 -- ---- what lines say, in a tree
 
@@ -112,6 +122,18 @@ pub record Grows (t u : Tree) : Type 0 where
 abbrev pub Enters : Tree → Tree → ℕ → Reply → Said → ℕ → Type 0
 Enters t u place r x next = ((u ≡ t) × (way t place r ≡ Some next)) ⊎ Adds t u place r x next
 
+-- What comes next at a place.
+pub record IsNext (t : Tree) (place : ℕ) (move : Move) : Type 0 where
+  pub said : Said
+  pub at : slice_get t.said place ≡ Some said
+  pub move_is : move_of said.next ≡ move
+
+-- So many times `Go` leads on from a place, each time to the place after it, at which the same comes next: the places were there, or they are new.
+abbrev pub Follows : ℕ → Tree → Tree → ℕ → Said → Type 0
+Follows zero t u place x = u ≡ t
+Follows (suc n) t u place x =
+    (middle : Tree) × Enters t middle place Go x (place + 1) × IsNext middle (place + 1) (move_of x.next) × Follows n middle u (place + 1) x
+
 -- How two moves differ, at the hit of this number.
 abbrev pub IsConflict : Next → Next → ℕ → Option Conflict → Type 0
 IsConflict x y hit None = move_of x ≡ move_of y
@@ -140,6 +162,13 @@ pub record IsSeen (a : Answered) (s : Entries) (run : SeenRun) : Type 0 where
 -- A run over these points without a hit yet, in which so many hits are answered. Nothing is drawn in it, so any seed will do.
 abbrev pub HasBegun : List (List ℕ) → ℕ → Run → Type 0
 HasBegun points limit r = r ≡ start (given_of r.given.scenario points 0 0 limit)
+
+-- So many hits of a point, from this number on, were played. They all go, and the tree has them.
+pub record GoesAlong (t u : Tree) (r now : Run) (run : SeenRun) (number place point n : ℕ) : Type 0 where
+  pub hits : (m : ℕ) → m < n → slice_get run.hits.now (number + m) ≡ Some point
+  pub follows : Follows n t u place (record { line = run.line; next = Hit point })
+  pub played : now ≡ hits_of r (replicate n point)
+  pub go : AllGo r (replicate n point)
 
 -- A run that a pause stopped after so many hits has no further hit, and is unresolved.
 abbrev pub EndsThere : SeenRun → ℕ → Type 0

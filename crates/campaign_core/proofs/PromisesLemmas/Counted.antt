@@ -62,7 +62,7 @@ so_many t l n = record {
       (contains_map (run_of_plan t) (level t n) plan (subst (λ k. Contains (level t k) plan) size (case_in_level t l c)));
 }
 
-in_range : (from n k x : ℕ) → slice_get (range_with_len from n) k ≡ Some x → x ≡ from + k
+pub in_range : (from n k x : ℕ) → slice_get (range_with_len from n) k ≡ Some x → x ≡ from + k
 in_range from zero k x e = absurd cc
 in_range from (suc n) zero x e = let same : from ≡ x = some_is from x e in omega (arith, same)
 in_range from (suc n) (suc k) x e = let same = in_range (from + 1) n k x e in omega (arith, same)
@@ -74,7 +74,5 @@ module _ (t : Subject) (l : IsLawful t) (d : ℕ) (told : Told) (g : Grew t d to
       let same : from.0 ≡ 0 + n = in_range 0 (d + 1) n from.0 from.1 in
       subst (λ k. AreSoMany k (HasActing t n)) (ap (λ k. length (level t k)) (let goal : n ≡ from.0 = omega (arith, same) in goal) ∙ from.2) (so_many t l n)
 
-  pub size_beyond : AreSoMany told.growth.beyond (HasActing t (suc told.growth.depth))
-  size_beyond =
-      subst (λ k. AreSoMany told.growth.beyond (HasActing t (suc k))) (sym g.depth)
-      (subst (λ k. AreSoMany k (HasActing t (suc d))) (sym g.beyond_is) (so_many t l (suc d)))
+  pub size_beyond : AreSoMany told.growth.beyond (HasActing t (suc d))
+  size_beyond = subst (λ k. AreSoMany k (HasActing t (suc d))) (sym g.beyond_is) (so_many t l (suc d))

@@ -1,6 +1,6 @@
 -- What a report says of a list of plans whose runs differ: each number has its behaviour, and a plan that is the only one with a behaviour is that of
 -- the only number with it.
-use Rattle.std.proofs.Common.{◌≡◌, ◌≢◌, ℕ, ◌+◌, Some, List, ◌∷◌, ◌++◌, map, length, ap, sym, ◌∙◌, subst, arith, length-append}
+use Rattle.std.proofs.Common.{◌≡◌, ◌≢◌, ℕ, Some, List, ◌∷◌, ◌++◌, map, length, ap, sym, ◌∙◌, subst, arith, length-append}
 use Rattle.std.specs.Prelude.{slice_get}
 use Rattle.std.specs.List.{AllByRecursion}
 use Rattle.std.proofs.lemmas.List.{length-map}

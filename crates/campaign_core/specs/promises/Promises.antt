@@ -1,5 +1,6 @@
--- What a report of a campaign with a depth promises about its component, by the facts that it prints and the behaviours of its plans.
-use Rattle.std.specs.Prelude.{◌≡◌, ◌≢◌, ℕ, suc, ◌≤◌, ◌<◌, Option, Some, List, ◌∷◌, ◌++◌, All, AllPairs, Contains, length, map, remove, slice_get}
+-- What a report of a campaign with a depth promises about its component, by the facts that it prints and the behaviours of its plans: that what it
+-- tells is so, that nothing is left out, and what follows for a component of which every run was seen.
+use Rattle.std.specs.Prelude.{◌≡◌, ◌≢◌, ℕ, suc, ◌≤◌, ◌<◌, ◌⊎◌, Option, Some, List, ◌∷◌, ◌++◌, All, AllPairs, Contains, length, map, remove, slice_get}
 use Rattle.std.specs.List.{AllByRecursion, range_with_len}
 use Rattle.scenario_values.specs.Scenario.{Entries, all_faults}
 use Rattle.scenario_values.specs.Keep.{kept}
@@ -22,32 +23,54 @@ verdict_of t told number scenario = verdict_with t.asks t.names told.report.seed
 abbrev pub without : ℕ → Entries → Entries
 without fault scenario = kept (remove (range_with_len 0 (all_faults scenario)) fault) scenario
 
--- ---- a finding
+-- ---- what is told is so
 
--- A finding has the lowest number that fails with its code. Its reduced scenario fails with that code, and doesn't if any one of its faults is left
--- out.
+-- A finding has the lowest number that fails with its code, and the scenario that is printed fails with it. So does the reduced scenario, which doesn't
+-- if any one of its faults is left out.
 pub record IsReduced (t : Subject) (told : Told) (f : FindingFacts) : Type 0 where
   pub fails : HasVerdict told f.number (Fail f.code)
   pub least : (other : ℕ) → other < f.number → HasVerdict told other (Fail f.code) → ⊥
+  pub scenario_fails : verdict_of t told f.number f.scenario ≡ Fail f.code
   pub reduced_fails : verdict_of t told f.number f.reduced ≡ Fail f.code
   pub minimal : (fault : ℕ) → fault < all_faults f.reduced → verdict_of t told f.number (without fault f.reduced) ≢ Fail f.code
 
--- Besides, if the number is of a level, no behaviour in which fewer faults act fails with the code, and the reduction keeps each fault.
-pub record IsFinding (t : Subject) (told : Told) (f : FindingFacts) : Type 0 where
-  pub reduced : IsReduced t told f
-  pub fewest : f.number < count_of_levels told → (found hits : List Met) → HasBehaviour told f.number found → IsBehaviourOfKinds t hits
-      → acting hits < acting found → verdict_at_end t hits ≢ Fail f.code
-  pub keeps_each : f.number < count_of_levels told → f.reduced ≡ f.scenario
-
--- ---- a cause
-
--- A cause fails with its code. If its number is of a level, it doesn't if any one of its faults is left out: no behaviour whose hits are answered by
--- its other faults fails with the code.
+-- A cause fails with its code, and so does the scenario that is printed. If its number is of a level, it doesn't if any one of its faults is left out:
+-- no behaviour whose hits are answered by its other faults fails with the code.
 pub record IsCause (t : Subject) (told : Told) (c : CauseFacts) : Type 0 where
   pub told_of : c.number < count_of_all told
   pub fails : HasVerdict told c.number (Fail c.code)
+  pub scenario_fails : verdict_of t told c.number c.scenario ≡ Fail c.code
   pub least : c.number < count_of_levels told → (found hits : List Met) (left : Met) → HasBehaviour told c.number found → Contains (faults found) left
       → IsBehaviour t hits → AnsweredWithout left (faults found) hits → verdict_at_end t hits ≢ Fail c.code
+
+-- Of a report to depth d.
+pub record Sound (t : Subject) (d : ℕ) (told : Told) : Type 0 where
+  -- Each number has a behaviour. It is one of the component's, each fault in it is of a kind that is tried at its point, and the number's verdict is
+  -- the one at the behaviour's end. No two numbers have the same one.
+  pub behaves : AllByRecursion (IsBehaviourOfKinds t) told.behaviours
+  pub judged : (number : ℕ) (hits : List Met) → HasBehaviour told number hits → HasVerdict told number (verdict_at_end t hits)
+  pub all_told : length told.behaviours ≡ count_of_all told
+  pub nothing_twice : EachTwo (λ hits others. hits ≢ others) told.behaviours
+  -- The depth is told, and so are levels 0 to d and no more. Number 0 is the run without faults, and its verdict is told by itself too.
+  pub depth : told.growth.depth ≡ d
+  pub levels : length told.growth.levels ≡ suc d
+  pub clean : (hits : List Met) × HasBehaviour told 0 hits × (acting hits ≡ 0) × HasVerdict told 0 told.report.clean
+  -- How often a point is reached is told of each point. If it is reached at all, one of the behaviours hits it so often.
+  pub points : length told.growth.reached ≡ length t.names
+  pub reached : (point times : ℕ) → slice_get told.growth.reached point ≡ Some times → 0 < times
+      → (hits : List Met) × Contains told.behaviours hits × (times_hit point hits ≡ times)
+  -- Each finding and each cause that is listed is one, and no two findings have the same code.
+  pub findings : All (IsReduced t told) told.report.findings
+  pub once : AllPairs (λ f g. f.code ≢ g.code) told.report.findings
+  pub causes : All (IsCause t told) told.growth.causes
+
+-- ---- nothing is left out
+
+-- Some runs may be recorded without their hits. `IsUnseen` says which hits begin like one of these; if there are none, it holds of nothing.
+
+-- Exactly one number below a bound has the behaviour, with its verdict, or the behaviour begins like a run that nobody has seen.
+abbrev pub IsToldOrUnseen : Subject → Told → (List Met → Type 0) → ℕ → List Met → Type 0
+IsToldOrUnseen t told IsUnseen bound hits = IsToldOnce told bound hits (verdict_at_end t hits) ⊎ IsUnseen hits
 
 -- A behaviour that fails with a code has a listed cause: one with the same code, whose faults are among the behaviour's own.
 pub record HasCause (told : Told) (code : ℕ) (failing : List Met) : Type 0 where
@@ -56,37 +79,53 @@ pub record HasCause (told : Told) (code : ℕ) (failing : List Met) : Type 0 whe
   pub code_is : cause.code ≡ code
   pub among : (found : List Met) → HasBehaviour told cause.number found → AllByRecursion (Contains (faults failing)) (faults found)
 
--- ---- the promises
+-- A behaviour fails with a code, has some of these hits' faults and no others, and begins like a run that nobody has seen.
+pub record HasUnseenCause (t : Subject) (IsUnseen : List Met → Type 0) (code : ℕ) (failing : List Met) : Type 0 where
+  pub hits : List Met
+  pub behaves : IsBehaviourOfKinds t hits
+  pub fails : verdict_at_end t hits ≡ Fail code
+  pub among : AllByRecursion (Contains (faults failing)) (faults hits)
+  pub unseen : IsUnseen hits
 
--- What a report to depth d promises.
-pub record Promises (t : Subject) (told : Told) : Type 0 where
-  -- What is told is so: the behaviour of each number is one of the component's, each fault in it is of a kind that is tried at its point, and the
-  -- number's verdict is the one at the behaviour's end.
-  pub behaves : AllByRecursion (IsBehaviourOfKinds t) told.behaviours
-  pub judged : (number : ℕ) (hits : List Met) → HasBehaviour told number hits → HasVerdict told number (verdict_at_end t hits)
+pub record Complete (t : Subject) (d : ℕ) (told : Told) (IsUnseen : List Met → Type 0) : Type 0 where
   -- Each behaviour in which at most d faults act is that of exactly one number of the levels, with its verdict.
-  pub nothing_skipped : (hits : List Met) → IsBehaviourOfKinds t hits → acting hits ≤ told.growth.depth
-      → IsToldOnce told (count_of_levels told) hits (verdict_at_end t hits)
-  -- Level n has as many plans as there are behaviours in which exactly n faults act, and `beyond` is how many behaviours have d + 1.
-  pub sizes : (n size : ℕ) → slice_get told.growth.levels n ≡ Some size → AreSoMany size (HasActing t n)
-  pub beyond : AreSoMany told.growth.beyond (HasActing t (suc told.growth.depth))
-  -- Each number has a behaviour, and no two numbers have the same one.
-  pub all_told : length told.behaviours ≡ count_of_all told
-  pub nothing_twice : EachTwo (λ hits others. hits ≢ others) told.behaviours
+  pub nothing_skipped : (hits : List Met) → IsBehaviourOfKinds t hits → acting hits ≤ d
+      → IsToldOrUnseen t told IsUnseen (count_of_levels told) hits
   -- Sticky faults are tried: if fewer than d faults act, and then a return at one hit and at each later hit of its point, the behaviour is that of
   -- exactly one number, with its verdict.
   pub from_then_on : (before after : List Met) (hit : Met) (text : Option (List ℕ)) → hit.reply ≡ Return text → IsBehaviourOfKinds t (before ++ hit ∷ after)
-      → acting before < told.growth.depth → ReturnsOnward text hit.site.point after
-      → IsToldOnce told (count_of_all told) (before ++ hit ∷ after) (verdict_at_end t (before ++ hit ∷ after))
+      → acting before < d → ReturnsOnward text hit.site.point after
+      → IsToldOrUnseen t told IsUnseen (count_of_all told) (before ++ hit ∷ after)
   -- If the report says that no plan lies beyond, no behaviour is skipped, however many faults act in it.
-  pub whole : told.growth.beyond ≡ 0 → (hits : List Met) → IsBehaviourOfKinds t hits → IsToldOnce told (count_of_levels told) hits (verdict_at_end t hits)
-  -- Each code with which a number fails has exactly one finding.
-  pub findings : All (IsFinding t told) told.report.findings
+  pub whole : told.growth.beyond ≡ 0 → (hits : List Met) → IsBehaviourOfKinds t hits → IsToldOrUnseen t told IsUnseen (count_of_levels told) hits
+  -- Each code with which a number fails has a finding. Each number of a level that fails has a listed cause, or one that nobody has seen.
   pub found : (number code : ℕ) → HasVerdict told number (Fail code) → (f : FindingFacts) × Contains told.report.findings f × (f.code ≡ code)
-  pub once : AllPairs (λ f g. f.code ≢ g.code) told.report.findings
-  -- Each number of a level that fails has a cause, and each listed cause is one.
-  pub causes : All (IsCause t told) told.growth.causes
   pub caused : (number code : ℕ) (hits : List Met) → number < count_of_levels told → HasBehaviour told number hits → HasVerdict told number (Fail code)
-      → HasCause told code hits
+      → HasCause told code hits ⊎ HasUnseenCause t IsUnseen code hits
+
+-- What a report to depth d promises of a component of which some runs may be unseen.
+pub record PromisesAsSeen (t : Subject) (d : ℕ) (told : Told) (IsUnseen : List Met → Type 0) : Type 0 where
+  pub sound : Sound t d told
+  pub complete : Complete t d told IsUnseen
+
+-- ---- a component of which every run was seen
+
+abbrev pub nothing_unseen : List Met → Type 0
+nothing_unseen hits = ⊥
+
+-- If the number of a finding is of a level, no behaviour in which fewer faults act fails with the code, and the reduction keeps each fault.
+pub record HasFewest (t : Subject) (told : Told) (f : FindingFacts) : Type 0 where
+  pub fewest : f.number < count_of_levels told → (found hits : List Met) → HasBehaviour told f.number found → IsBehaviourOfKinds t hits
+      → acting hits < acting found → verdict_at_end t hits ≢ Fail f.code
+  pub keeps_each : f.number < count_of_levels told → f.reduced ≡ f.scenario
+
+pub record Promises (t : Subject) (d : ℕ) (told : Told) : Type 0 where
+  pub seen : PromisesAsSeen t d told nothing_unseen
+  -- Level n has as many plans as there are behaviours in which exactly n faults act, and `beyond` is how many behaviours have d + 1.
+  pub sizes : (n size : ℕ) → slice_get told.growth.levels n ≡ Some size → AreSoMany size (HasActing t n)
+  pub beyond : AreSoMany told.growth.beyond (HasActing t (suc d))
+  pub fewest : All (HasFewest t told) told.report.findings
   -- The number after `reached` is the most hits of a point that one of the behaviours has.
-  pub reached : (point : ℕ) → point < length t.names → slice_get told.growth.reached point ≡ Some (most (map (times_hit point) told.behaviours))
+  pub most : (point : ℕ) → point < length t.names → slice_get told.growth.reached point ≡ Some (most (map (times_hit point) told.behaviours))
+  -- `census` tells how often the run without faults hits each point.
+  pub census : (hits : List Met) → HasBehaviour told 0 hits → told.report.census ≡ map (λ point. times_hit point hits) (range_with_len 0 (length t.names))

@@ -1,4 +1,4 @@
--- Two components, and runs that they never have. A law says that no report on them which tells such a run keeps its promises.
+-- Two components, and runs that they never have. Laws say that no report on them which tells such a run is sound.
 use Rattle.std.specs.Prelude.{ℕ, List, [], ◌∷◌, None, codes}
 use Rattle.action_eval.specs.Answers.{Reply, Go, Return, Halt}
 use Rattle.target_trait.specs.declared.judgement.Judgement.TheVariants.{Broken, Kept}
@@ -29,7 +29,3 @@ first_returns = met (record { point = 0; hit = 1 }) (Return None) ∷ []
 
 abbrev pub second_returns : List Met
 second_returns = met (record { point = 0; hit = 1 }) Go ∷ (met (record { point = 0; hit = 2 }) (Return None) ∷ [])
-
--- Each run is recorded with its hits.
-abbrev pub nothing_unseen : List Met → Type 0
-nothing_unseen hits = ⊥

@@ -1,5 +1,5 @@
 //! Laws of behaviours, as contracts of functions that do nothing.
-ghost use Rattle.std.specs.Prelude.{◌≡◌, ℕ, Contains, List};
+ghost use Rattle.std.specs.Prelude.{◌≡◌, ℕ, suc, Contains, List, Some, length, slice_get};
 ghost use Rattle.scenario_values.specs.Scenario.{Entries};
 ghost use Rattle.action_eval.specs.Answers.{given_of};
 ghost use Rattle.target_trait.specs.Outcomes.{verdict_with};
@@ -7,11 +7,12 @@ ghost use Rattle.grown_plans.specs.Runs.{run, IsUnpaused};
 ghost use Rattle.grown_plans.specs.GrownPlans.{Subject, given_for, run_of_plan, grown};
 ghost use Rattle.grown_plans.specs.Promises.{IsLawful, verdict_of_plan};
 ghost use Rattle.std.specs.List.{AllByRecursion};
-ghost use Rattle.campaign_core.specs.promises.AsSeen.{PromisesAsSeen};
 ghost use Rattle.campaign_core.specs.promises.Behaviours.{IsBehaviour, verdict_at_end};
-ghost use Rattle.campaign_core.specs.promises.Promises.{Promises};
+ghost use Rattle.campaign_core.specs.promises.Promises.{Promises, Sound, verdict_of};
+ghost use Rattle.report.specs.Reports.{CauseFacts, FindingFacts};
+ghost use Rattle.target_trait.specs.declared.judgement.Verdict.TheVariants.{Fail, Pass};
 ghost use Rattle.campaign_core.specs.promises.Told.{Told};
-ghost use Rattle.campaign_core.specs.promises.WrongReports.{first_returns, flawed, nothing_unseen, quiet, second_returns};
+ghost use Rattle.campaign_core.specs.promises.WrongReports.{first_returns, flawed, quiet, second_returns};
 
 /// A scenario plays a behaviour: under any seed and stream number, if no pause stops its run, the run is a behaviour, and the scenario's verdict is
 /// the one at that behaviour's end.
@@ -31,11 +32,24 @@ pub fn a_plan_plays_its_behaviour()
         verdict_of_plan t seed stream plan ≡ verdict_at_end t (run_of_plan t plan)) (grown t d) }
 {}
 
-/// A report that tells a run which its component never has keeps no promises: neither a run with a hit of a component that hits nothing, nor a return
-/// at the second hit of one that hits its point once. So no cause is listed that never happens.
-pub fn made_up_runs_keep_no_promises()
-    ensures hits { (told : Told) → Contains told.behaviours first_returns → Promises quiet told → ⊥ }
-    ensures further { (told : Told) → Contains told.behaviours second_returns → Promises flawed told → ⊥ }
-    ensures hits_seen { (told : Told) → Contains told.behaviours first_returns → PromisesAsSeen quiet told nothing_unseen → ⊥ }
-    ensures further_seen { (told : Told) → Contains told.behaviours second_returns → PromisesAsSeen flawed told nothing_unseen → ⊥ }
+/// A report that tells a run which its component never has isn't sound: neither a run with a hit of a component that hits nothing, nor a return at the
+/// second hit of one that hits its point once. So no cause is listed that never happens.
+pub fn no_made_up_run_is_told()
+    ensures hits { (d : ℕ) (told : Told) → Contains told.behaviours first_returns → Sound quiet d told → ⊥ }
+    ensures further { (d : ℕ) (told : Told) → Contains told.behaviours second_returns → Sound flawed d told → ⊥ }
+{}
+
+/// A report isn't sound that prints another fact than those of its runs: beside a cause or a finding a scenario that passes; another depth than the one
+/// that was asked for, or a level more; of the component that hits nothing, that its point is reached or in the census, or that it fails
+/// without faults.
+pub fn no_made_up_fact_is_told()
+    ensures cause { (t : Subject) (d : ℕ) (told : Told) (cause : CauseFacts) → Contains told.growth.causes cause
+        → verdict_of t told cause.number cause.scenario ≡ Pass → Sound t d told → ⊥ }
+    ensures finding { (t : Subject) (d : ℕ) (told : Told) (found : FindingFacts) → Contains told.report.findings found
+        → verdict_of t told found.number found.scenario ≡ Pass → Sound t d told → ⊥ }
+    ensures depth { (t : Subject) (d : ℕ) (told : Told) → told.growth.depth ≡ suc d → Sound t d told → ⊥ }
+    ensures level { (t : Subject) (d : ℕ) (told : Told) → length told.growth.levels ≡ suc (suc d) → Sound t d told → ⊥ }
+    ensures reached { (d times : ℕ) (told : Told) → slice_get told.growth.reached 0 ≡ Some (suc times) → Sound quiet d told → ⊥ }
+    ensures clean { (d : ℕ) (told : Told) → told.report.clean ≡ Fail 0 → Sound quiet d told → ⊥ }
+    ensures census { (d times : ℕ) (told : Told) → slice_get told.report.census 0 ≡ Some (suc times) → Promises quiet d told → ⊥ }
 {}

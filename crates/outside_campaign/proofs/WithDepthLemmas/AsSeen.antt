@@ -5,12 +5,12 @@ use Rattle.std.specs.List.{AllByRecursion, filter, range_with_len}
 use Rattle.std.proofs.lemmas.List.{append-nil, get_or_append_left, get_or-map, length-append, length-map}
 use Rattle.std.proofs.lemmas.List.Elements.{All-from_recursion}
 use Rattle.std.proofs.lemmas.List.FromFn.{map-range_with_len_more}
-use Rattle.std.proofs.lemmas.Option.{slice_get-get_or, slice_get_within}
+use Rattle.std.proofs.lemmas.Option.{get_or_from_slice_get, slice_get-get_or, slice_get_within}
 use Rattle.scenario_values.specs.Scenario.{DistinctNames, Entries, IsScenario}
 use Rattle.action_eval.specs.declared.rig.Rig.{Rig}
 use Rattle.action_eval.specs.Answers.{Return}
 use Rattle.target_trait.specs.declared.judgement.Verdict.{Verdict}
-use Rattle.target_trait.specs.declared.judgement.Verdict.TheVariants.{Fail}
+use Rattle.target_trait.specs.declared.judgement.Verdict.TheVariants.{Fail, Unresolved}
 use Rattle.grown_plans.specs.Runs.{Met, acting}
 use Rattle.grown_plans.specs.GrownPlans.{Subject, grown, level, levels, levels_to, onward, run_of_plan, scenario_of}
 use Rattle.grown_plans.specs.Promises.{IsCause, IsLawful, IsOfKinds, ReturnsOnward, run_in, verdict_of_plan}
@@ -24,29 +24,30 @@ use Rattle.grown_plans.proofs.PlanRuns.{plan_judged}
 use Rattle.grown_plans.proofs.RiggedScenarios.{CanAct}
 use Rattle.grown_runs.specs.GrownRuns.{cause_at, over}
 use Rattle.grown_runs.specs.known.Known.{KnownRuns}
-use Rattle.grown_runs.specs.known.KnownPart.{is_reached, is_reached_onward, known_levels, to_run}
+use Rattle.grown_runs.specs.known.KnownPart.{are_told, is_reached, is_reached_onward, known_levels, to_run}
 use Rattle.grown_runs.specs.known.KnownPlans.{level_size}
 use Rattle.grown_runs.specs.known.SeenPromises.{IsTriedAsSeen}
 use Rattle.grown_runs.specs.known.Unseen.{BeginsUnseen}
 use Rattle.grown_runs.proofs.KnownLemmas.Seen.{apart, contains_filtered, from_then_on, nothing_skipped, reached_or_unseen, stands_in, whole}
 use Rattle.answered_runs.specs.grown.Further.{further_known}
+use Rattle.answered_runs.specs.grown.Reached.{reached_known}
 use Rattle.result_book.specs.Verdicts.{numbered, verdicts_from}
 use Rattle.result_book.specs.FirstFailures.{first_failures}
 use Rattle.result_book.proofs.EachCodeLemmas.{firsts_of}
-use Rattle.report.specs.Reports.{CauseFacts}
-use Rattle.campaign_core.specs.promises.AsSeen.{HasUnseenCause, IsToldOrUnseen, PromisesAsSeen}
+use Rattle.report.specs.Reports.{CauseFacts, GrowthFacts}
 use Rattle.campaign_core.specs.promises.Behaviours.{IsBehaviourOfKinds, faults, verdict_at_end}
-use Rattle.campaign_core.specs.promises.Promises.{HasCause}
+use Rattle.campaign_core.specs.promises.Promises.{HasCause, HasUnseenCause, IsToldOrUnseen, PromisesAsSeen, Sound}
 use Rattle.campaign_core.specs.promises.Promises.{IsCause as IsToldCause}
 use Rattle.campaign_core.specs.promises.Told.{HasBehaviour, HasVerdict, Told, count_of_all, count_of_levels}
 use Rattle.campaign_core.proofs.PromisesLemmas.Cases.{case_for, case_runs}
 use Rattle.campaign_core.proofs.PromisesLemmas.Counted.{has_acting}
+use Rattle.campaign_core.proofs.PromisesLemmas.Facts.{at_point, first_level, long_range, reached_by, without_faults}
 use Rattle.campaign_core.proofs.PromisesLemmas.Faults.{faults_among}
 use Rattle.campaign_core.proofs.PromisesLemmas.Kinds.{each_of_kinds}
 use Rattle.campaign_core.proofs.PromisesLemmas.Least.{no_lesser}
 use Rattle.campaign_core.proofs.PromisesLemmas.Listed.{Lists, all_are, all_counted, by_case, each_behaves, each_judged, has_behaviour, no_two, told_once}
 use Rattle.campaign_core.proofs.PromisesLemmas.Numbers.{at_contained, contains_at, get_front, get_in_front, get_map, get_unmapped, sum_more}
-use Rattle.campaign_core.specs.Findings.{IsCauseAmong, cause_of}
+use Rattle.campaign_core.specs.Findings.{IsCauseAmong, ReducesToMinimal, cause_of}
 use Rattle.campaign_core.specs.Headline.{Campaign, grower, say}
 use Rattle.campaign_core.proofs.Causes.{each_is}
 use Rattle.campaign_core.proofs.Findings.{found_of, once_each, reduced_at}
@@ -61,7 +62,7 @@ use Rattle.campaign_given.specs.Given.{Given}
 use Rattle.answered_runs.specs.grown.Further.{census_seen}
 use Rattle.grown_runs.specs.known.Known.{hits_of}
 use Rattle.outside_campaign.specs.with_depth.Grown.{campaign}
-use Rattle.outside_campaign.specs.with_depth.Seen.{growth_seen, plans_seen, told_seen}
+use Rattle.outside_campaign.specs.with_depth.Seen.{growth_seen, plans_seen, report_seen, told_seen}
 use Rattle.outside_campaign.specs.declared.with_depth.candidates.Told.{Told as ToldOutcome}
 use Rattle.outside_campaign.specs.with_depth.inside.Outcomes.{IsDecided}
 use Rattle.outside_campaign.proofs.WithDepthLemmas.Reports.{plans_are}
@@ -206,6 +207,7 @@ module _ (c : Campaign) (depth : ℕ) (known : KnownRuns) (l : IsLawful (grower 
       record {
         told_of = omega (arith, inside, all);
         fails = comes_at x.number plan at ∙ ap (λ (v : Verdict). Some v) h.least.0;
+        scenario_fails = ap (say c x.number) h.scenario ∙ h.least.0;
         least = λ levels_low found hits left b has behaves answered.
             let runs : run_of_plan t plan ≡ found = some_is (run_of_plan t plan) found (sym (has_behaviour t l first behind told lists x.number plan at) ∙ b) in
             no_lesser t l depth seed x.number x.code plan found hits left (grown_to plan (in_levels x.number plan levels_low at)) runs h.least has behaves answered;
@@ -261,30 +263,66 @@ module _ (c : Campaign) (depth : ℕ) (known : KnownRuns) (l : IsLawful (grower 
             unseen = begins;
           })
 
+  -- ---- the run without faults
+
+  first_known : (xs : List (List Rig)) → slice_get xs 0 ≡ Some [] → slice_get (filter (is_reached known) xs) 0 ≡ Some []
+  first_known [] e = absurd cc
+  first_known (x ∷ xs) e =
+      let same : x ≡ [] = some_is x [] e in
+      ap (λ (b : Bool). slice_get (cond b (x ∷ filter (is_reached known) xs) (filter (is_reached known) xs)) 0) (ap (is_reached known) same) ∙ e
+
+  first_plan : slice_get (first ++ behind) 0 ≡ Some []
+  first_plan = get_front first behind 0 [] (first_known (levels t depth) (first_level t depth))
+
+  clean_is : HasVerdict told 0 told.report.clean
+  clean_is =
+      let comes = comes_at 0 [] first_plan in
+      comes ∙ ap (λ (v : Verdict). Some v) (sym (get_or_from_slice_get told.report.verdicts 0 (verdict_of_plan t seed 0 []) Unresolved comes))
+
   -- ---- the record
 
-  pub keeps_promises : PromisesAsSeen t told (BeginsUnseen t depth known)
-  keeps_promises =
-      let counts = census_seen t seed (hits_of known []) in
-      let grew = growth_seen t seed plans depth known in
+  pub minimal_seen : All (ReducesToMinimal (say c)) (report_seen c depth known).findings
+  minimal_seen =
       let verdicts : List Verdict = verdicts_from (say c) 0 plans in
-      let minimal = findings_minimal c.asks c.points seed c.given.max_hits plans (first_failures (numbered verdicts))
+      findings_minimal c.asks c.points seed c.given.max_hits plans (first_failures (numbered verdicts))
       (All-from_recursion (λ s. DistinctNames s) plans (all_weaker (λ (s : Entries). IsScenario s) (λ (s : Entries). DistinctNames s) (λ s is. is.distinct_names) plans lawful))
-      (each_fails (say c) plans (first_failures (numbered verdicts)) (firsts_of verdicts)) in
-      record {
-        behaves = told_behaves;
-        judged = told_judged;
-        nothing_skipped = skipped_none;
-        all_told = all_counted t l first behind told lists;
-        nothing_twice = no_two t l first behind told lists;
-        from_then_on = onward_told;
-        whole = whole_told;
-        findings = reduced_at c c.label counts plans (Some grew) grew told.behaviours minimal;
-        found = found_of c c.label counts plans (Some grew) grew told.behaviours minimal;
-        once = once_each c c.label counts plans (Some grew) grew told.behaviours minimal;
-        causes = cause_at_place;
-        caused = caused_of;
-      }
+      (each_fails (say c) plans (first_failures (numbered verdicts)) (firsts_of verdicts))
+
+  abbrev counts : List ℕ
+  counts = census_seen t seed (hits_of known [])
+
+  abbrev grew : GrowthFacts
+  grew = growth_seen t seed plans depth known
+
+  sound : Sound t depth told
+  sound = record {
+    behaves = told_behaves;
+    judged = told_judged;
+    all_told = all_counted t l first behind told lists;
+    nothing_twice = no_two t l first behind told lists;
+    depth = refl;
+    levels = long_range (level_size t known) (depth + 1) ∙ (let one_more : depth + 1 ≡ suc depth = omega arith in one_more);
+    clean = (run_of_plan t [], has_behaviour t l first behind told lists 0 [] first_plan, without_faults t l, clean_is);
+    points = long_range (reached_known t depth known) (length t.names);
+    reached = λ point times at many.
+        reached_by t told (first ++ behind) (filter (λ plan. are_told (hits_of known plan)) (first ++ behind)) refl
+        (λ plan there. contains_filtered (λ (plan : List Rig). are_told (hits_of known plan)) (first ++ behind) plan there) point times (at_point (reached_known t depth known) (length t.names) point times at) many;
+    findings = reduced_at c c.label counts plans (Some grew) grew told.behaviours minimal_seen;
+    once = once_each c c.label counts plans (Some grew) grew told.behaviours minimal_seen;
+    causes = cause_at_place;
+  }
+
+  pub keeps_promises : PromisesAsSeen t depth told (BeginsUnseen t depth known)
+  keeps_promises = record {
+    sound = sound;
+    complete = record {
+      nothing_skipped = skipped_none;
+      from_then_on = onward_told;
+      whole = whole_told;
+      found = found_of c c.label counts plans (Some grew) grew told.behaviours minimal_seen;
+      caused = caused_of;
+    };
+  }
 
 -- ---- the scenarios of each component's list
 

@@ -27,7 +27,7 @@ use Rattle.outside_campaign.specs.with_depth.Grown.{campaign, listed, untried}
 use Rattle.outside_campaign.specs.with_depth.Questions.{AreUnbroken, IsReportedText, Tells}
 use Rattle.outside_campaign.specs.with_depth.Seen.{IsReportAsSeen, first_number_seen, report_seen_in}
 use Rattle.outside_campaign.specs.with_depth.inside.Outcomes.{AreLawfulOf, IsFirstNumberOf, IsTextOf}
-use Rattle.outside_campaign.proofs.WithDepthLemmas.AsSeen.{keeps_promises}
+use Rattle.outside_campaign.proofs.WithDepthLemmas.AsSeen.{keeps_promises, minimal_seen}
 use Rattle.outside_campaign.proofs.WithDepthLemmas.Reports.{grower_is}
 use Rattle.outside_campaign.proofs.WithDepthLemmas.Wholes.{is_whole}
 
@@ -73,7 +73,9 @@ as_seen form outside given a depth text first low same is_text is_first lawful t
     record {
       text_is = text_is;
       first_is = first_is;
-      whole = λ none. is_whole c depth (runs_in a) refl (subst (λ (g : Subject). to_run g depth (runs_in a) ≡ []) own done) none form (told_in a.book) text first text_is first_is;
+      whole = λ none.
+          is_whole c depth (runs_in a) refl (subst (λ (g : Subject). to_run g depth (runs_in a) ≡ []) own done) none (subst IsLawful own is.lawful) is.few low
+          (minimal_seen c depth (runs_in a) (subst IsLawful own is.lawful) (subst (λ (g : Subject). to_run g depth (runs_in a) ≡ []) own done) (lawful t is agrees)) form (told_in a.book) text first text_is first_is;
       promises = keeps_promises c depth (runs_in a) (subst IsLawful own is.lawful) (subst (λ (g : Subject). to_run g depth (runs_in a) ≡ []) own done) (lawful t is agrees);
     }
 

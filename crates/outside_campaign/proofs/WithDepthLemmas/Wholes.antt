@@ -1,10 +1,11 @@
 -- Where the hits of each run are told, the report of a campaign as far as it was seen is that of the whole one.
-use Rattle.std.proofs.Common.{◌≡◌, ℕ, zero, suc, ◌+◌, ◌≤◌, true, List, [], ◌∷◌, Some, None, Option, length, map, refl, ap, sym, ◌∙◌, subst, arith}
+use Rattle.std.proofs.Common.{◌≡◌, ℕ, zero, suc, ◌+◌, ◌<◌, ◌≤◌, ◌^◌, true, All, IfSome, List, [], ◌∷◌, Some, None, Option, length, map, refl, ap, sym, ◌∙◌, subst, arith}
 use Rattle.std.specs.Prelude.{option_map, slice_get}
 use Rattle.std.specs.List.{AllByRecursion, range_with_len}
 use Rattle.scenario_values.specs.Scenario.{Entries}
 use Rattle.action_eval.specs.declared.rig.Rig.{Rig}
 use Rattle.grown_plans.specs.GrownPlans.{Subject, beyond, grown, level, onward}
+use Rattle.grown_plans.specs.Promises.{IsLawful}
 use Rattle.grown_plans.proofs.Members.{all_contains}
 use Rattle.grown_runs.specs.Grown.{level_sizes, reached_each}
 use Rattle.grown_runs.specs.GrownRuns.{cause_at, over}
@@ -17,8 +18,9 @@ use Rattle.grown_runs.proofs.KnownLemmas.Ends.{all_seen, ends_whole}
 use Rattle.result_book.specs.Verdicts.{numbered, verdicts_from}
 use Rattle.result_book.specs.FirstFailures.{first_failures}
 use Rattle.report.specs.Reports.{CauseFacts, GrowthFacts, ReportFacts}
-use Rattle.campaign_core.specs.Findings.{cause_of, growth_of, report_of}
+use Rattle.campaign_core.specs.Findings.{ReducesToMinimal, cause_of, growth_of, report_of}
 use Rattle.campaign_core.specs.Headline.{Campaign, census, grower, grown_to, growth, plans, plans_to, report, say}
+use Rattle.campaign_core.proofs.Promised.{keeps_promises}
 use Rattle.answer_text.specs.Runs.{KnownRuns as ToldRuns}
 use Rattle.report.specs.json_form.About.{ShownFacts, shown_of}
 use Rattle.report.specs.forms.Forms.{text_in}
@@ -118,6 +120,13 @@ module _ (c : Campaign) (depth : ℕ) (known : KnownRuns) (at : c.given.depth �
   pub first_whole : first_number_seen c depth known ≡ first_number c
   first_whole = ap (λ (l : List Entries). option_map (λ (first : ℕ × ℕ). first.0) (slice_get (first_failures (numbered (verdicts_from (say c) 0 l))) 0)) plans_whole
 
-  pub is_whole : (form : Form) (told : ToldRuns) (text : List ℕ) (first : Option ℕ) → text ≡ report_seen_in form c told depth known → first ≡ first_number_seen c depth known
+  pub is_whole : IsLawful t → c.given.max_hits < 2 ^ 32 → depth ≤ 64 → All (ReducesToMinimal (say c)) (report_seen c depth known).findings
+      → (form : Form) (told : ToldRuns) (text : List ℕ) (first : Option ℕ) → text ≡ report_seen_in form c told depth known → first ≡ first_number_seen c depth known
       → IsReportOf form c told text first
-  is_whole form told text first text_is first_is = record { text_is = text_is ∙ report_in_whole form told; first_is = first_is ∙ first_whole }
+  is_whole l few low minimal form told text first text_is first_is = record {
+    text_is = text_is ∙ report_in_whole form told;
+    first_is = first_is ∙ first_whole;
+    promises =
+        keeps_promises c l few (subst (λ (o : Option ℕ). IfSome o (λ d. d ≤ 64)) (sym at) low)
+        (subst (λ (r : ReportFacts). All (ReducesToMinimal (say c)) r.findings) report_whole minimal);
+  }

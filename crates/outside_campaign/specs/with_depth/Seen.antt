@@ -13,10 +13,10 @@ use Rattle.outside_campaign.specs.Telling.{telling}
 use Rattle.result_book.specs.Verdicts.{numbered, verdicts_from}
 use Rattle.result_book.specs.FirstFailures.{first_failures}
 use Rattle.report.specs.Reports.{GrowthFacts, ReportFacts}
-use Rattle.campaign_core.specs.promises.AsSeen.{PromisesAsSeen}
+use Rattle.campaign_core.specs.promises.Promises.{PromisesAsSeen}
 use Rattle.campaign_core.specs.promises.Told.{Told}
 use Rattle.campaign_core.specs.Findings.{cause_of, report_of}
-use Rattle.campaign_core.specs.Headline.{Campaign, grower, say}
+use Rattle.campaign_core.specs.Headline.{Campaign, KeepsPromises, grower, say}
 use Rattle.report.specs.json_form.About.{ShownFacts, shown_of}
 use Rattle.report.specs.forms.Forms.{text_in}
 use Rattle.report.specs.declared.forms.forms.Form.{Form}
@@ -73,10 +73,11 @@ report_seen_in form c told depth known =
 abbrev pub first_number_seen : Campaign → ℕ → KnownRuns → Option ℕ
 first_number_seen c depth known = option_map (λ first. first.0) (slice_get (first_failures (numbered (verdicts_from (say c) 0 (plans_seen c depth known)))) 0)
 
--- A text is the report of the whole campaign, and `first` is the number of its first plan that fails.
+-- A text is the report of the whole campaign, and `first` is the number of its first plan that fails. It keeps what the report of a target does.
 pub record IsReportOf (form : Form) (c : Campaign) (told : ToldRuns) (text : List ℕ) (first : Option ℕ) : Type 0 where
   pub text_is : text ≡ report_in form c told
   pub first_is : first ≡ first_number c
+  pub promises : KeepsPromises c
 
 -- A text is the report of a campaign as far as its runs were seen, and `first` is the number of its first plan that fails. If no run is unseen, they
 -- are those of the whole campaign. The report keeps its promises of each behaviour that doesn't begin like an unseen run.
@@ -84,4 +85,4 @@ pub record IsReportAsSeen (form : Form) (c : Campaign) (told : ToldRuns) (depth 
   pub text_is : text ≡ report_seen_in form c told depth known
   pub first_is : first ≡ first_number_seen c depth known
   pub whole : unseen (grower c) depth known ≡ [] → IsReportOf form c told text first
-  pub promises : PromisesAsSeen (grower c) (told_seen c depth known) (BeginsUnseen (grower c) depth known)
+  pub promises : PromisesAsSeen (grower c) depth (told_seen c depth known) (BeginsUnseen (grower c) depth known)

@@ -3,7 +3,7 @@ use Rattle.std.specs.Prelude.{slice_get}
 use Rattle.std.proofs.lemmas.Option.{slice_get-get_or, slice_get_past}
 use Rattle.scenario_values.specs.Scenario.{Entries}
 use Rattle.scenario_values.specs.Tidied.{tidied}
-use Rattle.action_eval.specs.Answers.{reply_of_answer}
+use Rattle.action_eval.specs.Answers.{Go, Reply, reply_of_answer, stopped}
 use Rattle.target_trait.specs.Play.{Ask}
 use Rattle.answered_runs.specs.Agreement.{IsContradiction, end_by, move_said}
 use Rattle.answered_runs.specs.Answered.{Answered}
@@ -13,7 +13,7 @@ use Rattle.answered_runs.specs.declared.tree.Said.{Said}
 use Rattle.answered_runs.specs.declared.saying.SeenRun.{SeenRun}
 use Rattle.answered_runs.specs.inside.Trees.{IsBroken, IsPut, Tree, line_seen}
 use Rattle.answered_runs.proofs.Places.{below}
-use Rattle.answered_runs.proofs.PutHits.{Through, begins, contradicts, next_played, pauses, place_within, playing_on, plays_on, through, tidy_run, whole}
+use Rattle.answered_runs.proofs.PutHits.{Playing, Through, begins, contradicts, next_played, pauses, place_within, playing_on, plays_far, plays_on, through, tidy_run, whole}
 use Rattle.answered_runs.proofs.saying.put_run.Goals as goal
 
 -- what comes next at a hit, and at the end
@@ -136,3 +136,32 @@ pub follow-requires-2 : goal.follow-requires-2
 follow-requires-2 c =
     let p = c.loop-number.invariant.putting in
     below c.args.runs.now c.loop-number.tree p.sound 0 p.before c.loop-number.place p.sound.some p.reached
+
+pub loop-number-preserved-then-is_none : goal.loop-number-preserved-then-is_none
+loop-number-preserved-then-is_none c =
+    let a : Answered = c.args.runs.now in
+    let w : Entries = c.args.session.now.given.scenario in
+    let i = c.loop-number.number in
+    let run : SeenRun = c.args.run.now in
+    let p = c.loop-number.invariant in
+    let less : i < length run.hits.now = search (rules, arith) in
+    let same : IsBroken c.said.result (hit_here run i) (i + 1) None = subst (IsBroken c.said.result (hit_here run i) (i + 1)) c.in_default.is c.broken_at.ensures in
+    let g : Through a (tidied w) run c.args.tree.now c.follow.new.tree i c.in_ok-place.place =
+    through a (tidied w) run c.args.tree.now c.loop-number.tree i c.loop-number.place (reply_of_answer c.loop-number.answer) (tidy_run a w run i) p.putting c.requires.seen c.follow.new.tree (hit_here run i)
+    c.in_ok-place.place refl (at_hit run i less) c.in_ok-place.ensures c.said.result (i + 1) c.said.ensures same
+    in
+    let now = c.in_ok-answer.ensures.ok ∙ next_played a w run i c.loop-number.session p.now_is less in
+    let first =
+    plays_on a w run c.requires.lawful c.args.tree.now c.follow.new.tree i c.in_ok-place.place g less c.ask_on.new.self now c.loop-number.session (reply_of_answer c.in_ok-answer.answer) p.now_is c.in_ok-answer.ensures.told
+    (sym c.is_cut_short.ensures ∙ c.if-is_cut_short.false)
+    in
+    let go : reply_of_answer c.in_ok-answer.answer ≡ Go = c.goes.ensures c.if-goes.true in
+    let along = c.in_ok-count.ensures.along in
+    let runs : stopped c.ask_on.new.self ≡ None = search rules in
+    let n = c.in_ok-count.count in
+    let far =
+    plays_far a w run c.requires.lawful c.requires.seen c.args.tree.now (get_or run.hits.now i 0) n c.follow.new.tree c.go_along.new.tree (i + 1) c.in_ok-place.place c.ask_on.new.self
+    (subst (λ (q : Reply). Playing a w run c.args.tree.now c.follow.new.tree (i + 1) c.in_ok-place.place q c.ask_on.new.self) go first) runs along.hits along.follows along.go
+    in
+    subst (λ (q : Reply). Playing a w run c.args.tree.now c.go_along.new.tree (i + 1 + n) (c.in_ok-place.place + n) q c.go_along.new.session) (sym go)
+    (subst (Playing a w run c.args.tree.now c.go_along.new.tree (i + 1 + n) (c.in_ok-place.place + n) Go) (sym along.played) far)
