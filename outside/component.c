@@ -7,6 +7,7 @@
      read N, pread N, readv N N, preadv N N, preadv2 N
      writev_nowhere, readv_nowhere: with a list of parts that isn't there
      fsync, fdatasync, sync_file_range, sync, syncfs, ftruncate N, truncate NAME N, fallocate MODE PLACE N, posix_fallocate N
+     chmod MODE (in digits to the base 8)
      copy NAME N, sendfile NAME N: so many bytes of that file into the open one
      rename FROM TO, exchange ONE OTHER, link FROM TO, name NAME (gives the open file a name), unlink NAME, remove NAME
      mkdir NAME, rmdir NAME, symlink TEXT NAME, mkstemp PATTERN, mkstemps PATTERN N, mkdtemp PATTERN
@@ -120,6 +121,7 @@ static long do_sync_file_range(char **with) { return (void)with, sync_file_range
 static long do_sync(char **with) { return (void)with, sync(), 0; }
 static long do_syncfs(char **with) { return (void)with, syncfs(file); }
 static long do_ftruncate(char **with) { return ftruncate(file, atol(with[0])); }
+static long do_chmod(char **with) { return fchmod(file, (mode_t)strtoul(with[0], NULL, 8)); }
 static long do_truncate(char **with) { return truncate(with[0], atol(with[1])); }
 static long do_fallocate(char **with) { return fallocate(file, atoi(with[0]), atol(with[1]), atol(with[2])); }
 static long do_posix_fallocate(char **with) {
@@ -307,7 +309,7 @@ static const struct step {
     STEP(open, 1), STEP(create, 1), STEP(creat, 1), STEP(log, 1), STEP(folder, 1), STEP(tmpfile, 1), STEP(write, 1),
     STEP(pwrite, 1), STEP(writev, 2), STEP(pwritev, 2), STEP(pwritev2, 1), STEP(fill, 1), STEP(read, 1), STEP(pread, 1),
     STEP(readv, 2), STEP(preadv, 2), STEP(preadv2, 1), STEP(fsync, 0), STEP(fdatasync, 0), STEP(sync_file_range, 0),
-    STEP(sync, 0), STEP(syncfs, 0), STEP(ftruncate, 1), STEP(truncate, 2), STEP(fallocate, 3), STEP(posix_fallocate, 1),
+    STEP(sync, 0), STEP(syncfs, 0), STEP(ftruncate, 1), STEP(chmod, 1), STEP(truncate, 2), STEP(fallocate, 3), STEP(posix_fallocate, 1),
     STEP(copy, 2), STEP(sendfile, 2), STEP(rename, 2), STEP(exchange, 2), STEP(link, 2), STEP(name, 1), STEP(unlink, 1),
     STEP(remove, 1), STEP(mkdir, 1), STEP(rmdir, 1), STEP(symlink, 2), STEP(mkstemp, 1), STEP(mkstemps, 2), STEP(mkdtemp, 1),
     STEP(stream, 2), STEP(reopened, 1), STEP(moved, 1), STEP(print, 1), STEP(gets, 1), STEP(flush, 0), STEP(stream_sync, 0),

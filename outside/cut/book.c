@@ -23,17 +23,10 @@ void joined(char *to, const char *folder, const char *name) {
     if (snprintf(to, LONG_PATH, "%s/%s", folder, name) >= LONG_PATH) refuse(name, "the path is too long");
 }
 
-void write_key(char *text, const struct key *key) {
-    snprintf(text, KEY_TEXT, "%llu.%lld.%u", (unsigned long long)key->number, (long long)key->seconds, key->nanoseconds);
-}
+enum { KEY_TEXT = 64 };
 
-bool read_key(const char *text, struct key *key) {
-    unsigned long long number;
-    long long seconds;
-    if (sscanf(text, "%llu.%lld.%u", &number, &seconds, &key->nanoseconds) != 3) return false;
-    key->number = number;
-    key->seconds = seconds;
-    return true;
+static void write_key(char *text, const struct key *key) {
+    snprintf(text, KEY_TEXT, "%llu.%lld.%u", (unsigned long long)key->number, (long long)key->seconds, key->nanoseconds);
 }
 
 /* ---- a folder's names */
@@ -57,12 +50,26 @@ static void write_name(FILE *out, int folder, const char *name, const struct key
     fprintf(out, "%s%c", target, 0);
 }
 
+const char *read_noted(const char *line, struct key *key) {
+    char *at;
+    unsigned kind = *line == 'd' ? S_IFDIR : *line == 'l' ? S_IFLNK : S_IFREG;
+    key->mode = kind | (unsigned)strtoul(line + 1, &at, 8);
+    key->owner = (unsigned)strtoul(at, &at, 10);
+    key->group = (unsigned)strtoul(at, &at, 10);
+    key->number = strtoull(at, &at, 10);
+    if (*at++ != '.') return NULL;
+    key->seconds = strtoll(at, &at, 10);
+    if (*at++ != '.') return NULL;
+    key->nanoseconds = (unsigned)strtoul(at, &at, 10);
+    return *at == ' ' ? at + 1 : NULL;
+}
+
 /* ---- a file's contents */
 
 static void note_contents(int folder, const char *name, int note) {
     int in = openat(folder, name, O_RDONLY | O_NOFOLLOW | O_CLOEXEC);
     must(in >= 0, name);
-    copy_whole(in, note, name);
+    copy_whole(in, note, name, UINT64_MAX);
     must(!close(note), name);
     close(in);
 }

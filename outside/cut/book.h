@@ -8,15 +8,14 @@
 
 #include "tree.h"
 
-enum { KEY_TEXT = 64 };
-
 /* Prints a line and ends the program with 2. */
 _Noreturn void refuse(const char *what, const char *why);
 void must(bool done, const char *what);
 
 void joined(char *to, const char *folder, const char *name);
-void write_key(char *text, const struct key *key);
-bool read_key(const char *text, struct key *key);
+
+/* Reads what a folder's note says of a name: the key, with the kind in its mode. Returns the name, or null if that can't be read. */
+const char *read_noted(const char *line, struct key *key);
 
 /* Opens what a book has of a file's contents (`c`) or of a folder's names (`d`). Returns -1 if it has nothing. */
 int open_note(const char *book, char kind, const struct key *key, int flags);

@@ -34,9 +34,11 @@ static bool next_data(int file, uint64_t at, uint64_t *from, uint64_t *to) {
     return true;
 }
 
-void copy_whole(int in, int out, const char *path) {
+void copy_whole(int in, int out, const char *path, uint64_t end) {
     uint64_t length = length_of(in, path);
-    for (uint64_t at = 0, from, to; at < length && next_data(in, at, &from, &to); at = to) copy_part(in, out, from, to - from, path);
+    if (length > end) length = end;
+    for (uint64_t at = 0, from, to; at < length && next_data(in, at, &from, &to) && from < length; at = to)
+        copy_part(in, out, from, (to < length ? to : length) - from, path);
     must(!ftruncate(out, (off_t)length), path);
 }
 

@@ -1,24 +1,26 @@
-/* Finds which changes the syncs of a run make last. */
+/* Finds what the syncs of a run make last, by the rules of the profile. */
 #ifndef LASTING_H
 #define LASTING_H
 
 #include "replay.h"
 
-enum { SYSTEM_BLOCK = 4096 };
+/* Apply a sync that was noted, at that place of the notes, and one of a file that failed. */
+void sync_changes(struct replay *replay, const struct note *note, uint64_t noted);
+void lose_blocks(struct replay *replay, struct file *file);
 
-/* Whether a change lasts in all of its folders: in each of two it lasts separately. */
-static inline bool lasts_whole(const struct change *change) {
-    return change->lasts && (!change->other_folder || change->other_lasts);
-}
+/* Lets what was lost of the blocks that a change touches be brought by the next sync. */
+void heal_blocks(struct replay *replay, struct file *file, const struct moment *moment);
 
-/* Adds a change to the lists of the syncs that may make it last. */
-void await_sync(struct replay *replay, struct change *change);
+/* Whether a change of a name in that folder, which is made now, may come to last by a sync of something else. */
+bool may_last_later(const struct replay *replay, const struct change *change, const struct file *folder);
 
-/* Apply a sync that was noted, and one that failed. */
-void sync_changes(struct replay *replay, const struct note *note);
-void lose_changes(struct replay *replay, const struct note *note);
+/* Whether a name that a file loses now may be lost to it while what takes the name, which may be null, isn't there. */
+bool may_be_gone(const struct replay *replay, const struct file *loser, const struct file *taker);
 
-/* Makes the blocks that a write touches dirty again, with all lost changes in them. */
-void dirty_again(struct file *file, uint64_t at, uint64_t length);
+/* Says of each part whether it lasts or may, and finds the changes that are pending, when all notes are read. */
+void find_pending(struct replay *replay);
+
+/* Whether a file has a shortening that doesn't last. */
+bool has_pending_shortening(const struct file *file);
 
 #endif

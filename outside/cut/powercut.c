@@ -2,21 +2,14 @@
    trace and, if ROOT is given, notes of the files that are there. The first cut notes the files as the run left them, so that each state can be
    laid out in turn, whatever a judge did to the files of another state.
 
-   A change is one of names (create, mkdir, symlink, link, unlink, rmdir, rename, exchange) or of contents (a write, a store of a page through a
-   mapping, a new length, cleared bytes). A rename or exchange moves both names or neither. If it changes two folders, it lasts in each with that
-   folder's sync. A write of more than FAULTS_BLOCK bytes is one change for each aligned block, since a disk may tear it. A write with O_DSYNC or
-   O_SYNC makes itself last, with the file's length and older writes inside of it. What else is in its block may last or not. A cut lays out the
-   files as they were at the beginning, and over them, in order, the changes that last or are kept. Bytes before a kept write that nothing wrote are
-   zeros. Modes and owners are those that the files have at the cut.
+   replay.h says what is pending, and which states there are; the file `profiles` has the rules by which a sync makes something last. asking.h has the
+   order of the hits of power::keep. They stand in the trace behind the others, with what each asks in place of a file. A pause at one ends the command
+   with 97, and nothing is laid out. Other tasks than a return do nothing. After `recover` the files that were laid out are those of the run, all of
+   them last, and its hits are numbered on.
 
-   A torn write: if `abcdefg` is kept and torn, `abc` is there, and a file that this write makes longer ends behind the `c`. For each kept write or
-   store of two bytes or more, and for each block of a long write, the state `tear` hits power::tear behind power::keep. A return there leaves only
-   the first half, rounded down. Names, new lengths and cleared bytes have no half. The state `keep` never hits power::tear, so that answers for
-   settings without power::tear have no hit of it.
-
-   The hits of power::keep stand in the trace behind the others: hit k is for change k of `pending`, and its hit of power::tear follows it. A pause
-   at either ends the command with 97, and nothing is laid out. Other tasks than a return do nothing. After `recover` the files that were laid out
-   are those of the run, all of them last, and its hits are numbered on.
+   Of the other states `lasting` is what it is if nothing is kept, and `live` if everything is: then files are copied as the cut found them. `names` has
+   the whole sequence and no bytes but those that last, `contents` each file's last length and blocks and nothing of the sequence. So each of the four is
+   one that the profile has.
 
    Before anything is changed, a run is refused, with 2, in which nothing ran under the supervisor or no call under ROOT was made; in which files
    changed that neither the notes explain nor the script named, for example by stores into a mapping of a process that was killed; and one whose
@@ -151,33 +144,35 @@ static void find_cut(struct state *state, const char *run) {
 
 /* Notes the files that are there, prints what the supervisor missed and hasn't printed, and refuses changes that the notes don't explain. */
 static void look_at_what_is_there(struct state *state, struct replay *replay, const struct tree *tree) {
+    static struct asking asking;
     make_book(replay->live, tree);
+    read_found(replay);
     for (; state->unseen_told < state->unseen; state->unseen_told++)
         fprintf(stderr, "powercut: not seen: %s\n", state->unseen_text[state->unseen_told]);
+    begin_asking(&asking, replay, state, KEEPS_ALL);
+    choose(&asking, state, NULL);
     check_unseen(replay, state);
     state->cut.done = 1;
 }
 
 /* ---- what a cut leaves */
 
-static void lay_state(struct replay *replay, const char *name, const struct tree *tree) {
-    bool live_names = !strcmp(name, "live") || !strcmp(name, "names");
-    bool live_contents = !strcmp(name, "live") || !strcmp(name, "contents");
-    empty_tree(tree);
-    names_of_book(replay, replay->live); /* for the modes */
-    if (!live_names) names_of_changes(replay, false);
-    lay(replay, live_contents ? AS_THEY_ARE : LASTING, tree);
+static enum keeping keeping_of(const char *name, const char *scenario) {
+    static const char *const states[] = {[KEEPS_NOTHING] = "lasting", [KEEPS_ALL] = "live", [KEEPS_NAMES] = "names", [KEEPS_CONTENTS] = "contents"};
+    if (scenario) return KEEPS_ASKED;
+    for (enum keeping keeping = 0; keeping < KEEPS_ASKED; keeping++)
+        if (!strcmp(name, states[keeping])) return keeping;
+    refuse(name, !strcmp(name, "keep") ? "this state needs a SCENARIO behind it" : "no such state; the states are lasting, live, names, contents and keep");
 }
 
-static bool takes_scenario(const char *name) { return !strcmp(name, "keep") || !strcmp(name, "tear"); }
-
-static void check_state(const char *name, const char *scenario) {
-    static const char *const states[] = {"lasting", "live", "names", "contents"};
-    if (scenario) return;
-    for (size_t i = 0; i < sizeof states / sizeof *states; i++)
-        if (!strcmp(name, states[i])) return;
-    refuse(name, takes_scenario(name) ? "this state needs a SCENARIO behind it"
-                                      : "no such state; the states are lasting, live, names, contents, keep and tear");
+/* If the run is cut before its end, what the first cut found isn't of this moment. */
+static void lay_state(struct asking *asking, const struct state *state, const char *scenario, const struct tree *tree) {
+    struct replay *replay = asking->replay;
+    bool is_found = !state->cut.is_earlier;
+    choose(asking, state, scenario);
+    empty_tree(tree);
+    if (is_found && asking->keeping == KEEPS_ALL) names_as_found(replay);
+    lay(replay, is_found && (asking->keeping == KEEPS_ALL || asking->keeping == KEEPS_CONTENTS), tree);
 }
 
 /* Lets the run go on with the files that were laid out, all of which last. */
@@ -200,16 +195,16 @@ static void cut(const char *run, const char *root, const char *name, const char 
     static struct replay replay;
     static struct asking asking;
     struct tree tree;
-    check_state(name, scenario);
+    enum keeping keeping = keeping_of(name, scenario);
     struct state *state = state_with_root(run);
     open_root(&tree, state, root);
     check_loaded(state);
     find_cut(state, run);
     read_run(&replay, run, state, state->cut.noted);
     if (!state->cut.done) look_at_what_is_there(state, &replay, &tree);
-    begin_asking(&asking, state, !strcmp(name, "tear"));
-    if (scenario) ask_all(&asking, state, &replay, scenario);
-    lay_state(&replay, name, &tree);
+    else if (!state->cut.is_earlier) read_found(&replay);
+    begin_asking(&asking, &replay, state, keeping);
+    lay_state(&asking, state, scenario, &tree);
     if (goes_on) go_on(state, &replay, &tree, &asking);
 }
 
@@ -220,29 +215,12 @@ static void expect(const char *run, char **names, int count) {
     expect_names(run, names, count);
 }
 
-static const char *kind_of(const struct change *change) {
-    static const char *const kinds[KINDS] = {
-        [CREATED] = "create", [LINKED] = "link", [UNLINKED] = "unlink", [RENAMED] = "rename", [EXCHANGED] = "exchange",
-        [WRITTEN] = "write", [STORED] = "store", [CLEARED] = "clear", [RESIZED] = "resize",
-    };
-    if (change->kind == CREATED && S_ISDIR(change->file->key.mode)) return "mkdir";
-    if (change->kind == CREATED && S_ISLNK(change->file->key.mode)) return "symlink";
-    if (change->kind == UNLINKED && S_ISDIR(change->file->key.mode)) return "rmdir";
-    return kinds[change->kind];
-}
-
 static void tell_pending(const char *run) {
     static struct replay replay;
     struct state *state = state_with_root(run);
     read_run(&replay, run, state, state->cut.done ? state->cut.noted : state->noted);
-    for (size_t i = 0; i < replay.pending.count; i++) {
-        const struct change *change = replay.pending.list[i];
-        printf("%zu\t%s\t%s\t", i + 1, kind_of(change), change->shown);
-        if (change->kind == RESIZED) printf("to %llu\n", (unsigned long long)change->at);
-        else if (is_contents(change))
-            printf("%llu at %llu\n", (unsigned long long)change->length, (unsigned long long)change->at);
-        else printf("-\n");
-    }
+    number_pending(&replay);
+    print_pending(&replay);
 }
 
 int main(int count, char **words) {
@@ -254,7 +232,7 @@ int main(int count, char **words) {
     if (!strcmp(what, "begin") && (count == 3 || count == 4)) begin(words[2], count == 4 ? words[3] : NULL);
     else if (!strcmp(what, "expect") && count > 3) expect(words[2], words + 3, count - 3);
     else if (!strcmp(what, "pending") && count == 3) tell_pending(words[2]);
-    else if (cuts && count == 6 && takes_scenario(words[4])) cut(words[2], words[3], words[4], words[5], what[0] == 'r');
+    else if (cuts && count == 6 && !strcmp(words[4], "keep")) cut(words[2], words[3], words[4], words[5], what[0] == 'r');
     else if (cuts && (count == 4 || count == 5)) cut(words[2], words[3], count == 5 ? words[4] : "lasting", NULL, what[0] == 'r');
     else {
         write_help(2);

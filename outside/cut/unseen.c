@@ -53,14 +53,14 @@ static bool is_explained(const struct replay *replay, const struct file *file) {
     int live, base, out;
     bool same = true;
     if (!S_ISREG(file->key.mode) || !open_noted(replay->live, file, &live)) return true;
-    if (!file->first) {
+    if (!file->moments.count) {
         same = open_noted(replay->base, file, &base) ? same_bytes(base, live) : !lseek(live, 0, SEEK_END);
         if (base >= 0) close(base);
     } else {
         joined(path, replay->run, "explained");
         out = open(path, O_RDWR | O_CREAT | O_TRUNC | O_CLOEXEC, 0600);
         must(out >= 0, path);
-        write_contents(replay, file, true, out, path);
+        write_contents(replay, file, out, path);
         same = same_bytes(out, live);
         must(!unlink(path) && !close(out), path);
     }
@@ -84,13 +84,10 @@ static void add_path(struct paths *paths, char *path) {
 /* The paths that lead to another file at the cut than after all changes, or to a file with other contents. */
 static struct paths unseen_paths(struct replay *replay) {
     struct paths paths = {0};
-    names_of_changes(replay, true);
-    for (size_t i = 0; i < HASHES; i++)
-        for (struct name *name = replay->names[i]; name; name = name->next_of_hash) name->by_changes = name->file;
-    names_of_book(replay, replay->live);
+    names_as_found(replay);
     for (size_t i = 0; i < HASHES; i++)
         for (struct name *name = replay->names[i]; name; name = name->next_of_hash) {
-            if (name->file == name->by_changes && (!name->file || is_explained(replay, name->file))) continue;
+            if (name->now == name->last && (!name->now || is_explained(replay, name->now))) continue;
             char *path = path_of(name->folder, name->text);
             if (!is_expected(replay->run, path)) add_path(&paths, path);
         }

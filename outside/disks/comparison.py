@@ -144,6 +144,17 @@ def told_tree(tree: Entry | str) -> str:
     return "; ".join(changed) or "all as before"
 
 
+def entry_of(state: tuple) -> Entry:
+    """A state in the form of a tree."""
+    if state[0] == "folder":
+        return Entry("folder", state[1], {name: entry_of(below) for name, below in state[2]}, 0)
+    return Entry("link", 0, state[1], 0) if state[0] == "link" else Entry("file", state[1], state[2], 0)
+
+
+def told_state(state: tuple) -> str:
+    return told_tree(entry_of(state))
+
+
 def runs_of(disk: Disk, seeds: range, cuts: Cuts) -> Iterator[Run]:
     for seed in seeds:
         yield run_on(disk, workload(seed), seed, cuts)

@@ -19,9 +19,12 @@ from pathlib import Path
 BLOCK = 4096
 BLKFLSBUF = 0x1261  # an ioctl: nothing of a device stays in memory
 CLONE_NEWNS = 0x20000
+MS_BIND = 0x1000
 MS_PRIVATE_ALL = 0x44000
 ALL_USERS = ["0", "0", "4294967295"]  # as /proc/self/uid_map has them where root is the root of the system
 MNT_DETACH = 2
+WHOLE_FILE = 7  # sync_file_range: wait before, write, wait after
+START_SYNC, WAIT_SYNC = 0x80089418, 0x40089416  # ioctls of Btrfs: its names are written, and its data as far as they were
 WRITE, FLUSH, MARK = range(3)
 RECORD = struct.Struct("=QQQ")
 RECORDER = Path(__file__).resolve().parent.parent / "out" / "recorder"
@@ -108,6 +111,30 @@ def sync_all_of(folder: str) -> None:
         raise OSError(ctypes.get_errno(), "syncfs")
 
 
+def commit_names(hidden: str) -> None:
+    """Makes the file system write what is pending of names, by the sync of a folder of this name at which nobody looks."""
+    os.makedirs(hidden, exist_ok=True)
+    os.chmod(hidden, os.stat(hidden).st_mode ^ 0o010)
+    folder = os.open(hidden, os.O_RDONLY)
+    try:
+        os.fsync(folder)
+        transaction = bytearray(8)
+        with contextlib.suppress(OSError):  # another file system than Btrfs has written them by now, and has no such call
+            fcntl.ioctl(folder, START_SYNC, transaction)
+            fcntl.ioctl(folder, WAIT_SYNC, bytes(transaction))
+    finally:
+        os.close(folder)
+
+
+def write_out(path: str) -> None:
+    """Writes the blocks of a file, and nothing of its names or its length."""
+    file = os.open(path, os.O_RDONLY)
+    failed = libc.sync_file_range(file, ctypes.c_int64(0), ctypes.c_int64(0), WHOLE_FILE)
+    os.close(file)
+    if failed:
+        raise OSError(ctypes.get_errno(), path)
+
+
 @contextlib.contextmanager
 def mounted(device: str, folder: str, file_system: str) -> Iterator[str]:
     with open(device, "rb") as file:
@@ -115,6 +142,17 @@ def mounted(device: str, folder: str, file_system: str) -> Iterator[str]:
     mount(device, folder, file_system)
     try:
         yield folder
+    finally:
+        unmount(folder)
+
+
+@contextlib.contextmanager
+def bound(source: str, folder: str) -> Iterator[None]:
+    """While this lasts, what is in `source` is in `folder` too."""
+    if libc.mount(source.encode(), folder.encode(), None, MS_BIND, None):
+        raise OSError(ctypes.get_errno(), f"{source} can't be mounted at {folder}")
+    try:
+        yield
     finally:
         unmount(folder)
 
@@ -202,10 +240,12 @@ def pieces(offset: int, data: bytes, size: int) -> Iterator[tuple[int, bytes]]:
 class Disk:
     """A recorded disk with a file system on it. `run` does something on it, and then `cut` gives a tree as a power cut leaves it."""
 
-    def __init__(self, file_system: str, base) -> None:
+    def __init__(self, file_system: str, base, megabytes: int = 0, place: str | None = None) -> None:
         self.file_system = file_system
         self.type = FORMATS[file_system].type or file_system
+        self.megabytes = max(megabytes, FORMATS[file_system].megabytes)
         self.base = base
+        self.place = place  # the folder in which its own is, or None for that of other temporary files
         self.resources = contextlib.ExitStack()
         self.records: list[tuple[int, int, bytes]] = []
         self.before: dict[int, bytes] = {}
@@ -213,7 +253,7 @@ class Disk:
     def __enter__(self) -> "Disk":
         keep_mounts_private()
         with contextlib.ExitStack() as made:
-            self.room = made.enter_context(tempfile.TemporaryDirectory(prefix="disks."))
+            self.room = made.enter_context(tempfile.TemporaryDirectory(prefix="disks.", dir=self.place))
             for name in ("recorder", "live", "copy"):
                 os.mkdir(f"{self.room}/{name}")
             image = self.empty("image")
@@ -238,7 +278,7 @@ class Disk:
     def empty(self, name: str) -> str:
         path = f"{self.room}/{name}"
         with open(path, "wb") as file:
-            file.truncate(FORMATS[self.file_system].megabytes << 20)
+            file.truncate(self.megabytes << 20)
         return path
 
     def tell(self, line: str) -> None:
@@ -288,12 +328,8 @@ class Disk:
             old = self.before.get(block, bytes(BLOCK))
             self.before[block] = old[:begin - block] + part + old[begin - block + len(part):]
 
-    def lay(self, moment: int, share: float, chance: random.Random, sector: int) -> None:
-        """Lays the disk as it is after that many records: all that was flushed, and of the rest a share of the sectors."""
-        os.ftruncate(self.laid, 0)
-        os.ftruncate(self.laid, FORMATS[self.file_system].megabytes << 20)
-        for offset, data in self.before.items():
-            os.pwrite(self.laid, data, offset)
+    def written(self, moment: int, share: float, chance: random.Random, sector: int = BLOCK) -> Iterator[tuple[int, bytes]]:
+        """What is on the disk after that many records, in order: all that was flushed, and of the rest a share of the sectors."""
         flushed = max((number for number in range(moment) if self.records[number][0] == FLUSH), default=-1)
         for number in range(moment):
             kind, offset, data = self.records[number]
@@ -301,10 +337,35 @@ class Disk:
                 continue
             for begin, part in pieces(offset, data, sector):
                 if number < flushed or chance.random() < share:
-                    os.pwrite(self.laid, part, begin)
+                    yield begin, part
+
+    def lay(self, moment: int, share: float, chance: random.Random, sector: int) -> None:
+        """Lays the disk as it is after that many records."""
+        os.ftruncate(self.laid, 0)
+        os.ftruncate(self.laid, self.megabytes << 20)
+        for offset, data in self.before.items():
+            os.pwrite(self.laid, data, offset)
+        for offset, data in self.written(moment, share, chance, sector):
+            os.pwrite(self.laid, data, offset)
+
+    @contextlib.contextmanager
+    def left(self, moment: int, share: float, chance: random.Random, sector: int = BLOCK) -> Iterator[str]:
+        """The folder as a power cut at that moment leaves it, mounted elsewhere."""
+        self.lay(moment, share, chance, sector)
+        with mounted(self.laid_device, f"{self.room}/copy", self.type) as copy:
+            yield f"{copy}/root"
+
+    def keep(self, path: str, moment: int, share: float, chance: random.Random, sector: int = BLOCK) -> None:
+        """Writes the image that a power cut at that moment leaves, without its zeros: whole or not at all, and through no link."""
+        self.lay(moment, share, chance, sector)
+        new = f"{path}.new"
+        try:
+            called("cp", "--sparse=always", "--remove-destination", f"{self.room}/laid", new)
+            os.rename(new, path)
+        finally:
+            Path(new).unlink(missing_ok=True)
 
     def cut(self, moment: int, share: float, chance: random.Random, sector: int = BLOCK) -> Entry:
         """The tree that a power cut at that moment leaves."""
-        self.lay(moment, share, chance, sector)
-        with mounted(self.laid_device, f"{self.room}/copy", self.type) as copy:
-            return read_tree(f"{copy}/root")
+        with self.left(moment, share, chance, sector) as root:
+            return read_tree(root)

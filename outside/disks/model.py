@@ -25,6 +25,7 @@ class Moment:
     position: int = 0  # how many changes the sequence had then
     begin: int = 0  # where the bytes begin and end that changed
     end: int = 0
+    is_written: bool = True  # by bytes, and not by a new length alone
 
     def made_in(self, contents: bytes) -> bytes:
         """Other contents after the same change."""
@@ -39,6 +40,9 @@ class Version:
 
     part: Part | None
     value: object
+    is_aside: bool = False  # it isn't what its change did
+    is_unsure: bool = False  # though it lasts, what was there before may be back
+    is_committed: bool = False  # it was there when all was synced
 
 
 def blocks(begin: int, end: int) -> set[int]:
@@ -61,6 +65,7 @@ class Model:
         self.moments = {number: [Moment(self.live.contents[number])] for number, kind in enumerate(self.live.kinds) if kind == "file"}
         self.lasting: set[Part] = set()
         self.may_last: set[Part] = set()
+        self.synced: set[int] = set()  # what was synced itself since all was
         self.synced_folders: set[int] = set()  # those whose later moves, links and unlinks may come to last by a sync of anything
         self.length_since: dict[int, int] = {}  # of each file the moment since which its length lasts,
         self.block_since: dict[tuple[int, int], int] = {}  # of each block of it,
@@ -90,15 +95,25 @@ class Model:
             self.modes[change.makes] = [Version(None, self.live.modes[change.makes])]
             if self.live.kinds[change.makes] == "file":
                 self.moments[change.makes] = [Moment(b"", position=len(self.sequence) + 1)]
+        subjects = self.synced.intersection(change.subjects if change.exchanges else change.subjects[:1])
+        is_of_synced = bool(subjects)
+        if change.makes is None and change.parts[0][2] is not None:  # the name of a synced file may come to last with its length
+            self.length_alone |= {number: len(self.moments[number]) - 1 for number in subjects if number in self.moments}
         for part, (folder, name, number) in zip(self.next_parts(change, len(change.parts)), change.parts):
             versions = self.entries.setdefault((folder, name), [Version(None, None)])
-            if change.makes is None and (folder in self.synced_folders or self.profile.leaves["names"] == "any"):
+            if change.makes is None and (folder in self.synced_folders or is_of_synced or self.profile.leaves["names"] == "any"):
                 self.may_last.add(part)
-                if number is not None and versions[-1].value is not None:  # what was there is taken away, and what takes its place isn't there
+                may_be_gone = self.may_be_gone(versions[-1].value, number)
+                versions[-1].is_unsure |= may_be_gone
+                if number is not None and may_be_gone:  # what was there is taken away, and what takes its place isn't there
                     gone = (part[0], part[1] + len(change.parts))
-                    versions.append(Version(gone, None))
+                    versions.append(Version(gone, None, is_aside=True))
                     self.may_last.add(gone)
             versions.append(Version(part, number))
+
+    def may_be_gone(self, loser: int | None, taker: int | None) -> bool:
+        """Whether a file may have lost its name while what takes it isn't there."""
+        return loser is not None and (self.profile.leaves["names"] == "any" or (loser in self.synced and taker not in self.synced))
 
     def take_contents(self, change: Contents) -> None:
         moments = self.moments[change.number]
@@ -108,7 +123,7 @@ class Model:
             border = {length // BLOCK} if length % BLOCK else set()
             moments.append(Moment(change.contents, border, part, len(self.sequence), change.begin, change.end))
         else:
-            moments.append(Moment(change.contents, blocks(change.begin, change.end), None, len(self.sequence), change.begin, change.end))
+            moments.append(Moment(change.contents, blocks(change.begin, change.end), None, len(self.sequence), change.begin, change.end, change.is_written))
 
     # ---- syncs
 
@@ -117,6 +132,7 @@ class Model:
         rules = [rule for rule in self.profile.rules_of(sync.kind, of) if self.is_so(rule.condition, sync.number)]
         for word in (word for rule in rules for word in rule.may):
             if word == "later":
+                self.synced.add(sync.number)
                 self.synced_folders |= self.near(sync.number)[0]
             elif word == "lengths":
                 self.length_alone |= {number: len(self.moments[number]) - 1 for number in self.near(sync.number)[1] if number in self.moments}
@@ -158,7 +174,7 @@ class Model:
     def parts_of(self, word: str, sync: Sync, condition: list[str]) -> set[Part]:
         """The changes of the sequence that a word of the table speaks of."""
         number = sync.number
-        if word in ("names-all", "all"):
+        if word in ("names-all", "all", "grown"):
             return self.all_parts(len(self.sequence))
         if word == "earlier":
             return self.all_parts(max(self.latest(kind, number) for kind in condition))
@@ -206,11 +222,17 @@ class Model:
 
     def keep_bytes(self, word: str, sync: Sync) -> None:
         """What a word of the table says of the bytes of a file."""
-        if word == "all":
+        if word in ("all", "grown"):
             self.synced_folders.clear()
+            self.synced.clear()
+            for versions in self.entries.values():
+                versions[-1].is_committed = True
             for number in self.moments:
-                self.keep_bytes("contents", Sync("", number))
                 self.keep_bytes("length", Sync("", number))
+                if word == "all":
+                    self.keep_bytes("contents", Sync("", number))
+                else:
+                    self.keep_grown(number)
         last = len(self.moments.get(sync.number, [])) - 1
         if word == "contents":
             for block in blocks(0, max(len(moment.contents) for moment in self.moments[sync.number])):
@@ -221,6 +243,15 @@ class Model:
             self.least.setdefault(sync.number, []).append((sync.end, last))
         elif word == "length" and last >= 0:
             self.length_since[sync.number] = last
+
+    def keep_grown(self, number: int) -> None:
+        """Of each block what was there when bytes in it last made the file longer."""
+        moments = self.moments[number]
+        for at, (before, after) in enumerate(zip(moments, moments[1:]), 1):
+            length = len(before.contents)
+            if after.is_written and len(after.contents) > length:
+                for block in after.touched & blocks(length, len(after.contents)):
+                    self.block_since[number, block] = max(at, self.block_since.get((number, block), 0))
 
     # ---- states
 
@@ -299,12 +330,14 @@ class Way:
         self.known: dict[int, list] = {}
 
     def values(self, versions: list[Version]) -> list:
-        found = []
+        found, is_undone = [], False
         for version in reversed(versions):
-            if version.part is None or version.part in self.there:
-                return found + [version.value]
-            if version.part in self.free:
+            is_there = version.part is None or version.part in self.there or (is_undone and not version.is_aside)
+            if is_there or version.part in self.free:
                 found.append(version.value)
+            is_undone |= is_there and version.is_unsure
+            if is_there and (not is_undone or version.is_committed):
+                break
         return found
 
     def names_in(self, folder: int) -> list[str]:
@@ -400,7 +433,9 @@ class Way:
         moments, leaves = self.model.moments[number], self.model.profile.leaves
         since = self.model.block_since.get((number, block), 0)
         grown = not moments[moment].shortening and block in moments[moment].touched
-        if leaves["zeros"] == "never" or (leaves["zeros"] == "before" and block == (length - 1) // BLOCK and grown):
+        is_alone = not moments[moment].is_written or moment <= self.model.length_alone.get(number, 0)
+        has_bytes = leaves["zeros"] == "before" or (leaves["zeros"] == "written" and not is_alone)
+        if leaves["zeros"] == "never" or (has_bytes and block == (length - 1) // BLOCK and grown):
             since = max(since, moment)
         versions = [at for at in range(self.end_of(number, block, shortened)) if at == 0 or block in moments[at].touched]
         oldest = max(at for at in versions if at <= since)
@@ -445,11 +480,12 @@ class Way:
 
 
 def lengths(moments: list[Moment], first: int, end: int) -> list[tuple[int, int]]:
-    """The lengths of a file from one moment on, each with the moment that it is of, and the borders of blocks on the way from one to the next."""
+    """The lengths of a file from one moment on, each with the moment that it is of, and the borders of blocks among the bytes by which it grows."""
     found = [(len(moments[first].contents), first)]
     for at in range(first + 1, end):
         before, after = len(moments[at - 1].contents), len(moments[at].contents)
-        found += [(border, at) for border in range((before // BLOCK + 1) * BLOCK, after, BLOCK)]
+        begin = max(before, moments[at].begin) if moments[at].is_written else after
+        found += [(border, at) for border in range((begin // BLOCK + 1) * BLOCK, after, BLOCK)]
         if after != before:
             found.append((after, at))
     return found

@@ -1,9 +1,9 @@
-"""The table of profiles, as it stands in the file `profiles`."""
+"""The table of profiles, which the power cut reads too: cut/profiles."""
 
 from dataclasses import dataclass, field
 from pathlib import Path
 
-TABLE = Path(__file__).resolve().parent / "profiles"
+TABLE = Path(__file__).resolve().parent.parent / "cut" / "profiles"
 
 
 @dataclass

@@ -12,7 +12,6 @@ A workload is a text such as `create n; append n 5000; fsync n`. What the steps 
 import contextlib
 import ctypes
 import errno
-import fcntl
 import functools
 import inspect
 import mmap
@@ -22,16 +21,13 @@ import re
 from collections.abc import Callable, Iterator
 from dataclasses import dataclass, field
 
-from .disk import libc, sync_all_of
+from .disk import commit_names, libc, sync_all_of, write_out
 
 Step = tuple[str, ...]
 ROOT = 0
 NEW_MODE = 0o644
 RENAME_EXCHANGE = 2
 AT_FDCWD = -100
-WHOLE_FILE = 7  # sync_file_range: wait before, write, wait after
-START_SYNC = 0x80089418  # of Btrfs: begin to commit; WAIT_SYNC waits for it
-WAIT_SYNC = 0x40089416
 HIDDEN = "../hidden"  # a folder beside that of the workload, by which the kernel is made to commit
 
 BASE = """mkdir d; mkdir g; create a; write a 0 9000; create b; write b 0 8192; create c; write c 0 300; create d/k; write d/k 0 5000; create g/h;
@@ -93,13 +89,15 @@ class Mode:
 
 @dataclass
 class Contents:
-    """Bytes from `begin` to `end` change, and the file is `contents` afterwards. If it is shorter then, that is a shortening."""
+    """Bytes from `begin` to `end` change, and the file is `contents` afterwards. If it is shorter then, that is a shortening. If bytes weren't written, it is
+    a new length alone."""
 
     number: int
     begin: int
     end: int
     contents: bytes
     shortens: bool = False
+    is_written: bool = True
 
 
 @dataclass
@@ -243,7 +241,7 @@ class Live:
         old = self.contents[file]
         if wanted == len(old):
             raise Invalid(path)
-        yield Contents(file, len(old), wanted, old[:wanted].ljust(wanted, b"\0"), shortens=wanted < len(old))
+        yield Contents(file, len(old), wanted, old[:wanted].ljust(wanted, b"\0"), shortens=wanted < len(old), is_written=False)
 
     def changes_of_rewrite(self, number, path, length):
         if self.contents[self.at(path, "file")]:
@@ -261,7 +259,7 @@ class Live:
         yield Sync("fsync", self.at(path, "file", "folder"))
 
     def changes_of_fdatasync(self, _, path):
-        yield Sync("fdatasync", self.at(path, "file"))
+        yield Sync("fdatasync", self.at(path, "file", "folder"))
 
     def changes_of_dsync(self, number, path, at, length):
         yield from self.changes_of_write(number, path, at, length)
@@ -401,8 +399,7 @@ class Maker:
         write_at(self.at(path), filling(number, int(at), int(length)), int(at), os.O_DSYNC)
 
     def sync_file_range(self, _, path):
-        with opened(self.at(path)) as file:
-            must(libc.sync_file_range(file, ctypes.c_int64(0), ctypes.c_int64(0), WHOLE_FILE), path)
+        write_out(self.at(path))
 
     def msync(self, _, path, at, length):
         with mapped(self.at(path), int(at), int(length)) as (mapping, _):
@@ -418,16 +415,7 @@ class Maker:
         self.syncfs(number)
 
     def commit(self, _):
-        """Makes the file system commit what is pending of names, by the sync of a folder that nobody looks at."""
-        hidden = self.at(HIDDEN)
-        os.makedirs(hidden, exist_ok=True)
-        os.chmod(hidden, os.stat(hidden).st_mode ^ 0o010)
-        with opened(hidden, os.O_RDONLY) as folder:
-            os.fsync(folder)
-            transaction = bytearray(8)
-            with contextlib.suppress(OSError):  # another file system than Btrfs has it committed by now, and has no such call
-                fcntl.ioctl(folder, START_SYNC, transaction)
-                fcntl.ioctl(folder, WAIT_SYNC, bytes(transaction))
+        commit_names(self.at(HIDDEN))
 
     def keep_open(self, _, path):
         self.open.append(os.open(self.at(path), os.O_RDWR))

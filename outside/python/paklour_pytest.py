@@ -22,7 +22,7 @@ import pytest
 LOOP = "paklour-loop"
 OLDEST = (3, 11)  # the Python that the loop needs
 STEPS = ("prepare", "run", "again", "judge")
-OF_HARNESS = (*STEPS, "environment", "order", "pin", "unjudged", "allowed", "states")  # what a harness.py may define; other words are options
+OF_HARNESS = (*STEPS, "environment", "order", "pin", "unjudged", "allowed", "states", "version")  # what a harness.py may define; other words are options
 SHORT = {"jobs": "-j"}
 HEAD = """import importlib.util as _util
 import sys as _sys

@@ -40,6 +40,7 @@ enum kind {
     UNLINKED,
     RENAMED,
     EXCHANGED,
+    ATTRIBUTES, /* the mode and owner of `file` became those of its key */
     /* Contents of `file`: */
     WRITTEN,  /* `length` bytes at `at`: they follow, or are copied LATER */
     STORED,   /* the same through a mapping, which makes no file longer */
@@ -47,14 +48,15 @@ enum kind {
     RESIZED,  /* its length became `at` */
     COPIED,   /* the copy of bytes that were noted without one, as they were then */
     /* Syncs, for what was noted before the place `at` of the notes: */
-    SYNCED,       /* all of that file lasts, or the names in that folder */
-    SYNCED_RANGE, /* what is between `from` and `from + length` of that file lasts, and its length */
-    SYNCED_ALL,
+    SYNCED,       /* a sync of `file`, or of all; its flags are a value of enum sync_call */
     SYNC_FAILED,  /* nothing lasts, and the system takes the file's blocks for clean */
     KINDS
 };
 
 enum { LATER = 1 };
+
+/* Which sync it was. DSYNC, of a write that syncs by itself, and MSYNC are of what is between `from` and `from + length` of the file. */
+enum sync_call { FSYNC_CALL, FDATASYNC_CALL, DSYNC_WRITE, MSYNC_CALL, SYNCFS_CALL, SYNC_CALL, SYNCS };
 
 struct note {
     uint64_t size; /* the size of the record: this struct, its names, each with a byte of zero, and its bytes */

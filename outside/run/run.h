@@ -12,7 +12,7 @@
 enum { PAUSED = 97, REFUSED = 98, PANICKED = 99 };
 
 enum { MOST_POINT = 200, MOST_COUNTERS = 4096, MOST_LATER = 1024, MOST_UNSEEN = 8, MOST_UNSEEN_TEXT = 240,
-    LONG_PATH = PATH_MAX + 128 };
+    MOST_PROFILE = 16, LONG_PATH = PATH_MAX + 128 };
 
 /* The counts of one point: its hits, and how often each term of its chain acted. */
 struct counter {
@@ -28,9 +28,6 @@ struct later {
     bool never; /* the file is mapped for writing, so its bytes are always copied at once */
 };
 
-/* Which syncs make a change of names last: those of its folder, also those of the file, or those of anything. */
-enum names_last { WITH_FOLDER, WITH_FILE, WITH_ANY };
-
 /* The file `state` of a run's folder. */
 struct state {
     pthread_mutex_t mutex; /* shared by processes, and taken over if its holder was killed */
@@ -43,10 +40,11 @@ struct state {
     uint64_t started;      /* the number of hits when the run began or went on */
     uint64_t number;       /* the number of the last hit */
     uint64_t noted;        /* how many bytes the notes have */
-    uint64_t block;        /* a longer write is one change for each block of so many bytes */
-    int names_last;        /* a value of enum names_last */
+    uint64_t block;        /* what a disk writes as a whole: so many bytes, by their place in a file */
+    char profile[MOST_PROFILE]; /* that of the disk, by its name in the table of profiles */
     struct {               /* how the first cut found the run, so that states can be laid out in turn */
         int done;
+        int is_earlier;    /* whether it is cut at a moment before its end, so that nobody knows its files but by the notes */
         uint64_t noted, number, trace;
     } cut;
     int unseen, unseen_told; /* what the supervisor knows that it missed, and how many of these were printed */

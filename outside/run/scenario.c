@@ -10,7 +10,7 @@
 
 const char *const point_names[POINTS] = {
     OWN "open",  OWN "read",  OWN "write",   OWN "fsync",   OWN "truncate", OWN "rename", OWN "link", OWN "unlink",
-    OWN "mkdir", OWN "rmdir", OWN "symlink", OWN "connect", OWN "accept",   OWN "send",   OWN "recv", "power::keep", "power::tear",
+    OWN "mkdir", OWN "rmdir", OWN "symlink", OWN "connect", OWN "accept",   OWN "send",   OWN "recv", "power::keep",
     "order::next",
 };
 const char *const task_names[TASKS] = {"off", "return", "sleep", "panic", "print", "pause", "yield", "delay"};

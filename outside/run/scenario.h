@@ -5,12 +5,12 @@
 #include <stdbool.h>
 #include <stdint.h>
 
-/* The calls that are points, in the order of the catalogue, then the two points of a power cut, and the one of the order of threads. `census` has
+/* The calls that are points, in the order of the catalogue, then the point of a power cut, and the one of the order of threads. `census` has
    the same order. */
 enum point {
     OPEN, READ, WRITE, FSYNC, TRUNCATE, RENAME, LINK, UNLINK, MKDIR, RMDIR, SYMLINK, /* of files */
     CONNECT, ACCEPT, SEND, RECV,                                                      /* of sockets */
-    KEEP, TEAR,
+    KEEP,
     NEXT,
     POINTS
 };

@@ -43,7 +43,7 @@ static long write_noted(struct writing *writing, char *bytes, size_t length) {
     if (is_kept) {
         bool later = may_come_later(&writing->file, place, (uint64_t)result);
         note_bytes(WRITTEN, key, place, later ? NULL : &part, 1, (uint64_t)result);
-        if (writing->syncs) note_sync(SYNCED_RANGE, key, state->noted, place, (uint64_t)result);
+        if (writing->syncs) note_sync(DSYNC_WRITE, key, place, (uint64_t)result);
     }
     mapped_was_written(key, place, bytes, (uint64_t)result);
     if (place + (uint64_t)result > writing->file.length) writing->file.length = place + (uint64_t)result;

@@ -9,6 +9,7 @@
 #include "order.h"
 #include "pin.h"
 #include "supervisor.h"
+#include "syncs.h"
 #include "waiting.h"
 
 #include <errno.h>
@@ -316,7 +317,7 @@ static _Noreturn void watch(const char *name) {
     }
 }
 
-static const char usage[] = "faults [--order settled|next] [--pin] [--] COMMAND.., or faults --help";
+static const char usage[] = "faults [--order settled|next] [--pin] [--sync] [--] COMMAND.., or faults --help";
 
 /* Returns the number of the command's first word. */
 static int read_options(int count, char **words) {
@@ -326,6 +327,7 @@ static int read_options(int count, char **words) {
         if (!strcmp(words[at], "--")) return at + 1;
         if (asks_help(words[at])) _exit(write_help(1) ? 0 : REFUSED);
         if (!strcmp(words[at], "--pin")) is_pinned = true;
+        else if (!strcmp(words[at], "--sync")) syncs_disk = true;
         else if (!strcmp(order, "settled") || !strcmp(order, "next")) set_order(*order == 's' ? SETTLED : ASKED), at++;
         else refuse("usage", usage);
     }

@@ -2,6 +2,7 @@
    each sync of the file, when a mapping of it goes, and at the end. */
 #define _GNU_SOURCE
 #include "supervisor.h"
+#include "syncs.h"
 
 #include <errno.h>
 #include <stdio.h>
@@ -237,12 +238,11 @@ static bool find_area(const struct call *call, struct area *area) {
     return found;
 }
 
-/* The part is made of whole pages. */
 void serve_map_sync(struct call *call) {
     struct area area;
     struct facts facts;
     char path[PATH_MAX];
-    uint64_t from = argument(call, call->row->bytes), length = (argument(call, call->row->length) + PAGE - 1) / PAGE * PAGE;
+    uint64_t from = argument(call, call->row->bytes), length = argument(call, call->row->length);
     if (!(argument(call, call->row->flags) & MS_SYNC) || from % PAGE || !find_area(call, &area)) return go_on(call);
     if (length > area.to - from) length = area.to - from;
     if (!look_at(area.file->file, "", AT_EMPTY_PATH, &facts)) return go_on(call);
@@ -250,8 +250,8 @@ void serve_map_sync(struct call *call) {
     enum answer answer = hit(call, FSYNC, shown_path(area.file->file, &facts, path), NULL);
     if (answer == NOT_YET) return;
     lock_run();
-    if (answer == FAIL && forgets) note_sync(SYNC_FAILED, &area.file->key, state->noted, 0, 0);
-    else if (answer == GO) note_sync(SYNCED_RANGE, &area.file->key, state->noted, area.at + (from - area.from), length);
+    if (answer == FAIL && forgets) note_failed_sync(&area.file->key);
+    else if (answer == GO) note_sync(MSYNC_CALL, &area.file->key, area.at + (from - area.from), length);
     unlock_run();
-    if (answer == GO) finish(call, 0);
+    if (answer == GO) finish_sync(call);
 }

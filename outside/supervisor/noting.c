@@ -136,7 +136,17 @@ void note_cleared(const struct key *file, uint64_t at, uint64_t length) {
     write_note(&note, NULL, NULL, NULL, 0, 0);
 }
 
-void note_sync(enum kind kind, const struct key *file, uint64_t noted, uint64_t from, uint64_t length) {
-    struct note note = {.kind = kind, .file = *file, .at = noted, .from = from, .length = length};
+void note_attributes(const struct key *file) {
+    struct note note = {.kind = ATTRIBUTES, .file = *file};
+    write_note(&note, NULL, NULL, NULL, 0, 0);
+}
+
+void note_sync(enum sync_call sync, const struct key *file, uint64_t from, uint64_t length) {
+    struct note note = {.kind = SYNCED, .flags = sync, .file = *file, .at = state->noted, .from = from, .length = length};
+    write_note(&note, NULL, NULL, NULL, 0, 0);
+}
+
+void note_failed_sync(const struct key *file) {
+    struct note note = {.kind = SYNC_FAILED, .file = *file, .at = state->noted};
     write_note(&note, NULL, NULL, NULL, 0, 0);
 }

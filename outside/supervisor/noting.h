@@ -21,7 +21,11 @@ void note_moved(enum kind kind, const struct key *file, const struct key *other_
 void note_bytes(enum kind kind, const struct key *file, uint64_t at, const struct iovec *first, int count, uint64_t length);
 void note_length(const struct key *file, uint64_t length);
 void note_cleared(const struct key *file, uint64_t at, uint64_t length);
-void note_sync(enum kind kind, const struct key *file, uint64_t noted, uint64_t from, uint64_t length);
+
+/* Note what became of a file's mode and owner, that a sync returned, and that one failed. Syncs are for all that is noted by now. */
+void note_attributes(const struct key *file);
+void note_sync(enum sync_call sync, const struct key *file, uint64_t from, uint64_t length);
+void note_failed_sync(const struct key *file);
 
 /* Notes bytes that are in the file already, as a copy inside the system left them. */
 void note_from_file(const struct key *file, const char *path, uint64_t at, uint64_t length);

@@ -3,7 +3,7 @@
    looks into a thread, and parts.c into its memory. known.c and find.c say which files are under the root. hit.c counts and traces hits and says
    what the scenario does there; trace.c writes the lines, and crashes.c those about processes that crashed. noting.c says what is noted, and
    notes_file.c writes it. variables.c reads the environment. ../run has what the power cut shares with it. The other files serve the calls: opens.c,
-   bytes.c, copies.c, lengths.c, syncs.c, names.c and maps.c those on files, streams.c those on pipes and sockets, pin.c random bytes, sleeps.c sleeps,
+   bytes.c, copies.c, lengths.c, syncs.c, names.c, attributes.c and maps.c those on files, streams.c those on pipes and sockets, pin.c random bytes, sleeps.c sleeps,
    and programs.c calls that are no points. */
 #ifndef SUPERVISOR_H
 #define SUPERVISOR_H

@@ -1,8 +1,16 @@
-/* Syncs. A sync promises what was noted before it began. The disk itself isn't synced, since a power cut goes by the notes. */
+/* Syncs. A sync promises what was noted before it began. The disk itself is synced only if it is asked for, since a power cut goes by the notes. */
 #define _GNU_SOURCE
 #include "supervisor.h"
+#include "syncs.h"
 
 #include <errno.h>
+
+bool syncs_disk;
+
+void finish_sync(struct call *call) {
+    if (syncs_disk) go_on(call);
+    else finish(call, 0);
+}
 
 static bool can_be_synced(const struct opened *opened) {
     mode_t mode = opened->facts.file.key.mode;
@@ -13,7 +21,7 @@ static bool can_be_synced(const struct opened *opened) {
 static void note_failed(const struct key *file) {
     if (!is_kept || !forgets) return;
     lock_run();
-    note_sync(SYNC_FAILED, file, state->noted, 0, 0);
+    note_failed_sync(file);
     unlock_run();
 }
 
@@ -26,8 +34,8 @@ void serve_sync(struct call *call) {
     if (answer == FAIL) note_failed(key);
     if (answer != GO) return;
     if (!can_be_synced(&opened)) return go_on(call);
-    if (is_kept) note_sync(SYNCED, key, state->noted, 0, 0);
-    finish(call, 0);
+    if (is_kept) note_sync(call->row->number == SYS_fdatasync ? FDATASYNC_CALL : FSYNC_CALL, key, 0, 0);
+    finish_sync(call);
 }
 
 /* The manual of sync_file_range promises nothing about the disk, so nothing lasts by it. */
@@ -37,6 +45,15 @@ void serve_sync_range(struct call *call) {
     if (hit(call, FSYNC, opened.path, NULL) != GO) return;
     finish(call, result_of(sync_file_range(opened.file, (off_t)argument(call, call->row->at), (off_t)argument(call, call->row->length),
         (unsigned)argument(call, call->row->flags))));
+}
+
+/* Syncs the file system of the root. The others of this machine are none of the program's data. */
+static long sync_root(void) {
+    int folder = open(root, O_RDONLY | O_DIRECTORY | O_CLOEXEC);
+    if (folder < 0) return -errno;
+    long result = result_of(syncfs(folder));
+    close(folder);
+    return result;
 }
 
 /* A sync of all files is a hit with the root as its file. A syncfs of another file system than the root's is no point. */
@@ -51,6 +68,6 @@ void serve_sync_all(struct call *call) {
     enum answer answer = hit(call, FSYNC, ".", NULL);
     if (answer != GO) return;
     note_all_stores();
-    if (is_kept) note_sync(SYNCED_ALL, &(struct key){0}, state->noted, 0, 0);
-    finish(call, 0);
+    if (is_kept) note_sync(call->row->file ? SYNCFS_CALL : SYNC_CALL, &(struct key){0}, 0, 0);
+    finish(call, syncs_disk ? sync_root() : 0);
 }

@@ -3,6 +3,10 @@
 
 #include <sys/syscall.h>
 
+#ifndef SYS_fchmodat2
+#define SYS_fchmodat2 452
+#endif
+
 const struct row table[] = {
     {SYS_open, OPEN, serve_open, .path = 1, .flags = 2, .mode = 3},
     {SYS_openat, OPEN, serve_open, .folder = 1, .path = 2, .flags = 3, .mode = 4},
@@ -49,6 +53,15 @@ const struct row table[] = {
     {SYS_mkdirat, MKDIR, serve_folder, .folder = 1, .path = 2, .mode = 3},
     {SYS_symlink, SYMLINK, serve_symlink, .bytes = 1, .path = 2},
     {SYS_symlinkat, SYMLINK, serve_symlink, .bytes = 1, .folder = 2, .path = 3},
+
+    {SYS_chmod, POINTS, serve_attributes, .path = 1, .mode = 2},
+    {SYS_fchmod, POINTS, serve_attributes, .file = 1, .mode = 2},
+    {SYS_fchmodat, POINTS, serve_attributes, .folder = 1, .path = 2, .mode = 3},
+    {SYS_fchmodat2, POINTS, serve_attributes, .folder = 1, .path = 2, .mode = 3, .flags = 4},
+    {SYS_chown, POINTS, serve_attributes, .path = 1, .at = 2, .length = 3},
+    {SYS_lchown, POINTS, serve_attributes, .path = 1, .at = 2, .length = 3},
+    {SYS_fchown, POINTS, serve_attributes, .file = 1, .at = 2, .length = 3},
+    {SYS_fchownat, POINTS, serve_attributes, .folder = 1, .path = 2, .at = 3, .length = 4, .flags = 5},
 
     {SYS_mmap, POINTS, serve_map, SHARED_FILES, .bytes = 1, .length = 2, .mode = 3, .flags = 4, .file = 5, .at = 6},
     {SYS_mprotect, POINTS, serve_protect, WRITABLE, .bytes = 1, .length = 2, .mode = 3},

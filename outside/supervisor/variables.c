@@ -47,11 +47,15 @@ static int word_of(const char *name, const char *const *words) {
 
 static bool is_word(const char *name, const char *word) { return word_of(name, (const char *const[]){word, NULL}) == 0; }
 
-/* Which syncs make names last: only those of the folder, also the file's own (names), or a sync of anything (journal). */
-static enum names_last read_sync(void) {
-    static const char *const words[] = {[WITH_FOLDER] = "strict", [WITH_FILE] = "names", [WITH_ANY] = "journal", NULL};
+/* The profile of the disk. Two of them have names of before. What `journal` promised of all file systems with a journal holds of none of them. */
+static const char *read_profile(void) {
+    static const char *const words[] = {"linux", "ext4", "xfs", "btrfs", "posix", "strict", "names", NULL};
+    const char *value = getenv("FAULTS_SYNC");
+    if (value && !strcmp(value, "journal"))
+        refuse("FAULTS_SYNC", "journal promised names that no file system keeps at each sync: use ext4 or xfs, which say what a sync takes along there");
     int word = word_of("FAULTS_SYNC", words);
-    return word < 0 ? WITH_FOLDER : (enum names_last)word;
+    if (word < 0 || !strcmp(words[word], "names")) return "linux";
+    return !strcmp(words[word], "strict") ? "posix" : words[word];
 }
 
 static uint64_t read_block(void) {
@@ -103,12 +107,12 @@ void read_variables(void) {
     if (!where || !in) refuse(where ? "FAULTS_RUN" : "FAULTS_ROOT", "this variable isn't set");
     forgets = word_of("FAULTS_FSYNC", (const char *const[]){"again", "once", NULL}) != 0;
     if (!realpath(in, run_folder)) refuse("FAULTS_RUN isn't a folder that powercut begin made", in);
-    enum names_last names_last = read_sync();
+    const char *profile = read_profile();
     uint64_t block = read_block();
     map_state();
     tell_stranger();
     state->block = block;
-    state->names_last = names_last;
+    strcpy(state->profile, profile);
     snprintf(notes, sizeof notes, "%s/changes", run_folder);
     is_kept = !access(notes, F_OK);
     set_root(where);
