@@ -6,29 +6,12 @@
      list         writes the records
 
    With the flaw `sound` it keeps its word. log.py is the same in Python. */
-#include <fcntl.h>
-#include <stdbool.h>
-#include <stdio.h>
-#include <stdlib.h>
-#include <string.h>
-#include <unistd.h>
+#include "flaw.h"
 
 enum { MOST = 100, LONGEST = 100 };
 
-static const char *flaw;
 static char records[MOST][LONGEST];
 static int count, acknowledged;
-
-static bool has(const char *name) { return !strcmp(flaw, name); }
-
-static void fail(const char *what) {
-    perror(what);
-    exit(1);
-}
-
-static void must(bool done, const char *what) {
-    if (!done) fail(what);
-}
 
 /* ---- lines */
 
@@ -72,12 +55,6 @@ static bool append(int file, const char *text) {
 
 /* ---- the files */
 
-static void sync_folder(void) {
-    int folder = open(".", O_RDONLY | O_DIRECTORY);
-    must(folder >= 0 && !fsync(folder), "folder");
-    close(folder);
-}
-
 static void read_snapshot(void) {
     int snap = open("snap", O_RDONLY);
     if (snap < 0) return;
@@ -95,7 +72,7 @@ static int open_log(void) {
     must(end >= 0, "log");
     if (!has("torn_appended")) must(!ftruncate(log, end) && !fsync(log), "log");
     must(lseek(log, 0, SEEK_END) >= 0, "log");
-    sync_folder();
+    must(sync_names(), "folder");
     return log;
 }
 
@@ -113,7 +90,7 @@ static void snapshot(int log) {
     for (int i = 0; written && i < count; i++) written = append(new, records[i]);
     must(written || has("full_disk"), "new");
     must(!fsync(new) && !close(new) && !rename("new", "snap"), "snap");
-    sync_folder();
+    must(sync_names(), "folder");
     must(!ftruncate(log, 0) && lseek(log, 0, SEEK_SET) == 0 && !fsync(log), "log");
 }
 

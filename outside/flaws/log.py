@@ -3,7 +3,8 @@
 import os
 import sys
 
-FLAW = sys.argv[1]
+from flaw import FLAW, read_all, sync_folder
+
 records: list[str] = []
 acknowledged = 0
 
@@ -27,9 +28,7 @@ def is_record(line):
 
 def read_file(file):
     """Reads the records of a file up to the first line that is none; answers how many bytes are read."""
-    data = b""
-    while more := os.read(file, 10000):
-        data += more
+    data = read_all(file)
     at = 0
     for line in data.splitlines(keepends=True):
         text = line.decode().removesuffix("\n")
@@ -44,12 +43,6 @@ def append(file, text):
     line = line_of(text)
     if os.write(file, line) != len(line):
         raise OSError("a short write")
-
-
-def sync_folder():
-    folder = os.open(".", os.O_RDONLY | os.O_DIRECTORY)
-    os.fsync(folder)
-    os.close(folder)
 
 
 def read_snapshot():

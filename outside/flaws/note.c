@@ -1,34 +1,6 @@
 /* note FLAW WORD..: keeps its last word in the file `note` of the folder in which it is started, and says `saved WORD` once that lasts. With the
    flaw `sound` it does. note.py is the same in Python. */
-#include <fcntl.h>
-#include <stdbool.h>
-#include <stdio.h>
-#include <string.h>
-#include <unistd.h>
-
-static const char *flaw;
-
-static bool has(const char *name) { return !strcmp(flaw, name); }
-
-/* Where a write does less, it goes on; `short_write` takes that for all. */
-static bool write_all(int file, const char *bytes, size_t length) {
-    while (length > 0) {
-        ssize_t written = write(file, bytes, length);
-        if (written <= 0) return false;
-        if (has("short_write")) return true;
-        bytes += written;
-        length -= (size_t)written;
-    }
-    return true;
-}
-
-/* After a sync that failed a file's bytes are gone: a later one says nothing of them. `retry_sync` believes it, `unchecked_sync` doesn't look. */
-static bool sync_file(int file) {
-    if (!fsync(file) || has("unchecked_sync")) return true;
-    return has("retry_sync") && !fsync(file);
-}
-
-static bool sync_folder(int folder) { return has("no_folder_sync") || !fsync(folder); }
+#include "flaw.h"
 
 static bool replace(int file, int folder) {
     if (has("rename_first")) return !rename("new", "note") && sync_file(file) && sync_folder(folder);

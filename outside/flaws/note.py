@@ -3,30 +3,7 @@
 import os
 import sys
 
-FLAW = sys.argv[1]
-
-
-def write_all(file, data):
-    """Where a write does less, it goes on; `short_write` takes that for all."""
-    while data:
-        written = os.write(file, data)
-        if not written:
-            raise OSError("nothing was written")
-        if FLAW == "short_write":
-            return
-        data = data[written:]
-
-
-def sync_file(file):
-    """After a sync that failed a file's bytes are gone: a later one says nothing of them. `retry_sync` believes it, `unchecked_sync` doesn't
-    look."""
-    try:
-        os.fsync(file)
-    except OSError:
-        if FLAW == "retry_sync":
-            os.fsync(file)
-        elif FLAW != "unchecked_sync":
-            raise
+from flaw import FLAW, sync_file, write_all
 
 
 def replace(file, folder):

@@ -11,7 +11,8 @@ from . import definition, programs, script
 from .answers import DIFFERS, Answers, Stopped, stopped_by
 from .bounds import Bounds
 from .campaign import Campaign
-from .definition import FAILURES, LIVE, Harness
+from .certify import FILE_SYSTEMS, MOST, Certifier, Wanted
+from .definition import FAILURES, LIVE, VARIABLES, Harness
 from .disk import disk_of
 from .identity import noted
 from .paklour import Paklour
@@ -28,12 +29,13 @@ from .words import ASK_HELP, Usage, as_called, bytes_of, refused, shows_progress
 from .work import Note, Work
 
 OF_HARNESS = {"--failing", "--depth", "--no-kinds", "--settings", "--into", "-x", "--failures", "--try", "--whole", "--page", "--junit", "--json",
-    "--shard", "--join", "--every-run", "--room", "--bytes", "--kill", "--known"}
+    "--shard", "--join", "--every-run", "--room", "--bytes", "--kill", "--known", "--certify", "--certificates"}
 OF_SCRIPT = {"--script", "--engine", "--brief", "--no-recheck", "--hits"}
 WITH_VALUE = {"-j", "--seconds", "--engine", "--script", "--depth", "--try", "--into", "--room", "--bytes", "--failures", "--settings", "--shard",
-    "--join", "--known"}
+    "--join", "--known", "--certificates"}
 REPEATED = frozenset({"--known"})
-FLAGS = {*ASK_HELP, "--strict", "--progress", *(OF_HARNESS | OF_SCRIPT) - WITH_VALUE}
+LISTING = {"--certify": FILE_SYSTEMS}
+FLAGS = {*ASK_HELP, "--strict", "--progress", *(OF_HARNESS | OF_SCRIPT) - WITH_VALUE - LISTING.keys()}
 
 
 class Interrupted(Stopped):
@@ -112,9 +114,10 @@ def script_report(options: dict[str, str], campaign: Campaign, tries: script.Tri
 
 def asked_of(loop: str, options: dict[str, str], path: str) -> Asked:
     failures = 1 if "-x" in options else number_of(options, "--failures")
+    variables = [f"{name}={shlex.quote(os.environ[name])} " for name in VARIABLES if name in os.environ]
     words = [as_called(loop), path, *[word for name in ("--settings", "--into") if name in options for word in (name, options[name])],
         *["--kill"] * ("--kill" in options), *[word for code in known_of(options) for word in ("--known", code)]]
-    return Asked(shlex.join(words), jobs_of(options), shows_progress(options),
+    return Asked("".join(variables) + shlex.join(words), jobs_of(options), shows_progress(options),
         "--whole" not in options, "--strict" in options, [form for form in FORMS if form in {ALWAYS, *options}], failures,
         shard_of(options["--shard"]) if "--shard" in options else None, "--failing" in options)
 
@@ -144,15 +147,21 @@ def run_harness(loop: str, options: dict[str, str], path: str, processes: Proces
     try:
         runner = Runner(harness, work, processes, room_of(options, work.place))
         decider = decider_of(runner, settings, "--every-run" in options, answers)
+        certifier = Certifier(runner, folder, certified_of(options)) if "--certify" in options else None
         if "--try" in options:
             runner.prepare()
-            return watched(decider, options["--try"])
+            return watched(decider, options["--try"], certifier)
         with tells_what_is_kept(answers):
             runner.prepare()
-            return Whole(harness, settings, decider, answers, asked).run()
+            return Whole(harness, settings, decider, answers, asked, certifier).run()
     finally:
         processes.end()
         work.end()
+
+
+def certified_of(options: dict[str, str]) -> Wanted:
+    """What is to be certified, on which file systems."""
+    return Wanted(tuple(dict.fromkeys(options["--certify"].split())) or FILE_SYSTEMS, number_of(options, "--certificates", str(MOST)))
 
 
 def known_of(options: dict[str, str]) -> list[str]:
@@ -188,7 +197,7 @@ def jobs_of(options: dict[str, str]) -> int:
 def check_numbers(options: dict[str, str]) -> None:
     """Refuses numbers that aren't any, before something is made."""
     jobs_of(options)
-    for name in ("--seconds", "--depth", "--failures"):
+    for name in ("--seconds", "--depth", "--failures", "--certificates"):
         number_of(options, name)
     for name in {"--room", "--bytes"} & options.keys():
         bytes_of(options[name], name)
@@ -202,7 +211,7 @@ def main(loop: str, words: list[str]) -> int:
 
 def perform_words(loop: str, words: list[str], processes: Processes) -> int:
     try:
-        options, rest = split(words, WITH_VALUE, FLAGS, REPEATED)
+        options, rest = split(words, WITH_VALUE, FLAGS, REPEATED, LISTING)
         if options.keys() & set(ASK_HELP):
             return write_help(loop)
         check_numbers(options)

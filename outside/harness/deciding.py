@@ -1,6 +1,6 @@
 """Finds the outcome of each scenario, by a run of its own or from another run.
 
-A run that ends by a panic is the same as another run up to that hit. What the power cut keeps or tears is another cut of the same run. So the run
+A run that ends by a panic is the same as another run up to that hit. What the power cut keeps is another cut of the same run. So the run
 with the other faults is made once, and the rest is laid out from its notes. One in twenty of the derived outcomes is run and judged all the same,
 and must come out alike."""
 
@@ -21,14 +21,14 @@ from .records import Key, key_of, lasting_faults
 from .repeats import Repeats
 from .room import TooLarge
 from .run import Runner
-from .scenario import POWER, Scenario, Unreadable, keeping, scenario_of
+from .scenario import POWER, Scenario, Unreadable, scenario_of
 from .shown import last_lines
 from .trace import MARKS, length_of, points_trace, trace_of
 
 ONE_IN = 20  # of so many derived outcomes one is run as a check
 MORE_RUNS = 3  # so often a run is made again that does otherwise than the runs before
 OTHERWISE = f"in {MORE_RUNS + 1} runs it did otherwise than the run that it grew from"
-NAMES = {"create", "mkdir", "symlink", "link", "unlink", "rmdir", "rename", "exchange"}
+OF_BYTES = ("length ", "block ")  # how the words of a pending change begin if it is none of the sequence of names
 
 
 @dataclass(frozen=True)
@@ -66,14 +66,14 @@ def meet(outcome: Outcome, folder: Path) -> None:
 
 
 class Decider:
-    def __init__(self, runner: Runner, asking: str | None, depth: int, every_run: bool):
+    def __init__(self, runner: Runner, asks: bool, depth: int, every_run: bool):
         self.runner = runner
         self.tools = runner.tools
         self.room = runner.room
         self.harness: Harness = runner.harness
         self.judge = Judge(runner)
         self.records = runner.room.records
-        self.asking = asking  # the state of the power cut if the scenario says what it keeps, otherwise None
+        self.asks = asks  # whether the scenario says what a power cut keeps
         self.depth = depth  # nothing is derived from a run with so many faults
         self.every_run = every_run or not depth  # without a depth, runs need not repeat each other's hits
         self.tried = 0
@@ -158,8 +158,8 @@ class Decider:
 
     def works(self, runner: Runner) -> bool:
         """Whether the program works without faults if this runner makes its run."""
-        asking = None if runner.harness.is_killed_only else self.asking
-        return Decider(runner, asking, self.depth, every_run=True).run_again("none", LooksUp.NONE).works
+        asks = self.asks and not runner.harness.is_killed_only
+        return Decider(runner, asks, self.depth, every_run=True).run_again("none", LooksUp.NONE).works
 
     def works_killed(self) -> bool:
         """Whether the program works without faults if no power cut comes."""
@@ -280,7 +280,7 @@ class Decider:
             if outcome.verdict == PASS and self.is_killed(outcome, min(hit, len(record.points))):
                 self.go_on_killed(record, hit, outcome, said, looks_up)
         else:
-            outcome = self.cut_and_judge(record.folder, run, text, said, looks_up, lays_states=is_end)
+            outcome = self.cut_and_judge(record.folder, run, text, said, looks_up)
         return self.with_crash(outcome, run, self.crash(record, hit))
 
     def go_on(self, record: Record, run: Path, text: str, said: bytes, looks_up: LooksUp) -> Outcome:
@@ -288,8 +288,7 @@ class Decider:
         more, errors = record.said_again, record.folder / "errors"
         more.unlink(missing_ok=True)
         begun = length_of(errors)
-        state = [self.asking, text] if self.asking else [LASTING]
-        pending = self.tools.pending(run) if "power::" in text else []
+        state = ["keep", text] if self.asks else [LASTING]
         if not self.tools.cut(run, record.data, *state, goes_on=True):
             return Outcome(text, Judgement(UNRESOLVED, "the scenario has a pause"), trace_of(run))
         (run / MARKS).touch()
@@ -297,9 +296,14 @@ class Decider:
         if why:
             return self.ended_early(text, why, run)
         crash = noted_crash(run) or told_crash("again", status, errors, begun, length_of(errors))
-        outcome = self.cut_and_judge(record.folder, run, text, said + more.read_bytes(), looks_up, lays_states=True)
-        outcome.pending = pending + outcome.pending
+        outcome = self.cut_and_judge(record.folder, run, text, said + more.read_bytes(), looks_up)
         return self.with_crash(outcome, run, crash)
+
+    @property
+    def only_state(self) -> str:
+        """The state in which each run is judged, if that is always the same one, and not that in which all pending changes are lost."""
+        states = self.harness.states
+        return states[0] if len(states) == 1 and states[0] != LASTING and not self.asks else ""
 
     def is_killed(self, outcome: Outcome, hit: int) -> bool:
         """Whether `run` was ended at that hit and nothing acted behind it, and so whether a kill alone is judged too."""
@@ -317,7 +321,7 @@ class Decider:
         pending = self.tools.pending(run)
         if not pending:
             return
-        self.tools.cut(run, record.data, "keep", keeping(range(1, len(pending) + 1)), goes_on=True)
+        self.tools.cut(run, record.data, LIVE, goes_on=True)
         (run / MARKS).touch()
         _, why = self.runner.under("again", run, record.folder, "none", more)
         if why:
@@ -329,17 +333,17 @@ class Decider:
         if judgement.verdict != PASS:
             outcome.judgement, outcome.pending, outcome.errors = judgement, pending, last_lines(errors, begun)
 
-    def cut_and_judge(self, folder: Path, run: Path, text: str, said: bytes, looks_up: LooksUp, lays_states: bool) -> Outcome:
+    def cut_and_judge(self, folder: Path, run: Path, text: str, said: bytes, looks_up: LooksUp) -> Outcome:
         """Judges each state that a power cut may leave, up to the first that breaks a promise."""
         errors, begun = folder / "errors", length_of(folder / "errors")
-        if self.asking and not self.tools.cut(run, folder / "data", self.asking, text):
+        if self.asks and not self.tools.cut(run, folder / "data", "keep", text):
             return Outcome(text, Judgement(UNRESOLVED, "the scenario has a pause"), trace_of(run))
         trace = trace_of(run)
-        judgements = [self.judged(folder, said, looks_up, "")] if self.asking else []
-        for name, state in self.states(run, trace, lays_states):
+        judgements = [self.judged(folder, said, looks_up, "")] if self.asks else []
+        for name, state in self.states(run, trace):
             if judgements and judgements[-1].verdict != PASS:
                 break
-            self.tools.cut(run, folder / "data", *state)
+            self.tools.cut(run, folder / "data", state)
             judgements.append(self.judged(folder, said, looks_up, name))
         judgement = replace(judgements[-1], is_known=all(each.is_known for each in judgements))
         outcome = Outcome(text, judgement, trace, said=said)
@@ -358,19 +362,17 @@ class Decider:
             return replace(judgement, verdict=PASS)
         return judgement if judgement.verdict == PASS else replace(judgement, state=state)
 
-    def states(self, run: Path, trace: list[list[str]], lays_states: bool) -> list[tuple[str, list[str]]]:
-        """The states in which a run is judged besides that of its scenario, if they keep different changes, each with its name as it is told and the
-        arguments of the cut. They belong to the scenario that keeps nothing, so that the same answers have the same verdict. If the run was rewound
-        to a hit, the files themselves aren't known, but all changes are."""
+    def states(self, run: Path, trace: list[list[str]]) -> list[tuple[str, str]]:
+        """The states in which a run is judged besides that of its scenario, if they keep different changes, each with its name as it is told and as the cut
+        has it. They belong to the scenario that keeps nothing, so that the same answers have the same verdict."""
         asked = [hit[3] for hit in itertools.takewhile(lambda hit: hit[1].startswith(POWER), reversed(trace))]
-        if self.asking and (not asked or any(answer.startswith("return") for answer in asked)):
+        if self.asks and (not asked or any(answer.startswith("return") for answer in asked)):
             return []
         changes = self.tools.pending(run)
-        names = [int(change[0]) for change in changes if change[1] in NAMES]
-        contents = [int(change[0]) for change in changes if change[1] not in NAMES]
-        kept = {LASTING: keeping([]), "names": keeping(names), "contents": keeping(contents), LIVE: keeping(sorted(names + contents))}
-        judged = [*[LASTING] * bool(self.asking), *(self.harness.states or ALL_STATES)]
+        has_bytes = any(change[1].startswith(OF_BYTES) for change in changes)
+        has_names = not all(change[1].startswith(OF_BYTES) for change in changes)
+        kept = {LASTING: (False, False), "names": (has_names, False), "contents": (False, has_bytes), LIVE: (has_names, has_bytes)}
+        judged = [*[LASTING] * self.asks, *(self.harness.states or ALL_STATES)]
         differing = {kept[state]: state for state in judged}
-        states = [("" if scenario == kept[LASTING] or len(judged) == 1 else state, [state] if lays_states else ["keep", scenario])
-            for scenario, state in differing.items()]
-        return states[bool(self.asking):]  # the first is that of the scenario
+        states = [("" if keeps == kept[LASTING] or len(judged) == 1 else state, state) for keeps, state in differing.items()]
+        return states[self.asks:]  # the first is that of the scenario

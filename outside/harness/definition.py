@@ -10,10 +10,11 @@ from dataclasses import dataclass, field
 from pathlib import Path
 
 from .answers import Stopped
-from .identity import Identity, digests, files_in
+from .identity import Identity, digest_of, digests, files_in
 from .step import STEPS
 
 STEP = Path(__file__).resolve().with_name("step.py")
+PROFILES = STEP.parent.parent / "cut" / "profiles"  # what the power cut keeps and leaves, on each disk
 PYTHON_FILE = "harness.py"
 LASTING, LIVE = "lasting", "live"
 ALL_STATES = (LASTING, "names", "contents", LIVE)
@@ -35,6 +36,7 @@ class Harness:
     states: tuple[str, ...] = ()  # those that are judged if the settings don't list power::keep
     order: str = "settled"
     pins: bool = True
+    version: str = ""  # of the program, as its file of Python says it
     unjudged: tuple[str, ...] = ()  # patterns of names of files into which the judge doesn't look, such as logs with times
     allowed: tuple[str, ...] = ()  # those of FAILURES that are none of this program
     known: tuple[str, ...] = ()  # the codes of losses that are known: a run that breaks no other promise passes
@@ -56,9 +58,10 @@ class Harness:
         """What answers depend on, for a campaign that writes its own files into that folder."""
         files = [*files_in(self.folder, into)] if self.is_folder else [self.file]
         named = {name: os.environ[name] for name in VARIABLES if name in os.environ}
-        return {"files": digests(self.folder, [*files, *self.others]), "commands": self.commands, "variables": named | self.variables,
-            "states": list(self.states or ALL_STATES), "order": self.order, "pin": self.pins, "unjudged": list(self.unjudged), "allowed": sorted(self.allowed),
-            "known": sorted(self.known)}
+        version = {"version": self.version} if self.version else {}
+        return {"power cut": digest_of(PROFILES), "files": digests(self.folder, [*files, *self.others]), "commands": self.commands,
+            "variables": named | self.variables, "states": list(self.states or ALL_STATES), "order": self.order, "pin": self.pins,
+            "unjudged": list(self.unjudged), "allowed": sorted(self.allowed), "known": sorted(self.known)} | version
 
 
 def read(path: str) -> Harness:
@@ -110,6 +113,7 @@ def read_file(file: Path, harness: Harness) -> None:
     harness.others = [program for program in programs if program.is_absolute() and program.exists()] + [Path(module) for module in told["modules"]]
     harness.variables = told.get("environment", {})
     harness.states, harness.order, harness.pins = tuple(told.get("states", ())), told.get("order", "settled"), told.get("pin", True)
+    harness.version = str(told.get("version", ""))
     harness.unjudged += tuple(told.get("unjudged", ()))
     harness.allowed += tuple(told.get("allowed", ()))
     refuse_unknown(file, "state", harness.states, ALL_STATES)

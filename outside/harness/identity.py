@@ -12,9 +12,10 @@ from typing import NoReturn
 from .answers import Stopped
 
 NOTE = "campaign.json"  # beside the answers: says to which harness they belong
+CERTIFIED = "certified"  # the folder of images of real file systems that show findings
 FAILING = "failing"  # the scenarios that failed once: answers don't depend on them
 SET_ASIDE = re.compile(r"answers\.[0-9]+")  # answers that belong to a harness as it was before
-WRITTEN = {"answers", NOTE, FAILING, "report", "page.html", "junit.xml", "report.json",  # files that the loop writes beside a harness
+WRITTEN = {"answers", NOTE, FAILING, CERTIFIED, "report", "page.html", "junit.xml", "report.json",  # files that the loop writes beside a harness
     *(f"{name}.new" for name in ("campaign", "settings", "settings.lowered", FAILING, "report", "page", "junit"))}  # and what it renames to these
 TOLD = 3  # at most so many names of what differs are printed
 
@@ -49,7 +50,8 @@ def files_in(folder: Path, into: Path) -> Iterator[Path]:
     """The files of a harness: all in its folder and below, except settings, what campaigns leave there, and what is passed over."""
     for place, folders, names in os.walk(folder, onerror=refuse):
         here = Path(place)
-        folders[:] = [name for name in folders if not is_passed_over(name) and here / name != into and not (here / name / NOTE).exists()]
+        folders[:] = [name for name in folders if not is_passed_over(name) and here / name != into and not (here / name / NOTE).exists()
+            and not (here == folder and name == CERTIFIED)]
         links = [name for name in folders if (here / name).is_symlink()]  # into which os.walk doesn't go
         for name in names + links:
             if not is_passed_over(name) and not (here == folder and is_written(name)) and not is_settings(here / name):

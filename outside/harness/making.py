@@ -32,14 +32,16 @@ LATER = 1.1  # seconds between two runs, so that times in whole seconds differ
 STANDARD_INPUT = 0
 ASKED = {  # the options that a terminal is asked for if they lack, with the question and the answers, of which the first is the default
     "--promises": ("Does the program promise that what it acknowledged is on the disk, or only that a kill loses nothing?", ("sync", "kill")),
-    "--file-system": ("Does it rely on no file system (strict), on a file's own sync making its name last (linux), or on a journal?",
-        ("strict", "linux", "journal")),
+    "--file-system": ("Does it rely on what ext4, XFS and Btrfs all keep (linux), on one of them, or on the letter of the standard alone (posix)?",
+        ("linux", "ext4", "xfs", "btrfs", "posix")),
     "--abort": ("May an error end it by a signal, such as an abort?", ("no", "yes")),
 }
 SAYS = {  # what an answer other than the default puts into a file of the harness
     ("--promises", "kill"): ("harness.py", 'states = ["live"]  # each run is judged as a kill leaves it: no power cut comes\n'),
-    ("--file-system", "linux"): ("harness.py", 'environment = {"FAULTS_SYNC": "names"}  # a file\'s own sync makes its name last too\n'),
-    ("--file-system", "journal"): ("harness.py", 'environment = {"FAULTS_SYNC": "journal"}  # any sync makes earlier changes of names last\n'),
+    ("--file-system", "ext4"): ("harness.py", 'environment = {"FAULTS_SYNC": "ext4"}  # what a power cut keeps and leaves on ext4\n'),
+    ("--file-system", "xfs"): ("harness.py", 'environment = {"FAULTS_SYNC": "xfs"}  # what a power cut keeps and leaves on XFS\n'),
+    ("--file-system", "btrfs"): ("harness.py", 'environment = {"FAULTS_SYNC": "btrfs"}  # what a power cut keeps and leaves on Btrfs\n'),
+    ("--file-system", "posix"): ("harness.py", 'environment = {"FAULTS_SYNC": "posix"}  # a name lasts with the sync of its folder alone\n'),
     ("--abort", "yes"): ("allowed", "crashed\n"),
 }
 
@@ -94,6 +96,7 @@ SERVER_RUN = """#!/bin/sh
 # Several runs are made at once. So give the server a socket under "$TMPDIR", which each run has for itself. If it needs a fixed port, call
 # paklour-loop with -j 1.
 fail() {{
+    kill -0 "$server" 2> "$TMPDIR/ended" || {{ wait "$server"; echo "the server ended with $?" >&2; }}
     tail -n 5 "$TMPDIR/output" >&2
     exit 1
 }}
@@ -117,7 +120,13 @@ SERVER_JUDGE = """#!/bin/sh
 setsid {command} > "$TMPDIR/output" 2>&1 &
 server=$!
 while kill -0 "$server" 2> "$TMPDIR/ended" && ! grep -sqwF -e {line} "$TMPDIR/output"; do sleep 0.05; done
-kill -0 "$server" 2> "$TMPDIR/ended" || {{ tail -n 5 "$TMPDIR/output" >&2; echo unopenable; exit 1; }}
+kill -0 "$server" 2> "$TMPDIR/ended" || {{
+    wait "$server"
+    echo "the server ended with $?" >&2
+    tail -n 5 "$TMPDIR/output" >&2
+    echo unopenable
+    exit 1
+}}
 # Ask the server here for everything that "$SAID" lists, for example:
 #     ! grep -qx 'set key' "$SAID" || [ "$(redis-cli -s socket get key)" = value ] || {{ echo lost; exit 1; }}
 kill -s KILL -- "-$server"

@@ -38,7 +38,8 @@ class Processes:
 
     def ended(self, process: subprocess.Popen) -> None:
         with self.lock:
-            self.running.discard(process)
+            if process.poll() is not None:  # a signal may have ended the wait for it
+                self.running.discard(process)
 
     def end(self) -> None:
         """Asks each program to end, and waits for it. What runs by `within` has then ended too."""

@@ -69,8 +69,9 @@ class Tools:
         return status != PAUSED
 
     def pending(self, run: Path) -> list[list[str]]:
-        """The number, kind, names and bytes of each pending change."""
-        return [line.split("\t") for line in self.call(POWERCUT, run, "pending", run)[1].splitlines()]
+        """The number and the words of each pending change."""
+        told = self.call(POWERCUT, run, "pending", run)[1]
+        return [line.split("\t") for line in told.split("\n") if line]  # names may have other characters at which `splitlines` parts a text
 
     def rewind(self, run: Path, new: Path, hit: int, scenario: str) -> int | None:
         """Makes `new`, the run as it was when the scenario ended it at that hit, or at its end if the hit is behind the last one. Returns how

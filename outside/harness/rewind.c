@@ -203,6 +203,7 @@ int main(int count, char **words) {
     struct state *copy = copy_state(new, state);
     copy->cut.number = copy->number = place.number;
     copy->cut.noted = copy->noted = write_notes(run, new, state->cut.noted, &place);
+    copy->cut.is_earlier |= !place.is_end;
     if (!place.is_end) copy->ended = PANICKED;
     write_trace(run, new, copy, &place, words[4]);
     link_book(run, new, "kept");

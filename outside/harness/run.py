@@ -43,6 +43,7 @@ class Runner:
         self.outer = dict(os.environ)
         self.tools = Tools(room)
         self.count = 0
+        self.syncs_disk = False  # a simulated power cut goes by the notes alone
         self.first: Record | None = None  # the run without faults that was made to see where runs have to lie
         self.served = Served(harness.file, processes) if "judge" in harness.functions else None
         self.lock = threading.Lock()
@@ -75,6 +76,13 @@ class Runner:
     def with_variables(self, **variables: str) -> "Runner":
         """The same runner, with more variables in the environment of its programs."""
         return self.with_harness(variables=self.harness.variables | variables)
+
+    def on_real_disk(self) -> "Runner":
+        """The same runner, whose syncs sync the disk too, and all of whose programs see what is mounted now."""
+        other = copy.copy(self)
+        other.syncs_disk = True
+        other.served = Served(self.harness.file, self.processes) if self.served else None
+        return other
 
     def start(self, words: list[str], folder: Path, said: Path, **variables: str) -> tuple[int, str]:
         """Runs a step in the data's folder. Returns its status, and the reason if the run is unresolved by it."""
@@ -148,7 +156,7 @@ class Runner:
         """Runs a step under the supervisor. Returns its status, and the reason if the run is unresolved."""
         order = [] if self.harness.order == "arrival" else ["--order", self.harness.order]
         before = length_of(folder / "errors")
-        words = [str(programs.FAULTS), *order, *["--pin"] * self.harness.pins, "--", *self.harness.steps[step]]
+        words = [str(programs.FAULTS), *order, *["--pin"] * self.harness.pins, *["--sync"] * self.syncs_disk, "--", *self.harness.steps[step]]
         status, why = self.start(words, folder, said, FAILPOINTS=scenario, FAULTS_ROOT=str(folder / "data"), FAULTS_RUN=str(run),
             POINTS_TRACE=str(folder / POINTS))
         if status == programs.REFUSED:
@@ -169,6 +177,10 @@ class Runner:
         folder = self.work.new()
         self.room.begin(folder)
         tree.copy(self.prepared, folder / "data")
+        return self.made_in(folder, scenario)
+
+    def made_in(self, folder: Path, scenario: str) -> Record:
+        """The same in a run's folder that has the prepared data."""
         try:
             self.tools.begin(folder / "run", folder / "data")
         except TooLarge as found:

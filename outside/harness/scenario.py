@@ -100,11 +100,6 @@ def scenario_of(faults: Iterable[Fault]) -> str:
     return ";".join(pieces) or "none"
 
 
-def keeping(numbers: Iterable[int]) -> str:
-    """The scenario that keeps the pending changes of these numbers, and no others."""
-    return scenario_of(Fault("power::keep", number, "return") for number in numbers)
-
-
 def hits_text(points: list[str]) -> str:
     """Hits as an answer has them: in order, with n hits of one point in a row as `n*POINT`."""
     stretches: list[list] = []

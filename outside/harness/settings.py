@@ -15,14 +15,13 @@ MADE_BY = "# Made by paklour-loop."
 MADE = f"{MADE_BY} It writes this file again for each campaign. If you delete this line, the settings are your own and stay as they are."
 FILES = ["open", "read", "write", "fsync", "truncate", "rename", "link", "unlink", "mkdir", "rmdir", "symlink"]
 POINTS = [f"sys::{name}" for name in FILES]
-CUT_POINTS = ["power::keep", "power::tear"]
+CUT_POINTS = ["power::keep"]
 NEXT = "order::next"  # if settings list this point, it is planned, as faults are, which thread goes first
 OWN_POINTS = re.compile(r"(sys|libc|power|order)::")
-KNOWN_POINTS = re.compile(r"sys::(" + "|".join([*FILES, "connect", "accept", "send", "recv"]) + r")(@.*)?|power::keep|power::tear|" + NEXT, re.S)
+KNOWN_POINTS = re.compile(r"sys::(" + "|".join([*FILES, "connect", "accept", "send", "recv"]) + r")(@.*)?|power::keep|" + NEXT, re.S)
 WRITES = ["return", "return(ENOSPC)", "return(HALF)", "panic"]
 NO_POINT = "there is no such point; remove it from the points"
 NO_PLACE = "a point of the program's own can't be in settings with a depth; remove it, or remove the depth"
-NO_KEEP = "no program hits it unless power::keep is among the points too; add that"
 MOST_TEXT, MOST_CODES = 200, 64  # bytes of a label or a code, and how many codes settings may have
 LOWERED = "settings.lowered.toml"  # settings of one's own with a lower depth
 SAYS_MADE = ", settings by paklour-loop"
@@ -44,7 +43,7 @@ def label_of(harness: Harness) -> str:
 def made_text(label: str, codes: list[str], depth: int, has_kinds: bool, has_cuts: bool) -> str:
     lines = [MADE, 'target = "outside"', f"depth = {depth}", "", "[outside]", f"label = {toml(label)}", f"codes = {toml(codes)}",
         f"points = {toml(POINTS + CUT_POINTS * has_cuts)}"]
-    kinds = [f'"sys::write" = {toml(WRITES)}'] * has_kinds + ['"power::tear" = ["return"]'] * has_cuts
+    kinds = [f'"sys::write" = {toml(WRITES)}'] * has_kinds
     return "\n".join([*lines, *["", "[outside.kinds]", *kinds] * bool(kinds)]) + "\n"
 
 
@@ -87,7 +86,7 @@ class Settings:
 
     def show(self) -> None:
         kinds = ", full disks and half writes" if self.has_kinds else ""
-        cuts = ", what a power cut keeps and tears" if self.has_cuts else ", without power cuts"
+        cuts = ", what a power cut keeps" if self.has_cuts else ", without power cuts"
         tried = f"depth {self.depth}, all points of files{cuts}{kinds}"
         show(f"loop: wrote the settings {self.path}: {tried}; codes are added as the judge prints them")
 
@@ -118,18 +117,15 @@ class Settings:
         self.codes = sorted([*self.codes, code])
         self.write()
 
-    def asking(self) -> str | None:
-        """The state of the power cut that hits the points of these settings, or None."""
-        if "power::keep" not in self.points:
-            return None
-        return "tear" if "power::tear" in self.points else "keep"
+    def asks(self) -> bool:
+        """Whether a scenario says what a power cut keeps."""
+        return "power::keep" in self.points
 
     def refused_points(self) -> list[tuple[str, str]]:
         """The points that can't be in settings, each with the reason: a name of these tools that no program hits, or, with a depth, a program's
-        own point, whose place among the other hits nobody knows. power::tear needs power::keep."""
+        own point, whose place among the other hits nobody knows."""
         unknown = [point for point in self.points if not KNOWN_POINTS.fullmatch(point) and (self.depth or OWN_POINTS.match(point))]
-        refused = [(point, NO_POINT if OWN_POINTS.match(point) else NO_PLACE) for point in unknown]
-        return refused + [("power::tear", NO_KEEP)] * ("power::tear" in self.points and not self.asking())
+        return [(point, NO_POINT if OWN_POINTS.match(point) else NO_PLACE) for point in unknown]
 
 
 def code_of(answer: str) -> str:

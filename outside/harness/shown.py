@@ -67,8 +67,18 @@ def last_lines(path: Path, begin: int = 0, end: int | None = None) -> str:
         end = file.seek(0, os.SEEK_END) if end is None else end
         begin = max(begin, end - LAST_BYTES)
         file.seek(begin)
-        text = file.read(end - begin)
-    return "\n".join(text.decode("utf-8", "surrogateescape").strip().splitlines()[-LAST_LINES:])
+        return last_of(file.read(end - begin))
+
+
+def last_of(text: bytes) -> str:
+    """The last lines of a text."""
+    return "\n".join(text[-LAST_BYTES:].decode("utf-8", "surrogateescape").strip().splitlines()[-LAST_LINES:])
+
+
+def from_here(path: Path) -> Path:
+    """The path as a person would name it."""
+    here = Path.cwd()
+    return path.resolve().relative_to(here) if path.resolve().is_relative_to(here) else path
 
 
 def is_terminal() -> bool:

@@ -1,13 +1,15 @@
 """Describes faults for a person: which call on which file failed."""
 
+import re
 from collections import Counter
 
 from .outcome import Outcome
 from .scenario import Scenario, Unreadable
 from .shown import escaped
 
-TEAR = "power::tear"
-KEEPS = {"power::keep": "is kept", TEAR: "is torn"}
+KEEP = "power::keep"
+AND_BEFORE = ", and all before it"
+UNDONE = re.compile(",? undone$")
 STATES = {  # of the power cut, besides that in which it loses all that is pending
     "names": "the pending changes of names are kept",
     "contents": "the pending changes of contents are kept",
@@ -26,24 +28,18 @@ def what(answer: str) -> str:
         }.get(answer, answer.replace("return(", "fails with ").rstrip(")"))
 
 
+def call(hit: list[str]) -> str:
+    """The call and its file. A point may have its file's name, which is then said once."""
+    return f"{hit[1].removesuffix('@' + hit[4])} ({hit[4]})"
+
+
 def call_of(hit: list[str]) -> str:
-    return f"{ordinal(int(hit[2]))} {hit[1]} ({hit[4]})"
+    return f"{ordinal(int(hit[2]))} {call(hit)}"
 
 
 def acts(hit: list[str]) -> bool:
     """Whether a fault acted at this hit. At a power cut only a return does anything."""
-    return hit[3] != "go" and (hit[1] not in KEEPS or hit[3].startswith("return"))
-
-
-def change_of(outcome: Outcome, place: int) -> str:
-    """A pending change at the hit of a cut: its number, and if half of it is kept, its bytes. A hit of power::tear is behind that of
-    power::keep, which has the number."""
-    is_torn = outcome.trace[place][1] == TEAR
-    number = int(outcome.trace[place - is_torn][2])
-    if number > len(outcome.pending):
-        return f"({outcome.trace[place][4]})"
-    change = outcome.pending[number - 1]
-    return f"{change[0]} ({' '.join(change[1:4 if is_torn else 3])})"
+    return hit[3] != "go" and (hit[1] != KEEP or hit[3].startswith("return"))
 
 
 def endless(scenario: str) -> dict[str, int]:
@@ -58,16 +54,18 @@ def endless(scenario: str) -> dict[str, int]:
     return found
 
 
-def kept_of_torn(outcome: Outcome, places: list[int]) -> set[int]:
-    """The places of the hits of power::keep before those of power::tear among these places."""
-    return {place - 1 for place in places if outcome.trace[place][1] == TEAR}
+def change_of(words: str) -> tuple[str, str]:
+    """The change of a hit of the power cut that returns, and what becomes of it: the disk keeps it, or undoes one that a sync had made last."""
+    return (UNDONE.sub("", words), "is undone") if UNDONE.search(words) else (words, "is kept")
 
 
 def fault_in_words(outcome: Outcome, place: int, is_for_ever: bool) -> str:
     hit = outcome.trace[place]
-    if hit[1] in KEEPS:
-        later = " and each later one" if is_for_ever else ""
-        return f"pending change {change_of(outcome, place)}{later} {KEEPS[hit[1]]}"
+    if hit[1] == KEEP:  # in place of a file it has the number of a pending change and its words
+        number, _, words = hit[4].partition(" ")
+        change, becomes = change_of(words)
+        which = "the change" if becomes == "is undone" else f"pending change {number}"
+        return f"{which} ({change}){' and each later one' if is_for_ever else ''} {becomes}"
     later = f" and each later {hit[1]}" if is_for_ever else ""
     return f"the {call_of(hit)}{later} {what(hit[3])}"
 
@@ -77,8 +75,7 @@ def faults_in_words(outcome: Outcome) -> str:
     numbers = {place: (hit[1], int(hit[2])) for place, hit in enumerate(outcome.trace) if acts(hit)}
     told = [place for place, (point, number) in numbers.items() if number <= for_ever.get(point, number)]
     first_of_ever = {place for place, (point, number) in numbers.items() if for_ever.get(point) == number}
-    said_by_tear = kept_of_torn(outcome, told) - first_of_ever
-    parts = [fault_in_words(outcome, place, place in first_of_ever) for place in told if place not in said_by_tear]
+    parts = [fault_in_words(outcome, place, place in first_of_ever) for place in told]
     return ", ".join([*(parts or ["without any fault"]), *state_in_words(outcome)])
 
 
@@ -91,12 +88,16 @@ def failure(outcome: Outcome) -> str:
     return escaped(f"{outcome.verdict}: {faults_in_words(outcome)}{why}")
 
 
+def kept_alike(words: str) -> str:
+    change, becomes = change_of(words)
+    first = change.removesuffix(AND_BEFORE)
+    return f"{change} {becomes}" if first == change else f"{first} and all before it are kept"
+
+
 def group_of(outcome: Outcome) -> tuple[str, str]:
     """What a failure came to, and the calls that it consists of, without their numbers."""
-    places = [place for place, hit in enumerate(outcome.trace) if acts(hit)]
-    said_by_tear = kept_of_torn(outcome, places)
-    hits = [outcome.trace[place] for place in places if place not in said_by_tear]
-    parts = [f"{hit[4]} {KEEPS[hit[1]]}" if hit[1] in KEEPS else f"{hit[1]} ({hit[4]}) {what(hit[3])}" for hit in hits]
+    hits = [hit for hit in outcome.trace if acts(hit)]
+    parts = [kept_alike(hit[4].partition(" ")[2]) if hit[1] == KEEP else f"{call(hit)} {what(hit[3])}" for hit in hits]
     parts = [*(dict.fromkeys(parts) or ["without any fault"]), *state_in_words(outcome)]
     return escaped(outcome.verdict.removeprefix("fail ")), escaped(", ".join(parts))
 

@@ -3,6 +3,7 @@
 from collections import defaultdict
 from pathlib import Path
 
+from .certify import Certifier
 from .deciding import Decider
 from .judging import LooksUp
 from .outcome import Outcome
@@ -10,7 +11,7 @@ from .programs import REFUSED, Tools
 from .record import Record
 from .run import tell_errors
 from .shown import escaped, write_out
-from .telling import KEEPS, acts, faults_in_words, what
+from .telling import KEEP, acts, faults_in_words, what
 from .trace import MARKS
 
 Marks = list[tuple[int, int]]  # for each hit its number, and how long the output was when it began
@@ -48,7 +49,8 @@ def lines_of(record: Record, outcome: Outcome, tools: Tools) -> Lines:
 
 
 def hit_line(hit: list[str]) -> str:
-    came = KEEPS.get(hit[1], what(hit[3])) if acts(hit) else hit[7].strip()
+    did = "is kept" if hit[1] == KEEP else what(hit[3])
+    came = did if acts(hit) else hit[7].strip()
     came += f" [{hit[3]}]" * (hit[3] != "go")
     return f"{hit[0]:>5} {hit[1]} {hit[2]} ({hit[4]}) {came}"
 
@@ -58,7 +60,7 @@ def write(lines: list[str]) -> None:
         write_out((escaped(line) + "\n").encode("utf-8", "surrogateescape"))
 
 
-def watched(decider: Decider, scenario: str) -> int:
+def watched(decider: Decider, scenario: str, certifier: Certifier | None) -> int:
     """Runs a scenario and shows it. The status is 1 if it fails, and 2 if the supervisor refused it."""
     with decider.room.seat(alone=True):
         record = decider.runner.make(scenario)
@@ -70,6 +72,8 @@ def watched(decider: Decider, scenario: str) -> int:
     for number in sorted(lines):
         write(lines[number])
     tell_end(record, outcome, decider.tools, sorted(decider.losses))
+    if certifier and outcome.verdict.startswith("fail"):
+        write([f"  {sentence}" for sentence in certifier.certify(scenario, outcome.verdict)])
     return 2 if record.status == REFUSED else 1 if outcome.verdict.startswith("fail") else 0
 
 

@@ -13,7 +13,9 @@ from typing import NoReturn
 
 from . import failing, tree
 from .answers import DIFFERS, Answers, Stopped, changed
+from .appendix import ADDS, Appendix
 from .campaign import Campaign
+from .certify import Certifier
 from .deciding import OTHERWISE, Decider
 from .definition import Harness
 from .judging import CRASHED, UNRESOLVED
@@ -23,17 +25,21 @@ from .run import NOT_FOUND, Runner
 from .settings import Settings
 from .shard import Shard, places_in, scenario_in
 from .scenario import scenario_of
-from .shown import GREEN, RED, YELLOW, show, show_once, write_out
+from .shown import GREEN, RED, YELLOW, from_here, show, show_once, write_out
+from .story import Story, again, hits_of, story_of, text_of
 from .telling import failure, group_of, in_order
+from .under_test import program_of, today
 from .workers import Workers
 
 LOOK_SHARE = 200  # checking the answers takes one part in so many of the time: the loop wrote them itself, and the next round checks them too
+MOST_STORIES = 100  # so many findings and causes have a story on the page, as many as have their runs there
 MOST_OF_A_KIND = 10  # so many failures that have the same calls in common are printed one by one
 ALWAYS = "--page"
 FORMS = {ALWAYS: "page.html", "--junit": "junit.xml", "--json": "report.json"}
 TRUSTS = {  # what FAULTS_SYNC may be, and what that means
-    "names": "a file's own sync makes its name last too, and no other, as on Btrfs",
-    "journal": "any sync makes earlier changes of names last, as an fsync of a file that was changed does on ext4 and XFS, but not on Btrfs",
+    "ext4": "the sync of a file that has grown, or whose name is new, makes all names before that last too, which XFS does and Btrfs doesn't",
+    "xfs": "as on ext4, and fdatasync also makes a rename last, which ext4 doesn't",
+    "btrfs": "fdatasync makes a rename last, which ext4 doesn't, and a file that was renamed over another is never zeros",
 }
 
 
@@ -62,12 +68,14 @@ class Whole:
     name = "the harness"
     takes_more = True
 
-    def __init__(self, harness: Harness, settings: Settings, decider: Decider, answers: Answers, asked: Asked):
+    def __init__(self, harness: Harness, settings: Settings, decider: Decider, answers: Answers, asked: Asked, certifier: Certifier | None = None):
         self.harness = harness
         self.settings = settings
         self.decider = decider
         self.answers = answers
         self.asked = asked
+        self.certifier = certifier
+        self.confirmed: dict[str, Outcome] = {}  # what findings and causes came to when they were run once more, by scenario
         self.jobs = asked.jobs
         self.folder = Path(answers.path).parent
         self.begun = time.monotonic()
@@ -77,6 +85,8 @@ class Whole:
         self.fails_again: list[str] = []  # those among the ones that failed once
         self.failing: Counter[tuple[str, str]] = Counter()  # by its kind
         self.unresolved: Counter[str] = Counter()
+        self.stories: dict[str, Story] = {}  # by scenario
+        self.clean: list[str] = []  # what each hit of the run without faults is about
         self.flaky: list[str] = []  # what is told of each run that did otherwise than the run that it grew from, until it was made again
         self.is_same = True  # whether no second run came out otherwise than the first
         self.has_told_size = answers.count > 0
@@ -150,6 +160,7 @@ class Whole:
         if not outcome.said:
             refuse("the run without faults is refused: it printed no line, so it promised nothing, and every plan would pass", outcome)
         self.tell_failure(outcome)
+        self.certify([outcome])
         self.found = ["none"]  # then no other failure means anything
         for change in outcome.pending:
             show(f"pending: {' '.join(change)}")
@@ -240,6 +251,7 @@ class Whole:
             self.tell_end("the run without faults fails, so nothing else was tried", "none")
             return 1
         ways = self.confirm(self.found)
+        self.certify(self.confirmed[scenario] for scenario in self.found)
         self.keep_failing(self.found)
         self.tell_counts()
         self.tell_end(came_to(self.answers.failing, f"{self.answers.count} plans that were tried", self.answers.unresolved, ways), self.found[0])
@@ -254,11 +266,13 @@ class Whole:
         status, report = self.paklour.strict_report(self.settings.is_made) if self.asked.strict else self.paklour.report()
         brief = self.paklour.report("--brief", tells=False)[1]
         tree.write(self.folder / "report", report)
-        for form in self.asked.forms:
-            tree.write(self.folder / FORMS[form], self.paklour.report(form, tells=False)[1])
+        forms = {form: self.paklour.report(form, tells=False)[1] for form in self.asked.forms}
+        self.write_forms(forms)
         write_out(brief if self.asked.brief else report)
         found = findings(report, self.settings.codes)
         ways = self.confirm(found)
+        self.certify(self.confirmed[scenario] for scenario in found)
+        self.write_forms(self.with_appendix(forms, found))
         self.keep_failing(found)
         self.tell_counts()
         plans, unresolved, fails = counts_of(report)
@@ -266,6 +280,34 @@ class Whole:
         self.tell_end(came_to(fails, f"{plans} plans", unresolved, ways) + before, *[*found, *self.fails_again][:1],
             page=f"; page {from_here(self.folder / FORMS[ALWAYS])}")
         return self.status(1 if self.fails_again and status == 0 else status)
+
+    def write_forms(self, forms: dict[str, bytes]) -> None:
+        for form, text in forms.items():
+            tree.write(self.folder / FORMS[form], text)
+
+    def with_appendix(self, forms: dict[str, bytes], found: list[str]) -> dict[str, bytes]:
+        """The forms that people read, with what the loop tells of these scenarios."""
+        stories = [self.stories[scenario] for scenario in found if scenario in self.stories]
+        program = program_of(self.harness)
+        title = program.name if self.settings.is_made else text_of(self.settings.table["outside"]["label"])
+        appendix = Appendix(title, program, today(), self.asked.words, self.clean, stories)
+        return {form: ADDS[form](text, appendix) for form, text in forms.items() if form in ADDS}
+
+    def certify(self, outcomes: Iterable[Outcome]) -> None:
+        """Prints on which real file systems failures come true, as many as were asked for, each beneath its own line."""
+        if not self.certifier:
+            return
+        failing = [outcome for outcome in outcomes if outcome.verdict.startswith("fail")]
+        if len(failing) > self.certifier.wanted.most:
+            show(f"loop: {self.certifier.wanted.most} of {len(failing)} findings and causes are tried on real file systems (--certificates)")
+        for outcome in failing[:self.certifier.wanted.most]:
+            if outcome.scenario != "none":  # whose line was the last one
+                show(failure(outcome), RED)
+            told = self.certifier.certify(outcome.scenario, outcome.verdict)
+            for sentence in told:
+                show(f"  {sentence}")
+            if outcome.scenario in self.stories:
+                self.stories[outcome.scenario].further += map(text_of, told)
 
     def status(self, of_report: int) -> int:
         """The exit status: that of the report, unless a run of this call didn't do the same each time, and so nobody knows what it came to."""
@@ -300,22 +342,29 @@ class Whole:
         colour = RED if scenario else YELLOW if self.answers.unresolved else GREEN
         show(f"{came_to}; {time.monotonic() - self.begun:.1f} s{page}", colour)
         if scenario:
-            show(f"again: {self.asked.words} --try {shlex.quote(scenario)}")
+            show(f"again: {again(self.asked.words, scenario)}")
 
     def confirm(self, scenarios: list[str]) -> int:
         """Runs each finding and cause, and the run without faults, once more, and prints what the causes have in common. Returns in how many ways the
         program fails."""
         lines = {scenario_in(line): line for line in self.answers.lines()}
         groups: Counter[tuple[str, str]] = Counter()
+        told = set(scenarios[:MOST_STORIES])
+        self.decider.judge.keeps_evidence = True
         for outcome in self.workers.run_again(["none", *scenarios]):
             line = lines[outcome.scenario]
+            self.confirmed[outcome.scenario] = outcome
             if outcome.answer(self.settings.depth > 0) != line and not (outcome.is_late and line.startswith(f"{outcome.verdict}\t")):
                 self.tell_difference(line.split("\t")[0], line.split("\t")[-1], outcome)
             elif outcome.parting and not outcome.is_late:
                 self.is_same = False
                 show(f"loop: the run did otherwise than before: {outcome.parting}: {outcome.scenario}")
-            elif outcome.scenario != "none":
+            elif outcome.scenario == "none":
+                self.clean = hits_of(outcome)
+            else:
                 groups[group_of(outcome)] += 1
+                if outcome.scenario in told:
+                    self.stories[outcome.scenario] = story_of(outcome, self.asked.words, self.decider.only_state)
         for group in in_order(groups):
             show(f"{groups[group]} failure{'s' * (groups[group] > 1)}: {': '.join(group)}")
         return len(groups)
@@ -354,19 +403,13 @@ def counts_of(report: bytes) -> tuple[int, int, int]:
     return verdicts.total(), verdicts[b"unresolved"], verdicts[b"fail"]
 
 
-def from_here(path: Path) -> Path:
-    """The path as a person would name it."""
-    here = Path.cwd()
-    return path.resolve().relative_to(here) if path.resolve().is_relative_to(here) else path
-
-
 def came_to(count: int, plans: str, unresolved: int, ways: int) -> str:
     fails = f"{count} of {plans} fail{'s' * (count == 1)}, in {ways} way{'s' * (ways != 1)}" if count else f"none of {plans} fails"
     return fails + (f", and {unresolved} {'is' if unresolved == 1 else 'are'} unresolved" if unresolved else "")
 
 
 def decider_of(runner: Runner, settings: Settings, every_run: bool, answers: Answers) -> Decider:
-    decider = Decider(runner, settings.asking(), settings.depth, every_run)
+    decider = Decider(runner, settings.asks(), settings.depth, every_run)
     if settings.depth:
         for line in answers.lines():
             decider.repeats.take_answer(line)

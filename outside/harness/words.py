@@ -1,5 +1,6 @@
 """The arguments of a command line."""
 
+import itertools
 import os
 import shutil
 from pathlib import Path
@@ -55,8 +56,10 @@ def bytes_of(text: str, name: str) -> int:
     return whole_number(text[:-1] if shift else text, name, "number of bytes such as 500M") << shift
 
 
-def split(words: list[str], with_value: set[str], flags: set[str], repeated: frozenset[str] = frozenset()) -> tuple[dict[str, str], list[str]]:
-    """The options and the other arguments. Behind `--` there are no options. `-j4` means `-j 4`. An option that may be repeated has its values as lines."""
+def split(words: list[str], with_value: set[str], flags: set[str], repeated: frozenset[str] = frozenset(),
+        listing: dict[str, tuple[str, ...]] | None = None) -> tuple[dict[str, str], list[str]]:
+    """The options and the other arguments. Behind `--` there are no options. `-j4` means `-j 4`. An option that may be repeated has its values as lines,
+    and so has one that may have any number of these words behind it."""
     options: dict[str, str] = {}
     others: list[str] = []
     rest = list(words)
@@ -75,6 +78,10 @@ def split(words: list[str], with_value: set[str], flags: set[str], repeated: fro
             options[word] = before + rest.pop(0)
         elif word in flags:
             options[word] = "yes"
+        elif listing and word in listing:
+            behind = itertools.takewhile(lambda value, values=listing[word]: value in values, rest)
+            options[word] = "\n".join(values := list(behind))
+            del rest[:len(values)]
         else:
             raise Usage(f"{word}: there is no such option")
     return options, others

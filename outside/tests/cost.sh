@@ -26,7 +26,7 @@ done
 is '100 MB take at most 1.5 times as long' yes "$([ $((best_with * 2)) -le $((best_without * 3)) ] && echo yes || echo "$best_with, without $best_without")"
 noted_kilobytes() { du -k "$here/run/changes" | cut -f 1; }
 is 'and less than 1 MB of notes' yes "$([ "$(noted_kilobytes)" -lt 1000 ] && echo yes)"
-is 'for one change for each block' $((1 + 382 * 64)) "$(out/powercut pending "$here/run" | wc -l)"
+is 'for a length and a block for each block, and a name' $((1 + 2 * 382 * 64)) "$(out/powercut pending "$here/run" | wc -l)"
 supervised with notrunc
 is 'written over, what was there is noted once, and what is new once' yes \
     "$([ "$(noted_kilobytes)" -lt $((2 * 382 * 256 + 3000)) ] && echo yes)"

@@ -12,7 +12,7 @@ depth, harness = int(words[0]), words[1]
 kinds = {"power::keep": ["return"], **{word.split("=")[0]: word.split("=")[1].split(",") for word in words[2:]}}
 catalogue = "open read write fsync ftruncate rename link unlink mkdir rmdir symlink".split()
 order = ["sys::" + name for name in catalogue] + ["power::keep"]
-tried = tries_of(harness, "keep" if "keep" in sys.argv else None)
+tried = tries_of(harness, asks="keep" in sys.argv)
 runs = {}
 
 

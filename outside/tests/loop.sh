@@ -125,7 +125,7 @@ is 'or its output is none of its business' '0 a' "$(within 9 - echo a)"
 is 'nor its own words' '125 within: 9s: Invalid argument' "$(within 9s 99 true)"
 
 # Without that program, as on other machines, `timeout` ends what stayed in its group.
-mkdir "$here/unbuilt" && cp -R loop harness "$here/unbuilt"
+mkdir "$here/unbuilt" && cp -R loop harness disks "$here/unbuilt"
 PATH="$here/bin:$PATH" "$here/unbuilt/loop" --seconds 1 "$here/three" "$here/answers" "$here/bin/hangs" > "$here/said" 2> "$here/told"
 is 'where it is not built' '3 unresolved ' "$(cut -f 1 "$here/answers" | sort | uniq -c | sed 's/^ *//') $(going)"
 is 'which is told too' "loop: $here/unbuilt/out/within isn't built, so processes that a run leaves behind aren't ended: call make -C $here/unbuilt" "$(head -n 1 "$here/told")"

@@ -488,8 +488,9 @@ static int overslept(char **words) {
     return write(file, "late", 4) != 4 || waitpid(made, &status, 0) < 0 || status;
 }
 
+/* A sleep that a signal ends. It comes again and again, since the first one may come before the sleep. */
 static int woken(char **words) {
-    struct itimerval soon = {{0, 0}, {0, 30000}};
+    struct itimerval soon = {{0, 30000}, {0, 30000}};
     struct timespec long_time = {20, 0}, rest = {0, 0};
     (void)words;
     sigaction(SIGALRM, &(struct sigaction){.sa_handler = nothing, .sa_flags = SA_RESTART}, NULL);

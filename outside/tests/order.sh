@@ -107,6 +107,6 @@ for wrong in '--order' '--order any' '--pinned' '--'; do
     new
     # shellcheck disable=SC2086
     run none $wrong
-    is "a word it has no meaning for: $wrong" '98 faults: usage: faults [--order settled|next] [--pin] [--] COMMAND.., or faults --help' "$status $faults"
+    is "a word it has no meaning for: $wrong" '98 faults: usage: faults [--order settled|next] [--pin] [--sync] [--] COMMAND.., or faults --help' "$status $faults"
 done
 

@@ -2,8 +2,7 @@
 """random_files.py FOLDER OUT SUPERVISOR PROGRAM FROM TO [killed]: random files under the supervisor, with each seed; then what a power
 cut leaves.
 
-Where all was synced, what lasts is the tree as the program left it; whatever was synced, all kept is that tree, also where each write might
-have been torn, and so is `live`. Of a tree the names, kinds, modes, contents, links and targets are compared. With `killed` the supervisor is
+Where all was synced, what lasts is the tree as the program left it; whatever was synced, all kept is that tree, and so is `live`. Of a tree the names, kinds, modes, contents, links and targets are compared. With `killed` the supervisor is
 killed at some moment: then all of the run ends, `live` is the tree, each line of the trace is whole once it was cut, and where all kept isn't, that is told.
 Prints a line for each difference, or how many trees were equal, or kills were.
 """
@@ -80,13 +79,14 @@ def tried(folder, out, supervisor, program, seed):
     powercut = os.path.join(out, "powercut")
     data, run = made(folder, powercut)
     ending = ("none", "sync", "each")[seed % 3]
-    settings = dict(os.environ, FAULTS_ROOT=data, FAULTS_RUN=run, FAULTS_BLOCK=("4096", "512")[seed // 3 % 2])
+    settings = dict(os.environ, FAULTS_ROOT=data, FAULTS_RUN=run, FAULTS_BLOCK=("4096", "512")[seed // 3 % 2],
+                    FAULTS_SYNC="ext4" if ending == "sync" else "linux")  # on ext4 a sync of everything keeps everything
     ended = subprocess.run([supervisor, program, str(seed), str(40 + seed % 5 * 40), str(1 + seed % 6), ending], cwd=data, env=settings,
                            stderr=subprocess.PIPE, text=True, timeout=60, check=False)
     if ended.returncode:
         return [f"seed {seed}: ended with {ended.returncode}: {ended.stderr}"], 0
     as_left, found, equal = tree(data), [], 0
-    states = [["keep", "power::keep=return"], ["tear", "power::keep=return"], ["live"]] + ([["lasting"]] if ending != "none" else [])
+    states = [["keep", "power::keep=return"], ["live"]] + ([["lasting"]] if ending != "none" else [])
     for state in states:
         cut = subprocess.run([powercut, "cut", run, data, *state], stderr=subprocess.PIPE, text=True, check=True)
         for difference in differences(as_left, tree(data)):

@@ -43,14 +43,14 @@ for flaw in sound late_sync ignore_sync retry_write; do
     is "replace $flaw, its list and its runs" "$(list_of $flaw)" "$(FLAW=$flaw tests/grown.py --report 2 examples/replace)"
     is "replace $flaw, half a chunk" "$(listed $flaw)" "$(verdicts $flaw 'sys::write=1*return(HALF)' 'sys::write=1*off->1*return(HALF)')"
 done
-# With crash states, by examples/replace/keep.toml; those reports are in brief.
+# With what a power cut keeps, by examples/replace/keep.toml; those reports are in brief, and their numbers follow as those of grown.sh do.
 for flaw in rename_first in_place; do
     is "replace $flaw, crash states" "$(grep -E '^(level|onward|beyond|cause) |^reached .* [1-9]' "examples/replace/$flaw.report")" \
         "$(FLAW=$flaw tests/grown.py --report keep 2 examples/replace | grep -v '^verdict')"
 done
 
 # The bundled target's other worked rows: old contents that are empty, and what each run asks.
-# one [keep | tear] SCENARIO: its answer
+# one [keep] SCENARIO: its answer
 one() { tests/tried.py ${2+"$1"} examples/replace "${2-$1}" | tr '\t' ' '; }
 is 'replace ignore_sync with no old contents' 'fail stale sys::fsync=1*return 2*sys::open;2*sys::write;sys::fsync;sys::rename;sys::fsync' \
     "$(OLD='' FLAW=ignore_sync one 'sys::fsync=1*return')"
@@ -61,11 +61,11 @@ is 'replace twice, what was left is cleared' \
     'pass sys::write=1*return;sys::unlink=1*return 2*sys::open;sys::write;2*sys::unlink;sys::open;2*sys::write;sys::fsync;sys::rename;sys::fsync' \
     "$(REPLACEMENTS='ne w , fir st' one 'sys::write=1*return;sys::unlink=1*return')"
 is 'replace, with its hits' 'pass none 2*sys::open;2*sys::write;sys::fsync;sys::rename;sys::fsync' "$(one none)"
-keep='sys::fsync=1*return;power::keep=3*off->1*return'
-is 'and those of the cut' "fail torn $keep 2*sys::open;2*sys::write;sys::rename;sys::fsync;4*power::keep" "$(FLAW=rename_first one keep "$keep")"
-tear='sys::fsync=1*return;power::keep=return;power::tear=1*return'
-is 'of which it tears the first write' "fail torn $tear 2*sys::open;2*sys::write;sys::rename;sys::fsync;2*power::keep;power::tear;2*power::keep" \
-    "$(FLAW=rename_first one tear "$tear")"
+# The rename and all before it, and then one of two lengths; or it, the whole length, and then one of two versions of its block.
+keep='sys::fsync=1*return;power::keep=1*return'
+is 'and those of the cut' "fail torn $keep 2*sys::open;2*sys::write;sys::rename;sys::fsync;3*power::keep" "$(FLAW=rename_first one keep "$keep")"
+keep='sys::fsync=1*return;power::keep=2*return'
+is 'a length without bytes' "fail torn $keep 2*sys::open;2*sys::write;sys::rename;sys::fsync;4*power::keep" "$(FLAW=rename_first one keep "$keep")"
 is 'replace under a pause is unresolved' 'unresolved sys::write=pause 2*sys::open;sys::write' "$(one 'sys::write=pause')"
 is 'replace under a refused scenario is unresolved' 'unresolved sys::write=retrun ' "$(one 'sys::write=retrun')"
 

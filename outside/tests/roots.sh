@@ -108,16 +108,18 @@ mkdir -p "$here/data/$deep" && : > "$here/data/${deep}a"
 rm -r "$here/run" && out/powercut begin "$here/run" "$here/data"
 go none rename "${deep}a" "${deep}b"
 shown=$(printf '%s' "$deep" | sed 's/\x01/\\001/g')
-gcc -std=gnu11 -g -w -fsanitize=address,undefined -fno-sanitize-recover=all -o "$here/powercut" cut/*.c run/*.c \
-    -pthread > "$here/said" 2>&1 || cp out/powercut "$here/powercut"
-sanitized() { ASAN_OPTIONS=detect_leaks=0 "$here/powercut" "$@"; }
-is 'long names of control bytes' "1	rename	${shown}a -> ${shown}b	-" "$(sanitized pending "$here/run" 2>&1)"
+mkdir -p "$here/own/out" "$here/own/cut" && cp cut/profiles "$here/own/cut"
+gcc -std=gnu11 -g -w -fsanitize=address,undefined -fno-sanitize-recover=all -o "$here/own/out/powercut" cut/*.c run/*.c \
+    -pthread > "$here/said" 2>&1 || cp out/powercut "$here/own/out/powercut"
+sanitized() { ASAN_OPTIONS=detect_leaks=0 "$here/own/out/powercut" "$@"; }
+is 'long names of control bytes' "1	rename ${shown}a -> ${shown}b" "$(sanitized pending "$here/run" 2>&1)"
 sanitized cut "$here/run" "$here/data" keep none > "$here/said" 2>&1
-is 'in the trace too' "0 ${shown}a -> ${shown}b " "$? $(tail -n 1 "$here/run/trace" | cut -f 5) $(cat "$here/said")"
+is 'in the trace too' "0 1 rename ${shown}a -> ${shown}b " "$? $(tail -n 1 "$here/run/trace" | cut -f 5) $(cat "$here/said")"
 try none create abc write x write y rename abc ab
-is 'notes that begin at any byte' '1 create abc -,2 write abc 1 at 0,3 write abc 1 at 1,4 rename abc -> ab -' \
-    "$(sanitized pending "$here/run" 2>&1 | tr '\t' ' ' | paste -s -d ,)"
-rm "$here/powercut"
+is 'notes that begin at any byte' \
+    '1 create abc;2 rename abc -> ab, and all before it;3 length of ab 1;4 length of ab 2;5 block 0 of ab as after write 1;6 block 0 of ab as after write 2' \
+    "$(sanitized pending "$here/run" 2>&1 | tr '\t' ' ' | paste -s -d ';')"
+rm -r "$here/own"
 deep=$(repeated 1500 d/)
 new
 (cd "$here/data" && mkdir -p "$deep" && echo precious > "${deep}in")

@@ -103,7 +103,7 @@ printf '1\tsys::write\t1\tgo\tx\n2\tpower::keep\t1\tgo\tx\n3\tb\t1\tgo\tx\n' > "
 is 'and what a power cut asks last' "points = [$files, \"b\", \"power::keep\"]" "$(./census --points "$here/cut")"
 
 printf '1\tsys::write\t1\tgo\tx\t1\t-\t2\n2\tb\t1\tgo\tx\n' > "$here/sound"
-is 'or would ask of another run' "points = [$files, \"b\", \"power::keep\", \"power::tear\"]" "$(./census --points "$here/sound")"
+is 'or would ask of another run' "points = [$files, \"b\", \"power::keep\"]" "$(./census --points "$here/sound")"
 is 'but not of the one without a depth' 'points = ["sys::write", "b"]' "$(./census "$here/sound" | head -n 1)"
 
 # Names that a client takes: a text of TOML has `"` and `\` behind a `\`. What no settings have, or hits would say otherwise, is refused.
@@ -112,8 +112,7 @@ is 'a name with quotes is one point' 'points = ["a\", \"b", "x\\y", "2x*"]' "$(.
 is 'and behind those of the supervisor' "points = [$files, \"a\\\", \\\"b\", \"x\\\\y\", \"2x*\"]" "$(./census --points "$here/named")"
 is 'in hits it stands as it is' 'a", "b;x\y;2x*' "$(./census --hits "$here/named")"
 printf '1\tsys::write@a"b\t1\tgo\tx\t1\t-\t2\n' > "$here/named"
-is 'and in a table' '"sys::write@a\"b" = ["return", "return(ENOSPC)", "return(HALF)", "panic"]
-"power::tear" = ["return"]' "$(./census --kinds "$here/named" | tail -n 2)"
+is 'and in a table' '"sys::write@a\"b" = ["return", "return(ENOSPC)", "return(HALF)", "panic"]' "$(./census --kinds "$here/named" | tail -n 1)"
 long=$(head -c 201 /dev/zero | tr '\0' x)
 for name in 'a;b' 'a=b' '2*b' '30*' '' ' a' 'a ' "$long"; do
     printf '1\tb\t1\tgo\tx\n2\t%s\t1\tgo\tx\n' "$name" > "$here/named"
@@ -127,21 +126,19 @@ is 'no control byte is shown' "census: $here/named line 1: neither settings nor 
 
 # What is tried at the points of a trace.
 try none mkdir b create a write b write c fsync rename a sub/b folder . fsync
-is 'kinds where calls take room' "points = [$files, \"power::keep\", \"power::tear\"]
+is 'kinds where calls take room' "points = [$files, \"power::keep\"]
 
 [outside.kinds]
 \"sys::open\" = [\"return\", \"return(ENOSPC)\", \"panic\"]
 \"sys::write\" = [\"return\", \"return(ENOSPC)\", \"return(HALF)\", \"panic\"]
 \"sys::rename\" = [\"return\", \"return(ENOSPC)\", \"panic\"]
-\"sys::mkdir\" = [\"return\", \"return(ENOSPC)\", \"panic\"]
-\"power::tear\" = [\"return\"]" "$(./census --kinds "$here/run/trace")"
+\"sys::mkdir\" = [\"return\", \"return(ENOSPC)\", \"panic\"]" "$(./census --kinds "$here/run/trace")"
 printf '1\tsys::open@a\t1\tgo\ta\t1\tO_RDONLY\t3\n2\tsys::read@a\t1\tgo\ta\t1\t-\t3\n3\tsys::open@b\t1\tgo\tb\t1\tO_WRONLY|O_CREAT\t3\n' > "$here/by_file"
 printf '4\tsys::symlink@c\t1\tgo\tc\t1\t-\t0\n5\tsys::link@d\t1\tgo\td\t1\t-\t0\n6\tsys::truncate@b\t1\tgo\tb\t1\t-\t0\n' >> "$here/by_file"
 is 'by file, and opens where one may make it' '"sys::open@b" = ["return", "return(ENOSPC)", "panic"]
 "sys::symlink@c" = ["return", "return(ENOSPC)", "panic"]
 "sys::link@d" = ["return", "return(ENOSPC)", "panic"]
-"sys::truncate@b" = ["return", "return(ENOSPC)", "panic"]
-"power::tear" = ["return"]' "$(./census --kinds "$here/by_file" | sed '1,/^.outside.kinds.$/d')"
+"sys::truncate@b" = ["return", "return(ENOSPC)", "panic"]' "$(./census --kinds "$here/by_file" | sed '1,/^.outside.kinds.$/d')"
 printf '1\tsys::connect\t1\tgo\tx\n2\tsys::send\t1\tgo\tx\n3\tsys::recv\t1\tgo\tx\n4\twrite\t1\tgo\tx\n' > "$here/messages"
 is 'of messages' "points = [$files, \"sys::connect\", \"sys::accept\", \"sys::send\", \"sys::recv\", \"write\"]
 

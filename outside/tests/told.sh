@@ -128,20 +128,20 @@ refused 'sys::write=return(DROP)' 'UnknownError entry 1 term 1'
 # A run that goes on after the cut.
 scenario_of='sys::write=2*off->1*panic->1*off->1*return;power::keep=1*off->1*return->1*off->1*return'
 try "$scenario_of" create a write b fsync write c write d
-is 'a run up to its panic' '99 1 create a -,2 write a 1 at 1' "$status $(pending)"
+is 'a run up to its panic' '99 1 length of a 2;2 block 0 of a as after write 2' "$status $(pending)"
 out/powercut recover "$here/run" "$here/data" keep "$scenario_of"
-is 'recover: what was kept is there' 'old=0123456789 sub/ sub/in=inside ' "$(files)"
+is 'recover: what was kept is there' 'a=b old=0123456789 sub/ sub/in=inside ' "$(files)"
 is 'and nothing of it is pending' '' "$(pending)"
 is 'nor may it be cut before something runs' "$nothing" "$(out/powercut cut "$here/run" "$here/data" 2>&1)"
 go "$scenario_of" create z write e write f
 is 'it goes on' '0 create 0,write 1,write EIO' "$status $said"
 out/powercut cut "$here/run" "$here/data" keep "$scenario_of"
-is 'with its hits numbered on' "5 sys::write 3 panic,6 power::keep 1 go,7 power::keep 2 return,8 sys::open 2 go,9 sys::write 4 go,\
-10 sys::write 5 return,11 power::keep 3 go,12 power::keep 4 return" \
+is 'with its hits numbered on' "5 sys::write 3 panic,6 power::keep 1 go,7 sys::open 2 go,8 sys::write 4 go,\
+9 sys::write 5 return,10 power::keep 2 return,11 power::keep 3 go" \
     "$(tail -n +5 "$here/run/trace" | cut -f 1-4 | tr '\t' ' ' | paste -s -d ,)"
-is 'and a cut of its own' 'old=0123456789 sub/ sub/in=inside ' "$(files)"
-is 'in every state' 'old=0123456789 sub/ sub/in=inside z=e ' "$(left live)"
+is 'and a cut of its own' 'a=b old=0123456789 sub/ sub/in=inside z= ' "$(files)"
+is 'in every state' 'a=b old=0123456789 sub/ sub/in=inside z=e ' "$(left live)"
 try none create a write b folder . fsync
 out/powercut recover "$here/run" "$here/data" live
 go none open a write c
-is 'recover to a state: what it left lasts' '1 write a 1 at 0:a=b old=0123456789 ' "$(pending):$(kept none)"
+is 'recover to a state: what it left lasts' '1 block 0 of a as after write 1:a=b old=0123456789 ' "$(pending):$(kept none)"

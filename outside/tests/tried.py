@@ -1,6 +1,6 @@
 #!/usr/bin/env python3
-"""tried.py [keep | tear] HARNESS SCENARIO..: runs each of them, whatever is known of others, and writes its answer: verdict, scenario, hits. In the
-states of the harness; or in the one that the scenario says, of kept changes, or of torn ones too. TRACE is a file that takes the trace of the last."""
+"""tried.py [keep] HARNESS SCENARIO..: runs each of them, whatever is known of others, and writes its answer: verdict, scenario, hits. In the states of
+the harness; or with `keep` in the one that the scenario says. TRACE is a file that takes the trace of the last."""
 import atexit, os, sys
 
 sys.path.insert(0, os.path.dirname(os.path.dirname(os.path.abspath(__file__))))
@@ -16,7 +16,7 @@ from harness.run import Runner  # noqa: E402
 from harness.work import Work  # noqa: E402
 
 
-def tries_of(path, state=None):
+def tries_of(path, asks=False):
     """A function from a scenario to its outcome. What it lays out goes with this program."""
     processes, work = Processes(), Work(None, needs_disk=False)
     atexit.register(work.end)
@@ -26,14 +26,14 @@ def tries_of(path, state=None):
     harness.order = "next" if any("order::next" in word for word in sys.argv) else harness.order
     runner = Runner(harness, work, processes, room)
     runner.prepare()
-    decider = Decider(runner, state, 0, every_run=True)
+    decider = Decider(runner, asks, 0, every_run=True)
     return lambda text: decider.run_again(text, LooksUp.NONE)
 
 
 if __name__ == "__main__":
-    state = sys.argv.pop(1) if sys.argv[1] in ("keep", "tear") else None
-    run = tries_of(sys.argv[1], state)
-    for scenario in sys.argv[2:]:
+    path, *scenarios = [word for word in sys.argv[1:] if word != "keep"]
+    run = tries_of(path, asks="keep" in sys.argv)
+    for scenario in scenarios:
         outcome = run(scenario)
         print(outcome.answer())
     if "TRACE" in os.environ:

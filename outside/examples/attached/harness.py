@@ -9,9 +9,10 @@ acknowledged, or what was there before, is missing.
 Promised by SQLite's page of ATTACH: "Transactions involving multiple attached databases are atomic", but for a main database in memory or a WAL; and
 by that of PRAGMA synchronous, of EXTRA: "the directory containing a rollback journal is synced after that journal is unlinked to commit a transaction".
 
-Found in SQLite 3.40.1, plans of one fault: lost, `sys::open=6*off->return`. SQLite opens the folder and syncs it once the journal is deleted. If it can't
+Found in SQLite 3.40.1, plans of one fault: lost, `sys::open=5*off->return`. SQLite opens the folder and syncs it once the journal is deleted. If it can't
 be opened no error is reported: the commit is acknowledged, and after a power cut the journal may be there again and roll it back. Over two files one such
-failure passes, since the folder is synced again; it is lost only if all opens from one on fail. ../sqlite shows the same with strace alone."""
+failure passes, since the folder is synced again; it is lost only if all opens from one on fail. Under FAULTS_SYNC=posix the first of the four such plans passes,
+as the names of the journals are lost too. ../sqlite shows the same with strace alone."""
 
 import os
 import sqlite3

@@ -8,8 +8,8 @@ the file has the replacement that is done, or one that was begun later, whole. V
 The judge says torn if the file holds neither what was there before nor a replacement that was begun, and stale if it holds an older one than the last that was
 acknowledged.
 
-With keep.toml the pending changes that a power cut keeps are planned as faults are. Two faults deep FLAW=rename_first has 4 causes, the first of them
-`sys::fsync=1*return;power::keep=3*off->1*return` (the name is kept, and none of its bytes). FLAW=in_place has 23, the first of them
+With keep.toml the pending changes that a power cut keeps are planned as faults are. Two faults deep FLAW=rename_first has 2 causes, the first of them
+`sys::fsync=1*return;power::keep=1*return` (the name is kept, and none of its bytes). FLAW=in_place has 16, the first of them
 `sys::open=1*off->1*return;power::keep=1*return` (the old name is gone). In `lasting` both pass every plan."""
 
 import os

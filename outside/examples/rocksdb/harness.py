@@ -3,7 +3,7 @@ and its judge are those of ../leveldb, with RocksDB as the store. It needs `make
 environment change the run:
     BATCHES     how many batches are committed. Default: 9. With SIZE, the length of each value (default: 6000), a new log replaces the old one as its table is written
     THREADS     how many threads commit at once. Default: 1. Several threads decide in memory which of them writes for the others: with 3 each run is another one
-    FAULTS_SYNC journal (the default here), as on ext4: in the strict model names of its files are lost if the power goes while it is opened
+    FAULTS_SYNC ext4 (the default here): under posix names of its files are lost if the power goes while it is opened
 
 Promised by RocksDB's options.h, WriteOptions, sync: "If true, the write will be flushed from the operating system buffer cache (by calling WritableFile::Sync())
 before the write is considered complete."
@@ -17,7 +17,7 @@ being the folder of that name:
 
 import os
 
-DEFAULTS = {"BATCHES": "9", "SIZE": "6000", "THREADS": "1", "PARANOID": "1", "FAULTS_SYNC": "journal"}
+DEFAULTS = {"BATCHES": "9", "SIZE": "6000", "THREADS": "1", "PARANOID": "1", "FAULTS_SYNC": "ext4"}
 environment = {"STORE": "rocksdb"} | {name: os.environ.get(name, value) for name, value in DEFAULTS.items()}
 
 prepare, run, judge = [[f"../leveldb/{step}"] for step in ("prepare", "run", "judge")]

@@ -13,22 +13,22 @@ Promised by SQLite's page of PRAGMA synchronous: of FULL, that it "will use the 
 surface prior to continuing"; of EXTRA also "that the directory containing a rollback journal is synced after that journal is unlinked to commit a transaction".
 
 Found in SQLite 3.40.1:
-- lost, `sys::open=3*off->1*return`, the one loss by one fault: the folder that is to be synced can't be opened, and no error is reported. The commit is acknowledged,
+- lost, `sys::open=3*off->1*return`: the folder that is to be synced can't be opened, and no error is reported. The commit is acknowledged,
   and after a power cut the journal may be there again and roll it back. With strace alone, in an empty folder:
     sqlite3 db 'CREATE TABLE t(n)'
     strace -o calls -P "$PWD" -e trace=openat,fdatasync -e inject=openat:error=EIO:when=2 \\
         sqlite3 db "PRAGMA synchronous=EXTRA; INSERT INTO t VALUES(1); SELECT 'done'"
     cat calls                     # one sync of the folder, one open that failed; `done` all the same
-- corrupt, `sys::open=2*off->1*return;sys::write=9*off->1*panic`, and so with `sys::fsync=1*off->1*return` in place of the open: the folder can't be synced after
-  the journal is made. SQLite goes on, and dies while it writes pages: the pages last, the journal's name doesn't. With either fault alone it passes.
-- Three faults deep (extra.toml) 896 of 1,119 plans pass, 222 are corrupt and 1 is lost, and no run has room for a fourth fault. Of the 217 causes 7 have one
-  fault or two; in 210 SQLite fails while it rolls back, 204 times at a call that its run without faults doesn't have.
-- lost, `sys::open=2*off->return;power::keep=1*return`: where the folder is never opened, the journal's name lasts and its removal doesn't, so that the journal is
-  hot when the database is opened again. With nothing kept it passes.
+- lost, `sys::open=2*off->return`: the folder is never opened. The journal's name lasts all the same, as the journal was synced, and its removal doesn't. Under
+  FAULTS_SYNC=posix that name is lost too, and it passes; with `;power::keep=1*off->1*return`, which keeps it, it is lost.
+- Three faults deep (extra.toml) 1,116 of 1,119 plans pass, and 3 are lost by that one open. No run has room for a fourth fault.
+- corrupt under FAULTS_SYNC=posix, `sys::open=2*off->1*return;sys::write=9*off->1*panic`, and so with `sys::fsync=1*off->1*return` in place of the open: the folder
+  can't be synced after the journal is made. SQLite goes on, and dies while it writes pages: the pages last, the journal's name doesn't. With either fault alone it
+  passes. Three faults deep 206 plans are so.
 - SYNC=FULL is lost without any fault, as the folder isn't synced after the journal is deleted. With STATES=live, a crash of the program alone, no single fault
   loses anything, and with JOURNAL=WAL none does after a power cut either.
-- RECOVER=yes: of 238 plans with one fault 3 are lost, each by a folder that can't be opened for its sync, in the second transaction also
-  (`sys::open=7*off->1*return`); of 5,891 with two 181, and each of the 50 causes has such an open. Where SQLite dies at its tenth write and a write of the
+- RECOVER=yes: of 238 plans with one fault 5 are lost, each by a folder that can't be opened for its sync, in the second transaction also
+  (`sys::open=7*off->1*return`); of 13,031 with two 372, and each of the 86 causes has such an open. Where SQLite dies at its tenth write and a write of the
   roll-back fails it passes, as the next one rolls back again."""
 
 import os

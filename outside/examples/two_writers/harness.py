@@ -8,11 +8,15 @@ missing, and crashed if a signal ended a process. A process that finds the datab
 
 Promised by SQLite's page of write-ahead logging: "Writers sync the WAL on every transaction commit if PRAGMA synchronous is set to FULL".
 
-Found in SQLite 3.40.1, plans of one fault: `sys::open=7*off->1*return` and `sys::fsync=6*off->1*return`. The second writer makes its log
-anew, opens the folder and syncs it, but doesn't check whether either of these fails. Its transaction is acknowledged, and copied into the database as it ends. But
-no sync has put the first writer's removal of its own log on the disk: after a power cut that log may be there again, and is laid over the pages of the second's
-transaction, which is gone. With FAULTS_SYNC=journal both pass. With order.toml the same two are lost, of 468 plans. With strace alone, in an empty folder, you see
-that no error is reported:
+Found in SQLite 3.40.1, plans of one fault:
+- corrupt, `sys::fsync=4*off->1*return`: the database has grown, and its sync fails as the first writer copies its log into it. The second writer copies all of it
+  once more, with a sync that succeeds, and deletes the log. On ext4 a new block whose sync failed isn't there though it was written again and synced
+  (docs/DISKS.md), so nothing has these pages once the log's removal is on the disk. Under FAULTS_SYNC=xfs and btrfs it passes. With order.toml it is the same one,
+  of 468 plans. refused.py does it without Paklour's faults, on a disk that refuses these blocks once.
+- lost under FAULTS_SYNC=posix, `sys::open=7*off->1*return` and `sys::fsync=6*off->1*return`. The second writer makes its log anew, opens the folder and syncs it,
+  but doesn't check whether either of these fails. Its transaction is acknowledged, and copied into the database as it ends. But no sync has put the first writer's
+  removal of its own log on the disk: after a power cut that log may be there again, and is laid over the pages of the second's transaction, which is gone. With
+  strace alone, in an empty folder, you see that no error is reported:
     sqlite3 db 'PRAGMA journal_mode=WAL; CREATE TABLE t(n)'
     strace -o calls -P "$PWD" -e trace=openat,fsync,fdatasync -e inject=fsync,fdatasync:error=EIO:when=1 \\
         sqlite3 db "INSERT INTO t VALUES(1); SELECT 'done'"

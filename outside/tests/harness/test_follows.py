@@ -20,12 +20,12 @@ label = "sqlite3 EXTRA"
 codes = ["corrupt", "half", "lost"]
 points = ["sys::open", "sys::read", "sys::write", "sys::fsync", "sys::truncate", "sys::unlink"]
 """
-TEARS = """target = "outside"
+TWO_WRITES = """target = "outside"
 depth = 2
 [outside]
 label = "two writes"
 codes = ["torn"]
-points = ["sys::open", "sys::write", "sys::fsync", {}]
+points = ["sys::open", "sys::write", "sys::fsync", "power::keep"]
 """
 WHOLE = """#!/bin/sh
 case "$(tr -d '\\0' < a | sed 's/lm$//')" in '' | abcdefg | hijk | abcdefghijk) exit 0 ;; esac
@@ -140,54 +140,43 @@ class Unjudged(Campaigns):
 
 
 class Torn(Campaigns):
-    """What is kept by half is another cut of a run that is known. Of two writes to a file, the second is never synced."""
+    """What is kept in part is another cut of a run that is known. Of two writes to a file, the second is never synced; it is of two blocks of 8 bytes."""
 
     steps = {"prepare": "#!/bin/sh\n: > a\n", "run": f"#!/bin/sh\nexec {OUTSIDE}/out/component open a write abcdefg fsync write hijk\n"}
 
-    def campaign(self, folder, points, *options):
+    def campaign(self, folder, *options):
         """With what it told: its answers, and how many runs it took, plans followed, and of these were tried."""
         settings = self.here / "settings.toml"
-        settings.write_text(TEARS.format(points))
-        done = self.loop("-j", 1, "--settings", settings, "--into", self.here / "into", *options, folder)
+        settings.write_text(TWO_WRITES)
+        done = self.loop("-j", 1, "--settings", settings, "--into", self.here / "into", *options, folder, FAULTS_BLOCK="8")
         answers = sorted(self.answers(self.here / "into"))
         shutil.rmtree(self.here / "into")
         counts = re.search(r"(\d+) runs and \d+ judgements; (\d+) plans were derived from other runs, (\d+) of them were run", done.told)
         return done, answers, [int(count) for count in counts.groups()]
 
     def test_it_is_found(self):
-        done, answers, _ = self.campaign(self.harness(**self.steps, judge=WHOLE), '"power::keep", "power::tear"')
+        done, answers, _ = self.campaign(self.harness(**self.steps, judge=WHOLE))
         self.assertEqual(done.status, 1, done.told)
-        self.assertEqual([line for line in done.told.splitlines() if line.startswith("fail ")],
-            ["fail torn: pending change 1 (write a 4 at 7) is torn"])
-        self.assertIn("1 failure: torn: a is torn\n", done.told)
-        self.assertIn("fail torn\tpower::keep=1*return;power::tear=1*return\tsys::open;sys::write;sys::fsync;sys::write;power::keep;power::tear", answers)
+        kept = "pending change {} (length of a {}) is kept, pending change {} (block {} of a as after write 2) is kept"
+        self.assertLessEqual({"fail torn: " + kept.format(*each) for each in ((1, 8, 3, 0), (2, 11, 3, 0), (2, 11, 4, 1))}, set(done.told.splitlines()))
+        self.assertIn("1 failure: torn: length of a 11 is kept, block 1 of a as after write 2 is kept\n", done.told)
+        self.assertIn("fail torn\tpower::keep=1*return->1*off->1*return\tsys::open;sys::write;sys::fsync;sys::write;3*power::keep", answers)
 
     def test_it_takes_no_run(self):
-        folder = self.harness(**self.steps, judge="#!/bin/sh\ntrue\n")
-        _, kept, (runs, follows, tried) = self.campaign(folder, '"power::keep"')
-        done, torn, (more_runs, more_follows, more_tried) = self.campaign(folder, '"power::keep", "power::tear"')
-        plans = [answer for answer in torn if "power::tear=" in answer]
+        done, answers, (runs, follows, tried) = self.campaign(self.harness(**self.steps, judge="#!/bin/sh\ntrue\n"))
+        kept = [answer for answer in answers if "power::keep=" in answer]
         self.assertEqual(done.status, 0, done.told)
-        self.assertGreater(len(plans), 0)
-        self.assertEqual(len(torn), len(kept) + len(plans))
-        self.assertEqual(more_follows, follows + len(plans))
-        self.assertEqual(more_runs - more_tried, runs - tried)
+        self.assertGreater(len(kept), 0)
+        self.assertGreaterEqual(follows, len(kept))
+        self.assertLess(runs - tried, len(answers) - len(kept) + 1)
 
     def test_it_goes_as_a_run_does(self):
         again = f"#!/bin/sh\nexec {OUTSIDE}/out/component stream a a print lm close_stream\n"
         # The component crashes if its stream can't be opened.
         folder = self.harness(**self.steps, again=again, judge=WHOLE, allowed="crashed\n")
-        points = '"power::keep", "power::tear"'
-        done, known, _ = self.campaign(folder, points)
-        self.assertEqual(known, self.campaign(folder, points, "--every-run")[1])
-        self.assertEqual(sorted(line for line in done.told.splitlines() if line.startswith("fail ")),
-            [f"fail torn: pending change 1 (write a {length} at 7) is torn" for length in (2, 4)])
-
-    def test_settings_that_do_not_name_it(self):
-        done, answers, _ = self.campaign(self.harness(**self.steps, judge=WHOLE), '"power::keep"')
-        self.assertEqual(done.status, 0, done.told)
-        self.assertIn("pass\tpower::keep=1*return\tsys::open;sys::write;sys::fsync;sys::write;power::keep", answers)
-        self.assertNotIn("power::tear", "".join(answers))
+        done, known, _ = self.campaign(folder)
+        self.assertEqual(known, self.campaign(folder, "--every-run")[1])
+        self.assertEqual(done.status, 1, done.told)
 
 
 class Killed(Campaigns):

@@ -60,7 +60,15 @@ class Identity(Campaigns):
         with self.differs("below/answers"):
             self.put("below/answers", "")
         with self.differs("FAULTS_SYNC"):
-            self.enterContext(mock.patch.dict(os.environ, FAULTS_SYNC="names"))
+            self.enterContext(mock.patch.dict(os.environ, FAULTS_SYNC="posix"))
+
+    def test_another_power_cut(self):
+        """Answers belong to what the power cut kept, so also those of a version that notes nothing of it are set aside."""
+        own, other = self.identity(), self.here / "profiles"
+        shutil.copy(definition.PROFILES, other)
+        with mock.patch.object(definition, "PROFILES", other), self.differs("power cut"):
+            other.write_text("leaves linux names any\n")
+        self.assertEqual(differences({name: said for name, said in own.items() if name != "power cut"}, own), ["power cut"])
 
     def test_what_does_not(self):
         self.put("settings.toml", SETTINGS.format(1))

@@ -13,7 +13,7 @@ from .base import OUTSIDE, PROGRAM
 
 sys.path.insert(0, str(OUTSIDE))
 
-from harness.command import FLAGS, WITH_VALUE  # noqa: E402
+from harness.command import FLAGS, LISTING, WITH_VALUE  # noqa: E402
 
 TOP = OUTSIDE.parent
 COMMANDS = ["paklour-census", "paklour-faults", "paklour-loop", "paklour-new", "paklour-powercut"]
@@ -106,7 +106,7 @@ class Pages(unittest.TestCase):
     def test_the_help_of_the_loop_has_its_options(self):
         said = subprocess.run([OUTSIDE / "loop", "--help"], capture_output=True, text=True, check=True).stdout
         self.assertEqual({word for item in re.findall(r"^  (-.*?)(?:  |$)", said, re.M) for word in re.findall(r"(?<![\w-])--?\w[\w-]*", item)},
-            FLAGS | WITH_VALUE)
+            FLAGS | WITH_VALUE | LISTING.keys())
 
     def completed(self, *words):
         """What bash offers for the last of these words."""

@@ -127,7 +127,7 @@ class Machines(Campaigns):
         (parts / "1" / "answers").write_text(text.replace("fail lost\tsys::fsync=1*return;", "pass\tsys::fsync=1*return;"))
         done = self.loop(*WORDS, "--join", parts, "--into", self.here / "whole", NOTE)
         self.assertEqual(done.status, 5)
-        self.assertIn(f"loop: {self.here}/parts/1/answers: the verdict changed from fail lost to pass: sys::fsync=1*return;power::keep=2*off->1*return\n", done.told)
+        self.assertIn(f"loop: {self.here}/parts/1/answers: the verdict changed from fail lost to pass: sys::fsync=1*return;power::keep=1*return\n", done.told)
 
     def test_a_share_whose_runs_do_otherwise(self):
         """One answer of two has other hits up to its fault: its run is made here."""

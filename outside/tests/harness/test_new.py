@@ -38,7 +38,7 @@ class New(Campaigns):
         done = self.made(UNSAFE)
         self.assertEqual(done.status, 1)
         self.assertIn("fail lost: without any fault\n", done.told)
-        self.assertIn("pending: 1 create note -\n", done.told)
+        self.assertIn("pending: 1 create note\n", done.told)
 
     def test_a_server(self):
         done = self.made(SERVER.format(write="echo whole > new && sync new && mv new state && sync ."), "--server", "ready")
@@ -55,7 +55,7 @@ class New(Campaigns):
         self.assertEqual(done.status, 1)
         self.assertIn("fail unopenable: ", done.told)
         done = self.loop("--try", "none", self.here / "made")
-        self.assertEqual(done.told, "already here\n")
+        self.assertEqual(done.told, "the server ended with 1\nalready here\n")
 
     def again(self, made):
         """Makes anew what the judge expects."""
@@ -114,14 +114,14 @@ class New(Campaigns):
 
     def test_what_a_person_is_asked(self):
         """An answer that is none of those is asked for again, and an empty one is the default."""
-        told = self.answers("never\nkill\nlinux\n\n")
-        self.assertEqual([told.count(question) for question in ("sync or kill [sync]", "strict or linux or journal [strict]", "no or yes [no]")], [2, 1, 1])
+        told = self.answers("never\nkill\nposix\n\n")
+        self.assertEqual([told.count(question) for question in ("sync or kill [sync]", "linux or ext4 or xfs or btrfs or posix [linux]", "no or yes [no]")], [2, 1, 1])
         said = (self.here / "made" / "harness.py").read_text()
-        self.assertTrue("\nenvironment = {\"FAULTS_SYNC\": \"names\"}" in said and said.startswith('states = ["live"]'), said)
+        self.assertTrue("\nenvironment = {\"FAULTS_SYNC\": \"posix\"}" in said and said.startswith('states = ["live"]'), said)
         self.assertFalse((self.here / "made" / "allowed").exists())
 
     def test_what_options_answer_is_not_asked(self):
-        told = self.answers("yes\n", "--promises", "sync", "--file-system", "strict")
+        told = self.answers("yes\n", "--promises", "sync", "--file-system", "linux")
         self.assertNotIn("sync or kill", told)
         self.assertEqual((self.here / "made" / "allowed").read_text(), "crashed\n")
         self.assertFalse((self.here / "made" / "harness.py").exists())
@@ -166,7 +166,7 @@ class New(Campaigns):
 
     def test_a_server_that_fails(self):
         told = self.failed("#!/bin/sh\necho not so\necho no socket >&2\nexit 3\n", "--server", "ready")
-        self.assertTrue(told.startswith(f"not so\nno socket\nnew: {self.here}/made/run ended with 1. "), told)
+        self.assertTrue(told.startswith(f"the server ended with 3\nnot so\nno socket\nnew: {self.here}/made/run ended with 1. "), told)
 
     def test_a_server_that_is_not_ready_in_time(self):
         """Ended by its time, `run` shows what the server said."""

@@ -79,7 +79,7 @@ class Places(Campaigns):
     def test_a_program_that_does_something_else_in_memory(self):
         done = self.loop("-j", 2, "--no-kinds", self.harness(run=UNSYNCED_IN_MEMORY, judge=JUDGES))
         self.assertEqual(done.status, 1)
-        self.assertIn("pending: 1 create note -\npending: 2 write note 3 at 0\njudge: ", done.told)
+        self.assertIn("pending: 1 create note\npending: 2 length of note 3\npending: 3 block 0 of note as after write 1\njudge: ", done.told)
         self.assertIn(f"\nloop: the run without faults passes on a disk: set TMPDIR={self.places[1]}\n", done.told)
 
     def test_a_program_that_fails_in_memory(self):

@@ -19,9 +19,10 @@ HAS_PYTEST = "import sys, pytest; sys.exit(sys.version_info < (3, 11) or int(pyt
 PYTHON = next((python for python in (sys.executable, "/usr/bin/python3")
     if not subprocess.run([python, "-c", HAS_PYTEST], capture_output=True, check=False).returncode), None)
 LOST = """fail lost: without any fault
-pending: 1 create new -
-pending: 2 write new 5 at 0
-pending: 3 rename new -> note -
+pending: 1 create new
+pending: 2 rename new -> note, and all before it
+pending: 3 length of note 5
+pending: 4 block 0 of note as after write 1
 """
 JUDGE = """import os
 

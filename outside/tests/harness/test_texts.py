@@ -17,7 +17,7 @@ from harness.definition import Harness  # noqa: E402
 from harness.judging import Judgement  # noqa: E402
 from harness.outcome import Outcome  # noqa: E402
 from harness.records import place_in  # noqa: E402
-from harness.scenario import Fault, Scenario, Unreadable, hits_text, keeping, scenario_of  # noqa: E402
+from harness.scenario import Fault, Scenario, Unreadable, hits_text, scenario_of  # noqa: E402
 from harness.settings import Settings  # noqa: E402
 from harness.telling import faults_in_words, group_of, ordinal, what  # noqa: E402
 from harness.watching import hit_line  # noqa: E402
@@ -45,7 +45,6 @@ class Scenarios(unittest.TestCase):
     def test_text_of_faults(self):
         for text in ("none", "a=1*return", "a=2*off->1*return->1*off->1*panic;b=1*return(ENOSPC)"):
             self.assertEqual(scenario_of(Scenario(text).faults()), text)
-        self.assertEqual(keeping([1, 3]), "power::keep=1*return->1*off->1*return")
 
     def test_hits(self):
         self.assertEqual(hits_text(["a", "b", "b", "a"]), "a;2*b;a")
@@ -87,43 +86,38 @@ class Words(unittest.TestCase):
 class TornInWords(unittest.TestCase):
     """A run of one write, at whose end three changes are pending: a new name, and two writes to it."""
 
-    pending = [["1", "create", "a", "-"], ["2", "write", "a", "7 at 0"], ["3", "write", "a", "4 at 7"]]
+    def outcome(self, *hits, scenario="none"):
+        """Hits of power::keep, as what they ask and the answer."""
+        trace = [["1", "sys::write", "1", "go", "a", "-", "-", "-"]]
+        trace += [[str(number + 1), "power::keep", str(number), answer, asked, "-", "-", "-"] for number, (asked, answer) in enumerate(hits, 1)]
+        return Outcome(scenario, Judgement("fail torn"), trace)
 
-    def outcome(self, *hits, scenario="none", pending=pending):
-        """Hits as point and answer; each counts those of its point."""
-        trace, counts = [], {}
-        for number, (point, answer) in enumerate([("sys::write", "go"), *hits], 1):
-            counts[point] = counts.get(point, 0) + 1
-            trace.append([str(number), point, str(counts[point]), answer, "a", "-", "-", "-"])
-        return Outcome(scenario, Judgement("fail torn"), trace, pending)
+    def test_one(self):
+        told = self.outcome(("2 rename a -> b, and all before it", "go"), ("1 create a", "return"), ("3 length of b 7", "go"))
+        self.assertEqual(faults_in_words(told), "pending change 1 (create a) is kept")
+        self.assertEqual(group_of(told), ("torn", "create a is kept"))
 
-    def test_one_by_half(self):
-        told = self.outcome(("power::keep", "go"), ("power::keep", "return"), ("power::tear", "return"), ("power::keep", "go"))
-        self.assertEqual(faults_in_words(told), "pending change 2 (write a 7 at 0) is torn")
-        self.assertEqual(group_of(told), ("torn", "a is torn"))
+    def test_all_before_it_and_a_block(self):
+        told = self.outcome(("2 rename a -> b, and all before it", "return"), ("3 length of b 7", "go"), ("4 block 0 of b as after write 1", "return"))
+        self.assertEqual(faults_in_words(told),
+            "pending change 2 (rename a -> b, and all before it) is kept, pending change 4 (block 0 of b as after write 1) is kept")
+        self.assertEqual(group_of(told), ("torn", "rename a -> b and all before it are kept, block 0 of b as after write 1 is kept"))
 
-    def test_one_whole_and_one_by_half(self):
-        told = self.outcome(("power::keep", "go"), ("power::keep", "return"), ("power::tear", "go"), ("power::keep", "return"), ("power::tear", "return"))
-        self.assertEqual(faults_in_words(told), "pending change 2 (write a) is kept, pending change 3 (write a 4 at 7) is torn")
-        self.assertEqual(group_of(told), ("torn", "a is kept, a is torn"))
+    def test_what_is_undone(self):
+        """A change that a sync made last isn't pending, and of a move one end alone may be undone."""
+        told = self.outcome(("0 create log, undone", "return"), ("2 rename a -> b, of it b undone", "return"))
+        self.assertEqual(faults_in_words(told), "the change (create log) is undone, the change (rename a -> b, of it b) is undone")
+        self.assertEqual(group_of(told), ("torn", "create log is undone, rename a -> b, of it b is undone"))
 
     def test_all_from_then_on(self):
-        hits = ("power::keep", "go"), ("power::keep", "return"), ("power::tear", "return"), ("power::keep", "return"), ("power::tear", "return")
-        told = self.outcome(*hits, scenario="power::keep=1*off->return;power::tear=2*return")
-        self.assertEqual(faults_in_words(told), "pending change 2 (write a) and each later one is kept, "
-            "pending change 2 (write a 7 at 0) is torn, pending change 3 (write a 4 at 7) is torn")
-        told = self.outcome(*hits, scenario="power::keep=1*off->2*return;power::tear=return")
-        self.assertEqual(faults_in_words(told),
-            "pending change 2 (write a 7 at 0) and each later one is torn, pending change 3 (write a) is kept")
-
-    def test_where_nobody_knows_what_was_pending(self):
-        self.assertEqual(faults_in_words(self.outcome(("power::keep", "return"), ("power::tear", "return"), pending=[])),
-            "pending change (a) is torn")
+        told = self.outcome(("1 create a", "go"), ("2 length of a 7", "return"), ("3 block 0 of a as after write 1", "return"),
+            scenario="power::keep=1*off->return")
+        self.assertEqual(faults_in_words(told), "pending change 2 (length of a 7) and each later one is kept")
 
     def test_what_a_cut_takes_for_nothing(self):
-        told = self.outcome(("power::keep", "panic"), ("power::keep", "return"), ("power::tear", "panic"))
-        self.assertEqual(faults_in_words(told), "pending change 2 (write a) is kept")
-        self.assertEqual(hit_line(told.trace[3]), "    4 power::tear 1 (a) - [panic]")
+        told = self.outcome(("1 create a", "panic"), ("2 length of a 7", "return"))
+        self.assertEqual(faults_in_words(told), "pending change 2 (length of a 7) is kept")
+        self.assertEqual(hit_line(told.trace[1]), "    2 power::keep 1 (1 create a) - [panic]")
 
 
 class Made(Campaigns):

@@ -115,10 +115,10 @@ class Refused(Campaigns):
         (folder / "settings.toml").write_text(SETTINGS.format('"sys::open", "libc::write"'))
         self.refused(": libc::write: there is no such point; ", folder)
 
-    def test_a_torn_write_where_none_is_kept(self):
+    def test_a_point_of_before(self):
         folder = self.harness(run=SAVES, judge=JUDGES)
-        (folder / "settings.toml").write_text(SETTINGS.format('"sys::open", "power::tear"'))
-        self.refused(": power::tear: no program hits it unless power::keep is among the points too; ", folder)
+        (folder / "settings.toml").write_text(SETTINGS.format('"sys::open", "power::keep", "power::tear"'))
+        self.refused(": power::tear: there is no such point; remove it from the points", folder)
 
     def test_a_code_that_settings_lack(self):
         folder = self.harness(run=SAVES, judge="#!/bin/sh\necho torn\nexit 1\n")
@@ -135,6 +135,9 @@ class Unresolved(Campaigns):
 
     def test_a_judge_that_ends_otherwise(self):
         self.assertIn("unresolved: judge ended with 3: why not: none", self.first_line(run=SAVES, judge="#!/bin/sh\necho why not >&2\nexit 3\n"))
+
+    def test_a_judge_that_says_nothing(self):
+        self.assertIn("unresolved: judge ended with 9: it wrote nothing to standard error: none", self.first_line(run=SAVES, judge="#!/bin/sh\nexit 9\n"))
 
     def test_a_run_that_takes_too_long(self):
         self.assertEqual("unresolved: it was ended after 1 seconds (--seconds): none", self.first_line(run="#!/bin/sh\n: > here; sleep 30\n", judge=JUDGES))
@@ -266,7 +269,7 @@ class Shown(Campaigns):
         """U+009B begins a command of a terminal by itself, and some terminals also take the byte alone for it. No other letter is changed."""
         run = "#!/bin/sh\nname=$(printf 'a\\302\\233b\\233c\\303\\251')\nprintf x > \"$name\"; echo done\n"
         done = self.loop("-j", 1, self.harness(run=run, judge="#!/bin/sh\n[ -s a* ] || { echo lost; exit 1; }\n"))
-        self.assertIn("\npending: 1 create a\\x9bb\\x9bc\u00e9 -\n", done.told)
+        self.assertIn("\npending: 1 create a\\x9bb\\x9bc\u00e9\n", done.told)
 
     def test_letters_of_any_kind(self):
         judge = "#!/bin/sh\n[ ! -s \"$SAID\" ] || exit 0\necho 'lost \U0001f600 \"\\'\nexit 1\n"
@@ -284,8 +287,8 @@ class Shown(Campaigns):
     def test_what_a_person_reads(self):
         done = self.loop("-j", 2, "--into", self.here, NOTE, FLAW="unchecked_sync")
         lines = done.told.splitlines()
-        self.assertEqual(lines[:2], [f"loop: wrote the settings {self.here}/settings.toml: depth 1, all points of files, what a power cut keeps and tears, full disks and \
-half writes; codes are added as the judge prints them", "loop: 14 plans with one fault"], "six hits in two ways, and the write in four")
+        self.assertEqual(lines[:2], [f"loop: wrote the settings {self.here}/settings.toml: depth 1, all points of files, what a power cut keeps, full disks and half \
+writes; codes are added as the judge prints them", "loop: 14 plans with one fault"], "six hits in two ways, and the write in four")
         self.assertEqual((self.here / "report").read_text().splitlines()[0], "target note, settings by paklour-loop")
         self.assertIn("fail lost: the 1st sys::fsync (new) fails", lines)
         self.assertIn("1 failure: lost: sys::fsync (new) fails", lines)
@@ -370,7 +373,7 @@ half writes; codes are added as the judge prints them", "loop: 14 plans with one
         before = (self.here / "settings.toml").read_text()
         done = self.loop(*words, "--try", "sys::fsync=1*return", FLAW="rename_first")
         self.assertNotIn("loop: ", done.told)
-        self.assertIn("power::keep 3", done.out)
+        self.assertIn("power::keep 1 (2 rename new -> note, and all before it)", done.out)
         self.assertEqual((self.here / "settings.toml").read_text(), before)
         with open(self.here / "answers", "rb") as answers:
             report = subprocess.run(["paklour", "report", self.here / "settings.toml"], env=self.environment, stdin=answers, capture_output=True, check=False)
@@ -387,25 +390,29 @@ half writes; codes are added as the judge prints them", "loop: 14 plans with one
         self.assertEqual(done.status, 1)
         self.assertEqual([line.split(maxsplit=1)[1] if line[:5].strip().isdigit() else line.strip() for line in done.out.splitlines()], [
             "sys::open 1 (.) 3", "sys::open 2 (new) 4", "sys::write 1 (new) 5", "sys::fsync 1 (new) fails [return]", "sys::rename 1 (note) 0",
-            "sys::fsync 2 (.) 0", "said: saved young", "power::keep 1 (new) -", "pending: 1 write new 5 at 0", "fail lost: the 1st sys::fsync (new) fails"])
+            "sys::fsync 2 (.) 0", "said: saved young", "power::keep 1 (1 length of note 5) -", "pending: 1 length of note 5",
+            "pending: 2 block 0 of note as after write 1", "fail lost: the 1st sys::fsync (new) fails"])
         self.assertFalse((self.here / "report").exists())
 
     def test_what_is_said_after_the_cut(self):
         """The power goes at the sync of the folder, so the name of the log is lost. The recovery makes it anew, and adds a record."""
-        done = self.loop("--into", self.here, LOG, "--try", "sys::fsync=1*off->1*panic")
+        done = self.loop("--into", self.here, LOG, "--try", "sys::fsync=1*off->1*panic", FAULTS_SYNC="posix")
         lines = [line.strip() for line in done.out.splitlines()]
         self.assertEqual([line for line in lines if not line[0].isdigit()],
-            ["pending: 1 create log -", "again begins", "said: added fourth-record", "pass: the 2nd sys::fsync (.) ends the run"])
+            ["pending: 1 create log", "again begins", "said: added fourth-record", "pass: the 2nd sys::fsync (.) ends the run"])
         begins = lines.index("again begins")
         self.assertEqual((lines[begins - 3], lines[begins + 1]), ("7 sys::fsync 2 (.) ends the run [panic]", "9 sys::open 4 (snap) ENOENT"))
         self.assertEqual(lines[lines.index("said: added fourth-record") - 1].split()[1:], ["sys::fsync", "5", "(log)", "0"])
 
     def test_a_torn_write_hit_by_hit(self):
-        done = self.loop("--into", self.here, LOG, "--try", "power::keep=1*return;power::tear=1*return", FLAW="torn_taken")
+        """A record of 22 bytes at 23 is in two blocks of 32 bytes, and the first of these is there."""
+        done = self.loop("--into", self.here, LOG, "--try", "power::keep=1*off->2*return", FLAW="torn_taken", FAULTS_BLOCK="32")
         self.assertEqual(done.status, 1)
         lines = [" ".join(line.split()[1:]) for line in done.out.splitlines() if " power::" in line]
-        self.assertEqual(lines, ["power::keep 1 (log) is kept [return]", "power::tear 1 (log) is torn [return]"])
-        self.assertEqual(done.out.splitlines()[-1], "fail lost: pending change 1 (write log 22 at 23) is torn")
+        self.assertEqual(lines, ["power::keep 1 (2 length of log 45) -", "power::keep 2 (1 length of log 32) is kept [return]",
+            "power::keep 3 (3 block 0 of log as after write 4) is kept [return]"])
+        self.assertEqual(done.out.splitlines()[-1],
+            "fail lost: pending change 1 (length of log 32) is kept, pending change 3 (block 0 of log as after write 4) is kept")
 
     def test_it_stops_at_the_second(self):
         done = self.loop("-j", 1, "--failures", 2, "--depth", 2, "--into", self.here, NOTE, FLAW="rename_first")
@@ -425,16 +432,17 @@ half writes; codes are added as the judge prints them", "loop: 14 plans with one
         self.assertRegex(done.told, r"loop: 1 answered, 14 still to answer, 0 failing, time left (unknown|0:00:\d\d)\n")
 
     def test_which_file_system_a_run_without_faults_trusts(self):
-        """A new file is synced, and its folder isn't; or a name comes after each sync."""
-        folder = self.harness(run="#!/bin/sh\nprintf new > note && sync note && echo saved\n", judge=JUDGES)
-        told = self.loop("--into", self.here, folder).told
-        self.assertIn("loop: the run without faults passes if you set FAULTS_SYNC=names: a file's own sync makes its name last too, and no other, as on Btrfs\n"
-            "loop: the run without faults passes if you set FAULTS_SYNC=journal: any sync makes earlier changes of names last, as an fsync of a file that was "
-            "changed does on ext4 and XFS, but not on Btrfs\n", told)
+        """A file is renamed, and then only its data are synced; or a name comes after each sync."""
+        run = "#!/bin/sh\nprintf new > other && sync other && mv other note && sync -d note && echo saved\n"
+        told = self.loop("--into", self.here, self.harness(run=run, judge=JUDGES)).told
+        self.assertIn("loop: the run without faults passes if you set FAULTS_SYNC=xfs: as on ext4, and fdatasync also makes a rename last, which ext4 doesn't\n"
+            "loop: the run without faults passes if you set FAULTS_SYNC=btrfs: fdatasync makes a rename last, ", told)
+        self.assertNotIn("FAULTS_SYNC=ext4", told)
         told = self.loop("--into", self.here / "other", NOTE, FLAW="no_folder_sync").told
-        self.assertIn("loop: the run without faults fails with FAULTS_SYNC=names and FAULTS_SYNC=journal too: ", told)
+        self.assertIn("loop: the run without faults fails with FAULTS_SYNC=ext4 and FAULTS_SYNC=xfs and FAULTS_SYNC=btrfs too: ", told)
         told = self.loop("--into", self.here / "named", NOTE, FLAW="no_folder_sync", FAULTS_SYNC="names").told
-        self.assertNotIn("FAULTS_SYNC", told)
+        self.assertNotRegex(told, "(set|with) FAULTS_SYNC")
+        self.assertIn("\nagain: FAULTS_SYNC=names ", told, "without it the run would be another one")
 
     def test_a_run_without_faults_that_is_mended(self):
         """It had failed, which ended the campaign, and nothing else was answered."""
@@ -442,7 +450,7 @@ half writes; codes are added as the judge prints them", "loop: 14 plans with one
         for _ in range(2):
             done = self.loop("-j", 2, "--no-kinds", folder)
             self.assertEqual((done.status, self.answers(folder)), (1, []), done.told)
-            self.assertIn("\npending: 1 create note -\n", done.told)
+            self.assertIn("\npending: 1 create note\n", done.told)
         (folder / "run").write_text(SAVES)
         done = self.loop("-j", 2, "--no-kinds", folder)
         self.assertEqual(done.status, 0, done.told)

@@ -60,9 +60,9 @@ class Fails(Campaigns):
 
 
 class GoesOn(Campaigns):
-    """A program that never syncs its folder, and renames before the sync; and one that writes in place."""
+    """A program that renames, and then syncs the data alone, which doesn't keep the new name on ext4; and one that writes in place."""
 
-    RUN = "#!/bin/sh\nprintf new > new && mv new note && sync note && echo saved\n"
+    RUN = "#!/bin/sh\nprintf new > new && mv new note && sync -d note && echo saved\n"
     IN_PLACE = "#!/bin/sh\nprintf new > note && echo saved\n"
     JUDGE = '#!/bin/sh\n[ -e note ] || [ ! -s "$SAID" ] || { echo lost; exit 1; }\n[ ! -e note ] || [ "$(cat note)" = new ] || { echo torn; exit 1; }\n'
 

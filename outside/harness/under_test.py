@@ -1,0 +1,71 @@
+"""The program that a harness tests, as a reader of a report is told of it."""
+
+import os
+import shlex
+import sys
+import time
+from dataclasses import dataclass
+from pathlib import Path
+
+from .definition import Harness
+from .identity import digest_of
+from .story import text_of
+
+MOST_LINES = 12  # of a `run` that is a script
+TOLD_OF_DIGEST = 12  # so many digits tell two versions of a program apart
+
+
+@dataclass
+class File:
+    name: str
+    digest: str
+    changed: str  # the date of its last change
+
+
+@dataclass
+class Program:
+    name: str
+    run: list[str]  # how the harness runs it, as lines
+    version: str  # as the harness says it
+    files: list[File]
+
+
+def date_of(seconds: float) -> str:
+    return time.strftime("%Y-%m-%d", time.gmtime(seconds))
+
+
+def today() -> str:
+    """The date, or that of SOURCE_DATE_EPOCH, by which others make the same files again."""
+    return date_of(float(os.environ.get("SOURCE_DATE_EPOCH") or time.time()))
+
+
+def command_lines(script: Path) -> list[str]:
+    """The lines of a script that run something. A program of another form has none."""
+    try:
+        lines = script.read_text("utf-8").splitlines()
+    except UnicodeDecodeError:
+        return []
+    return [text_of(line) for line in lines if line.strip() and not line.lstrip().startswith("#")][:MOST_LINES]
+
+
+def run_lines(harness: Harness) -> list[str]:
+    if "run" in harness.functions:
+        return [f"the function run of {text_of(harness.file.name)}"]
+    command = harness.commands.get("run")
+    if command is None:
+        return command_lines(harness.folder / "run")
+    return [text_of(line) for line in (command if isinstance(command, str) else shlex.join(map(str, command))).splitlines()]
+
+
+def files_of(harness: Harness) -> list[Path]:
+    """The files of the program that are known: those to which links in the harness's folder lead, and the one that its file of Python names."""
+    linked = [path for path in sorted(harness.folder.iterdir()) if path.is_symlink() and path.is_file()] if harness.is_folder else []
+    named = Path(harness.steps["run"][0])
+    is_named = "run" in harness.commands and "run" not in harness.functions and named.is_absolute() and named.is_file() and str(named) != sys.executable
+    return linked + [named] * is_named
+
+
+def program_of(harness: Harness) -> Program:
+    files = [File(text_of(path.name), digest_of(path)[:TOLD_OF_DIGEST], date_of(path.stat().st_mtime)) for path in files_of(harness)]
+    name = ", ".join(file.name for file in files) or text_of(harness.name)
+    return Program(name, run_lines(harness), text_of(harness.version), files)
