@@ -33,21 +33,21 @@ const VERDICTS = ["pass", "fail", "unresolved"];
 /** @param {string} what @param {(value: any) => boolean} holds @returns {Check} */
 const is = (what, holds) => (value, path) => (holds(value) ? [] : [`${path} isn't ${what}`]);
 const isCount = (value) => Number.isInteger(value) && value >= 0;
-const count = is("a whole number from 0", isCount);
-const text = is("a text", (value) => typeof value === "string");
+export const count = is("a whole number from 0", isCount);
+export const text = is("a text", (value) => typeof value === "string");
 const digits = is("a text of digits", (value) => typeof value === "string" && /^(0|[1-9][0-9]*)$/.test(value));
 const verdict = is("a verdict", (value) => VERDICTS.includes(value));
-const orNull = (check) => (value, path) => (value === null ? [] : check(value, path));
+export const orNull = (check) => (value, path) => (value === null ? [] : check(value, path));
 
 /** Its items are checked once more where one is wrong: most lists are right, and may be long. @param {Check} check @returns {Check} */
-const list = (check) => (value, path) => {
+export const list = (check) => (value, path) => {
   if (!Array.isArray(value)) return [`${path} isn't a list`];
   if (value.every((item) => check(item, path).length === 0)) return [];
   return value.flatMap((item, index) => check(item, `${path}[${index}]`));
 };
 
 /** @param {Record<string, Check>} needed @param {Record<string, Check>} [optional] @returns {Check} */
-const members = (needed, optional = {}) => (value, path) => {
+export const members = (needed, optional = {}) => (value, path) => {
   if (value === null || typeof value !== "object" || Array.isArray(value)) return [`${path} isn't an object`];
   const lacking = Object.keys(needed).filter((name) => !Object.hasOwn(value, name)).map((name) => `${path}.${name} lacks`);
   const wrong = Object.entries({ ...needed, ...optional })
@@ -100,20 +100,27 @@ function contradictions(told) {
 }
 
 /**
- * The document, checked. A version that this page doesn't know is refused, members that it doesn't know are passed over.
- * @param {string} json
+ * What a JSON text has, checked. A version that this page doesn't know is refused, members that it doesn't know are passed over.
+ * @param {string} json @param {number} version @param {Check} check @param {string} name
  */
-export function readDocument(json) {
+export function readChecked(json, version, check, name) {
   let told;
   try {
     told = JSON.parse(json);
   } catch (error) {
     throw new ReadError([`this is no JSON: ${error.message}`]);
   }
-  if (told === null || typeof told !== "object" || Array.isArray(told)) throw new ReadError(["the document isn't an object"]);
-  if (told.version !== VERSION) throw new ReadError([`the document has version ${JSON.stringify(told.version)}, and this page shows version ${VERSION}`]);
-  const problems = report(told, "document");
-  const found = problems.length > 0 ? problems : contradictions(told);
+  if (told === null || typeof told !== "object" || Array.isArray(told)) throw new ReadError([`the ${name} isn't an object`]);
+  if (told.version !== version) throw new ReadError([`the ${name} has version ${JSON.stringify(told.version)}, and this page shows version ${version}`]);
+  const problems = check(told, name);
+  if (problems.length > 0) throw new ReadError(problems);
+  return told;
+}
+
+/** The document, checked. @param {string} json */
+export function readDocument(json) {
+  const told = readChecked(json, VERSION, report, "document");
+  const found = contradictions(told);
   if (found.length > 0) throw new ReadError(found);
   return told;
 }

@@ -5,9 +5,11 @@ import { drawSome, element, markIcon, preformatted, section } from "./dom.js";
 import { MapView } from "./mapview.js";
 import { markOf } from "./marks.js";
 import { filesOfFaults, foldLines, isFault, linesOf } from "./run.js";
-import { KEEP, TEAR, clausesOf } from "./scenario.js";
+import { KEEP, clausesOf } from "./scenario.js";
+import { drawAgainCommand, drawStory } from "./story.js";
+import { readAppendix, wordsOfStory } from "./told.js";
 import { failuresByCode, headline, limits, partWords, rowWords, tried, wholeness } from "./verdict.js";
-import { answerWords, counted, grouped, listed, ordinal, sentence, shown } from "./words.js";
+import { UNDONE, answerWords, counted, fileWords, grouped, listed, ordinal, sentence, shown } from "./words.js";
 
 /** @typedef {import("./document.js").Plan} Plan */
 
@@ -37,22 +39,54 @@ function scenarioCode(text) {
 
 // ---- the verdict
 
+/** What the page is about. @param {any} campaign */
+function titleOf({ told, appendix }) {
+  return appendix?.told.title ?? told.label;
+}
+
+/** @param {any} campaign @returns {HTMLElement[]} */
+function drawProgram({ told, appendix }) {
+  if (!appendix) return [];
+  const { title, program: { name, run, version } } = appendix.told;
+  const command = run.length > 0 ? ["Run as ", element("code", {}, run[0]), run.length > 1 ? " \u2026 " : ". "] : [];
+  return [element("p", { class: "muted" }, version === "" ? null : `Version: ${version}. `, ...command,
+    title === told.label ? `Harness: ${name}.` : `Campaign: ${told.label}.`)];
+}
+
+/** The story of a scenario, or null. @param {any} campaign @param {string} scenario */
+function storyOf({ appendix }, scenario) {
+  return appendix?.storyOf(scenario) ?? null;
+}
+
+/**
+ * What a plan or a scenario does: as the loop says it, or else by the names of the points.
+ * @param {any} campaign
+ * @param {number} number
+ * @param {string} scenario
+ */
+function wordsOf(campaign, number, scenario) {
+  const story = storyOf(campaign, scenario);
+  return sentence(story ? wordsOfStory(story) : wordsOfNumbered(campaign, number, scenario));
+}
+
 /** @param {any} campaign */
 function drawHeader(campaign) {
-  const { told } = campaign;
+  const { told, appendix, problems } = campaign;
   const { sentences, whole } = wholeness(campaign);
   const { fail, unresolved } = told.counts;
   const ways = failuresByCode(campaign).map(([code, count]) =>
     element("li", {}, markIcon(markOf({ verdict: "fail", code }, campaign.codes)), `${code}: ${counted(count, "plan")}`));
   return element("header", {},
-    element("p", { class: "kind" }, "Paklour report"),
-    element("h1", {}, told.label),
+    element("p", { class: "kind" }, appendix ? `Paklour report, ${appendix.told.date}` : "Paklour report"),
+    element("h1", {}, titleOf(campaign)),
+    ...drawProgram(campaign),
     element("div", { class: `outcome ${fail > 0 ? "fails" : unresolved > 0 ? "ended" : "passes"}` },
       element("p", { class: "headline" }, headline(campaign)),
       ways.length > 0 ? element("ul", { class: "ways" }, ...ways) : null),
     element("p", {}, ["A plan is one run of the program, with its faults.", ...tried(campaign)].join(" ")),
     element("p", { class: whole ? "whole" : "open" }, sentences.join(" ")),
-    element("p", { class: "muted" }, limits(campaign).join(" ")));
+    element("p", { class: "muted" }, limits(campaign).join(" ")),
+    problems.length > 0 ? element("p", {}, `What the loop adds to this page can\u2019t be read: ${problems.slice(0, 3).join("; ")}.`) : null);
 }
 
 /** Links to the sections that there are. @param {HTMLElement[]} sections */
@@ -66,8 +100,9 @@ function drawContents(sections) {
 /** @param {(point: string) => string} call @param {import("./run.js").Hit|null} hit */
 function drawHit(call, hit) {
   if (hit === null) return element("div", { class: "hit muted" }, "\u2013");
-  const answer = answerWords(hit.point, hit.answer);
-  const name = element("span", {}, `${ordinal(hit.ordinal)} ${call(hit.point)}`);
+  const answer = answerWords(hit.point, hit.kept ? "return" : hit.kept === false ? null : hit.answer, hit.about ?? "");
+  const about = hit.about === undefined ? "" : ` (${fileWords(hit.point === KEEP ? hit.about.replace(UNDONE, "") : hit.about)})`;
+  const name = element("span", {}, `${ordinal(hit.ordinal)} ${call(hit.point)}${about}`);
   return element("div", { class: hit.near ? "hit near" : "hit" }, name, ...(answer === null ? [] : [" ", element(isFault(hit.answer) ? "b" : "span", {}, answer)]));
 }
 
@@ -84,7 +119,7 @@ function drawLine(call, { here, there, same, fault }, beside) {
 
 /** @param {(point: string) => string} call @param {{lines: any[]}} piece @param {boolean} beside */
 function drawFold(call, { lines }, beside) {
-  const button = element("button", { type: "button", class: "more" }, `${lines.length} hits go on, the same${beside ? " in both" : ""}`);
+  const button = element("button", { type: "button", class: "more" }, `${lines.length} hits${beside ? " that are the same in both" : " without a fault"}`);
   const row = element("tr", { class: "fold" }, element("td", { class: "number" }, "\u22ee"), element("td", { colspan: beside ? "3" : null }, button));
   button.addEventListener("click", () => row.replaceWith(...lines.map((line) => drawLine(call, line, beside))));
   return row;
@@ -106,18 +141,18 @@ function besideWords({ scenario }) {
 
 /** @param {any} campaign @param {import("./run.js").Run} run @param {import("./run.js").Run|null} other */
 function drawHits(campaign, run, other) {
-  const { names, call } = campaign;
+  const { names, call, appendix } = campaign;
   const beside = other !== null;
-  const lines = linesOf(run, other, names);
+  const lines = linesOf(run, other, names, appendix ? (scenario) => appendix.hitsOf(scenario) : undefined);
   const pieces = foldLines(beside ? lines : lines.map((line) => ({ ...line, same: true })));
   const rows = pieces.map((piece) => (piece.fold ? drawFold(call, piece, beside) : drawLine(call, piece.line, beside)));
   const head = (words) => [element("th", { class: "number" }, "hit"), element("th", {}, words)];
   const heads = element("thead", {}, element("tr", {}, ...head("this run"), ...(other ? head(besideWords(other)) : [])));
   const files = [...filesOfFaults(lines)];
   const notes = [
-    files.length > 0 ? `In bold: hits of the same file as ${files.length === 1 ? "the fault\u2019s" : "a fault\u2019s"}, ${listed(files)}.` : null,
+    files.length > 0 ? `In bold: hits of the same file as ${files.length === 1 ? "the fault\u2019s" : "a fault\u2019s"}, ${listed(files.map(fileWords))}.` : null,
     lines.some(({ here, there }) => here?.point === KEEP || there?.point === KEEP)
-      ? "A pending change is one that no sync has made last. A power cut may keep any of them." : null,
+      ? "What is asked for at the power cut wasn\u2019t synced yet, so the disk may keep or lose it." : null,
     run.more > 0 ? `${counted(run.more, "further hit")} of this run ${run.more === 1 ? "isn\u2019t" : "aren\u2019t"} told.` : null,
     endWords(run),
   ];
@@ -152,13 +187,15 @@ function endWords({ end }) {
 
 /** @param {any} campaign @param {any} finding @param {number} index */
 function drawFinding(campaign, finding, index) {
+  const story = storyOf(campaign, finding.reduced);
   const planned = finding.reduced === finding.scenario ? null
     : element("p", { class: "muted" }, `Reduced, in ${counted(finding.tests, "test")}, from `, scenarioCode(finding.scenario));
   return element("article", { id: `first-${finding.number}`, class: "finding" },
     element("h3", {}, verdictMark(campaign, { verdict: "fail", code: finding.code }), ", ", planLink(finding.number)),
-    element("p", { class: "words" }, sentence(wordsOfNumbered(campaign, finding.number, finding.reduced))),
+    element("p", { class: "words" }, wordsOf(campaign, finding.number, finding.reduced)),
     element("p", {}, scenarioCode(finding.reduced)),
     planned,
+    story ? drawStory(story) : null,
     drawRun(campaign, { number: finding.number, scenario: finding.reduced }, index === 0));
 }
 
@@ -175,23 +212,24 @@ function drawFindings(campaign) {
 /** @param {any} campaign @param {any} cause */
 function drawCause(campaign, cause) {
   const mark = verdictMark(campaign, { verdict: "fail", code: cause.code });
+  const story = storyOf(campaign, cause.scenario);
   return element("li", { id: `cause-${cause.number}` },
-    element("p", {}, mark, ", ", planLink(cause.number), ": ", sentence(wordsOfNumbered(campaign, cause.number, cause.scenario))),
+    element("p", {}, mark, ", ", planLink(cause.number), ": ", wordsOf(campaign, cause.number, cause.scenario)),
     scenarioCode(cause.scenario),
+    story ? element("details", {}, element("summary", {}, "What was left"), drawStory(story)) : null,
     drawRun(campaign, cause, false));
 }
 
 /** @param {any} campaign @param {string[]} points */
 function groupWords({ call }, points) {
-  const calls = points.filter((point) => point !== KEEP && point !== TEAR).map(call);
-  const kept = points.includes(KEEP) || points.includes(TEAR) ? "what the power cut keeps" : null;
-  return listed([...calls, ...(kept ? [kept] : [])]) || "no fault";
+  const calls = points.filter((point) => point !== KEEP).map(call);
+  return listed([...calls, ...(points.includes(KEEP) ? ["what the power cut keeps"] : [])]) || "no fault";
 }
 
 /** @param {{depth: number, causes: any[]}} growth */
 function causesWords({ depth, causes }) {
-  const what = causes.length === 1 ? "One failing plan doesn\u2019t fail so without any one of its faults."
-    : `${grouped(causes.length)} failing plans don\u2019t fail so without any one of their faults.`;
+  const what = causes.length === 1 ? "One failing plan needs each of its faults: without any one of them it doesn\u2019t fail so."
+    : `${grouped(causes.length)} failing plans need each of their faults: without any one of them they don\u2019t fail so.`;
   return `${what} Each plan with at most ${counted(depth, "fault")} that fails has the faults of one of these.`;
 }
 
@@ -256,13 +294,14 @@ function mapWords({ told }) {
 function drawChosen(campaign, number) {
   const plan = campaign.plans[number];
   if (!plan) return [element("p", {}, `Plan ${number} isn\u2019t in this campaign.`)];
+  const story = storyOf(campaign, plan.text);
   return [
     element("h3", {}, `Plan ${number} `, verdictMark(campaign, plan)),
-    element("p", { class: "words" }, sentence(planWords(campaign, plan))),
+    element("p", { class: "words" }, wordsOf(campaign, number, plan.text)),
     element("p", {}, scenarioCode(plan.text)),
     plan.parent === null ? null : element("p", {}, "It grew from ", planLink(plan.parent), "."),
     drawDescendants(campaign, number),
-    element("p", {}, "Again, hit by hit: ", element("code", {}, explainCommand(campaign.told.about, plan))),
+    story ? drawStory(story) : drawAgainCommand(campaign.appendix?.again(plan.text) ?? explainCommand(campaign.told.about, plan)),
     drawRun(campaign, { number, scenario: plan.text }, true),
   ].filter((child) => child !== null);
 }
@@ -297,7 +336,7 @@ function drawPoints(campaign) {
     element("tr", {}, element("td", {}, element("code", {}, point)), cell(clean), grown ? cell(reached ?? 0) : null, cell(failures.get(point) ?? 0)));
   const heads = ["point", "hits without faults", ...(grown ? ["most hits of any run"] : []), "failing plans with a fault there"];
   return section("Points", "points",
-    element("p", { class: "muted" }, grown ? "Of a point that no run hits this campaign says nothing." : "A point without hits gets no fault here."),
+    element("p", { class: "muted" }, grown ? "A point that no run hits got no fault." : "A point that the run without faults doesn\u2019t hit got no fault."),
     element("div", { class: "scroll" }, element("table", { class: "points" },
       element("thead", {}, element("tr", {}, ...heads.map((head, index) => element("th", { class: index > 0 ? "number" : null }, head)))),
       element("tbody", {}, ...rows))));
@@ -360,11 +399,20 @@ function drawPlans(campaign) {
 
 // ---- again
 
+/** The program that was tested, and the command of the campaign. @param {any} appendix @returns {[string, string][]} */
+function itemsOfLoop(appendix) {
+  if (!appendix) return [];
+  const { program, date, command } = appendix.told;
+  const files = program.files.map(({ name, digest, changed }) => ["program\u2019s file", `${name}, SHA-256 ${digest}\u2026, changed ${changed}`]);
+  const version = program.version === "" ? [] : [["program\u2019s version", program.version]];
+  return [["program, run as", program.run.join("\n")], ...version, ...files, ["date", date], ["campaign by", command]];
+}
+
 /** @param {any} campaign */
-function drawAgain({ told: { seed, about } }) {
-  const items = [["seed", seed], ["program", `paklour ${about.program_version}`], ["command", about.command]];
-  const rows = items.map(([name, value]) =>
-    element("tr", {}, element("th", { scope: "row" }, name), element("td", {}, element("code", {}, value))));
+function drawAgain({ told: { seed, about }, appendix }) {
+  const items = [...itemsOfLoop(appendix), ["seed", seed], ["report by", `paklour ${about.program_version}`], ["command", about.command]];
+  const lines = (value) => value.split("\n").map((line) => element("div", {}, element("code", {}, line)));
+  const rows = items.map(([name, value]) => element("tr", {}, element("th", { scope: "row" }, name), element("td", {}, ...lines(value))));
   return section("Make it again", "again",
     element("table", {}, element("tbody", {}, ...rows)),
     element("p", { class: "muted" }, "Settings, as they stand in FILE:"),
@@ -421,13 +469,24 @@ function drawError(error) {
     element("p", {}, "Its text stands below."));
 }
 
+/** What the loop has added, or null. If it can't be read, the report is shown without it. */
+function appendixInPage() {
+  const added = document.getElementById("told-by-the-loop");
+  try {
+    return { appendix: added && readAppendix(added.textContent), problems: [] };
+  } catch (error) {
+    if (!(error instanceof ReadError)) throw error;
+    return { appendix: null, problems: error.problems };
+  }
+}
+
 /** Shows the report that stands in this page. The text that is there without a script is folded then. */
 export function start() {
   try {
-    const campaign = campaignOf(readDocument(document.getElementById("document").textContent));
+    const campaign = { ...campaignOf(readDocument(document.getElementById("document").textContent)), ...appendixInPage() };
     drawPage(campaign);
     requestIdleCallback(() => loweredTexts(campaign));
-    document.title = shown(`${campaign.told.label} \u2013 Paklour`);
+    document.title = shown([titleOf(campaign), ...(campaign.appendix ? [campaign.appendix.told.date] : []), "Paklour"].join(" \u2013 "));
     document.getElementById("brief").open = false;
   } catch (error) {
     drawError(error);

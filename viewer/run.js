@@ -1,9 +1,14 @@
 // A run hit by hit, beside another one.
-import { clausesOf, spell } from "./scenario.js";
+import { KEEP, clausesOf, spell } from "./scenario.js";
+import { UNDONE } from "./words.js";
 
 /** @typedef {{point: number, answer: string|null}} Step */
 /** @typedef {{scenario: string, verdict: string, steps: Step[], more: number, end: string|null}} Run */
-/** @typedef {{number: number, point: string, ordinal: number, answer: string|null, near?: boolean}} Hit */
+/** @typedef {{number: number, point: string, ordinal: number, answer: string|null, about?: string, kept?: boolean, near?: boolean}} Hit */
+/**
+ * What is known of a run's hits besides: what each is about, and the state of the last power cut, if the disk doesn't keep what the scenario says.
+ * @typedef {{about: string[], state: string}} Known
+ */
 /** A run as a document tells it. @typedef {{explained: string, left_out?: number, parent?: {explained: string, left_out?: number}}} Told */
 /**
  * A line of two runs side by side. `same` is where both hit the same point and are answered the same. Near is a hit of a file at whose hits a fault acts.
@@ -13,6 +18,14 @@ import { clausesOf, spell } from "./scenario.js";
 
 /** A stretch of so many lines that are the same is folded. */
 const FOLDED = 6;
+const UNKNOWN = { about: [], state: "" };
+const OF_BYTES = /^(?:length of|block) /;
+/** Whether a state has what a power cut asks for, by its words. Each has what a sync made last. */
+const HAS = new Map([
+  ["names", (about) => !OF_BYTES.test(about) && !UNDONE.test(about)],
+  ["contents", (about) => OF_BYTES.test(about)],
+  ["live", (about) => !UNDONE.test(about)],
+]);
 const KEPT_BEFORE = 2;
 
 /** Where the lines of `explain` are cut: names and tasks may have line feeds. Behind the last hit stands what stopped the run, and which faults were idle. */
@@ -133,16 +146,22 @@ export class Runs {
 }
 
 /**
+ * The hits of a run. Those of the last power cut are the last ones, as far as all hits are told.
  * @param {Run} run
  * @param {string[]} names
+ * @param {Known} [known]
  * @returns {Hit[]}
  */
-export function hitsOf(run, names) {
+export function hitsOf(run, names, known = UNKNOWN) {
   const ordinals = new Map();
+  const cut = run.more > 0 ? Infinity : run.steps.findLastIndex(({ point }) => names[point] !== KEEP) + 1;
   return run.steps.map(({ point, answer }, index) => {
     const ordinal = (ordinals.get(point) ?? 0) + 1;
     ordinals.set(point, ordinal);
-    return { number: index + 1, point: names[point], ordinal, answer };
+    const name = names[point];
+    const about = name.includes("@") ? undefined : known.about[index];
+    const kept = index >= cut && about !== undefined ? HAS.get(known.state)?.(about) : undefined;
+    return { number: index + 1, point: name, ordinal, answer, ...(about !== undefined && { about }), ...(kept !== undefined && { kept }) };
   });
 }
 
@@ -201,14 +220,15 @@ function pairsOf(here, there) {
  * @param {Run} run
  * @param {Run|null} beside
  * @param {string[]} names
+ * @param {(scenario: string) => Known} [known]
  * @returns {Line[]}
  */
-export function linesOf(run, beside, names) {
-  const here = hitsOf(run, names);
-  const there = beside ? hitsOf(beside, names) : [];
+export function linesOf(run, beside, names, known = () => UNKNOWN) {
+  const here = hitsOf(run, names, known(run.scenario));
+  const there = beside ? hitsOf(beside, names, known(beside.scenario)) : [];
   const lines = [];
   const add = (one, other) => {
-    const same = one !== null && other !== null && one.point === other.point && one.answer === other.answer;
+    const same = one !== null && other !== null && one.point === other.point && one.answer === other.answer && one.kept === other.kept;
     lines.push({ here: one, there: other, same, fault: isFault(one?.answer ?? null) });
   };
   let [nextHere, nextThere] = [0, 0];
@@ -219,19 +239,19 @@ export function linesOf(run, beside, names) {
     [nextHere, nextThere] = [one + 1, other + 1];
   }
   const files = filesOfFaults(lines);
-  for (const hit of [...here, ...there]) hit.near = files.has(fileOf(hit.point));
+  for (const hit of [...here, ...there]) hit.near = files.has(fileOf(hit));
   return lines;
 }
 
-/** The file that a point names; null where it names none. @param {string} point */
-function fileOf(point) {
+/** The file of a hit; null where nobody tells it. @param {Hit} hit */
+function fileOf({ point, about }) {
   const at = point.indexOf("@");
-  return at < 0 ? null : point.slice(at + 1);
+  return at >= 0 ? point.slice(at + 1) : point === KEEP ? null : about ?? null;
 }
 
-/** The files at whose hits a fault acts, of a run whose points name files. @param {Line[]} lines @returns {Set<string>} */
+/** The files at whose hits a fault acts, where they are told. @param {Line[]} lines @returns {Set<string>} */
 export function filesOfFaults(lines) {
-  const files = lines.filter(({ fault }) => fault).map(({ here }) => fileOf(here.point));
+  const files = lines.filter(({ fault }) => fault).map(({ here }) => fileOf(here));
   return new Set(files.filter((file) => file !== null));
 }
 

@@ -8,10 +8,8 @@
  * @typedef {{point: string, term: Term, first: number, last: number}} Clause
  */
 
-/** The point at which a power cut asks for each pending change whether it is kept. */
+/** The point at which a power cut asks for a change that is pending whether it is kept. */
 export const KEEP = "power::keep";
-/** The point at which it asks whether of a write that is kept the first half alone is there. */
-export const TEAR = "power::tear";
 /** The point of the order of threads: a return lets the next one go first. */
 export const NEXT = "order::next";
 

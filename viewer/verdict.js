@@ -1,5 +1,5 @@
 // What was tried, exactly, and what came of it, in sentences.
-import { KEEP, TEAR } from "./scenario.js";
+import { KEEP } from "./scenario.js";
 import { counted, grouped, listed, ordinal, wordsOfKind } from "./words.js";
 
 /** How many plans fail with each code, in the order of the codes. @param {any} campaign @returns {[string, number][]} */
@@ -13,9 +13,8 @@ export function headline(campaign) {
   const plans = counted(counts.plans, "plan");
   const ended = counts.unresolved === 0 ? "" : `; ${counted(counts.unresolved, "run was", "runs were")} ended without a verdict`;
   if (counts.fail === 0) return `None of ${plans} fails${ended}.`;
-  const ways = campaign.codes.length === 1 ? "in one way" : `in ${campaign.codes.length} ways`;
   const already = clean.verdict === "fail" ? "The run without faults fails already: " : "";
-  return `${already}${grouped(counts.fail)} of ${plans} ${counts.fail === 1 ? "fails" : "fail"}, ${ways}${ended}.`;
+  return `${already}${grouped(counts.fail)} of ${plans} ${counts.fail === 1 ? "fails" : "fail"}${ended}.`;
 }
 
 /**
@@ -33,7 +32,7 @@ function kindsByPoint({ plans, names }) {
 function pointsByKinds(kinds, { call }) {
   const groups = new Map();
   for (const [point, tried] of kinds) {
-    if (point === KEEP || point === TEAR) continue;
+    if (point === KEEP) continue;
     const words = listed(tried.map((kind) => wordsOfKind(point, kind)), "or");
     groups.set(words, [...(groups.get(words) ?? []), call(point)]);
   }
@@ -46,9 +45,7 @@ function faultsWords(campaign) {
   const groups = pointsByKinds(kinds, campaign);
   const parts = groups.map(([words, points], index) =>
     `${words} at ${index < groups.length - 1 ? listed(points) : groups.length > 1 ? "each other point that is hit" : "any point that is hit"}`);
-  const isTried = (point) => (kinds.get(point) ?? []).some((kind) => kind.startsWith("return"));
-  if (isTried(KEEP)) parts.push("a pending change that the power cut keeps");
-  if (isTried(TEAR)) parts.push("a write of which it keeps the first half alone");
+  if ((kinds.get(KEEP) ?? []).some((kind) => kind.startsWith("return"))) parts.push("a pending change that the power cut keeps");
   return parts.length > 2 ? `${parts.slice(0, -1).join("; ")}; or ${parts[parts.length - 1]}` : parts.join(", or ");
 }
 
@@ -58,7 +55,7 @@ function triedToDepth(campaign) {
   if (about.grown.length <= 1) return ["Tried was the run without faults, and no fault."];
   const faults = depth === 1 ? "at most one fault acts" : `at most ${depth} faults act`;
   const sentences = [`Tried was each behaviour in which ${faults}. A fault is ${faultsWords(campaign)}.`];
-  if (onward > 0) sentences.push(`In ${counted(onward, "plan")} more the ${depth === 1 ? "fault" : `last of ${depth} faults`} goes on from then on.`);
+  if (onward > 0) sentences.push(`In ${counted(onward, "plan")} more the ${depth === 1 ? "fault" : `last of ${depth} faults`} acts at each later hit of its point too.`);
   return sentences;
 }
 
@@ -81,16 +78,14 @@ export function tried(campaign) {
   return sentences;
 }
 
-const BEYOND = "plan with one fault more isn\u2019t";
-const BEYOND_MANY = "plans with one fault more aren\u2019t";
 
 /** Whether it is whole, and what of it isn't. @param {any} campaign @returns {{whole: boolean, sentences: string[]}} */
 export function wholeness({ told }) {
   const { growth, counts, unmet = 0 } = told;
   const whole = growth !== null && growth.beyond === 0 && counts.unresolved === 0;
   const sentences = [];
-  if (growth === null) sentences.push("Not whole: without a depth, hits that only a fault leads to, as those of clean-up, get no fault of their own.");
-  else if (growth.beyond > 0) sentences.push(`Not whole: ${counted(growth.beyond, BEYOND, BEYOND_MANY)} tried.`);
+  if (growth === null) sentences.push("Without a depth, hits that only a fault leads to, as those of clean-up, got no fault of their own.");
+  else if (growth.beyond > 0) sentences.push(`${counted(growth.beyond, "plan with one fault more is", "plans with one fault more are")} left for the next depth.`);
   else if (whole) sentences.push("Whole: no run has a hit left for one fault more, so more such faults show nothing else.");
   if (counts.unresolved > 0) sentences.push(endedWords(counts.unresolved, growth !== null && growth.beyond === 0));
   if (growth?.unseen) sentences.push(`Nobody knows the hits of ${counted(growth.unseen, "ended run")}: nothing grew from there.`);
@@ -107,8 +102,8 @@ function endedWords(ended, wholeElse) {
 /** What holds only if something else does, and what is never in it. @param {any} campaign */
 export function limits({ told }) {
   const sentences = [];
-  if (told.about.told_by === "answers") sentences.push("This was told by answers: it holds of a program that does the same whenever it is answered the same.");
-  sentences.push("Never in it: threads, time, other kinds of faults, other workloads.");
+  if (told.about.told_by === "answers") sentences.push("This rests on recorded runs: it holds of a program that does the same whenever its calls come to the same.");
+  sentences.push("No campaign tries other orders of threads, other times, other kinds of faults or other work for the program.");
   return sentences;
 }
 

@@ -1,5 +1,5 @@
 // Scenarios, runs and what was tried, in words.
-import { KEEP, NEXT, TEAR, clausesOf, parseTerm } from "./scenario.js";
+import { KEEP, NEXT, clausesOf, parseTerm } from "./scenario.js";
 
 /** @typedef {import("./scenario.js").Clause} Clause */
 /** How a point is called. @typedef {(point: string) => string} Call */
@@ -42,18 +42,20 @@ export function sentence(text) {
   return `${text.charAt(0).toUpperCase()}${text.slice(1)}.`;
 }
 
+/** A file as it is told: the supervisor names files from the folder of the data on, which is `.` itself. @param {string} name */
+export function fileWords(name) {
+  return name === "." ? "the data folder" : name;
+}
+
 /** The points of calls of the system, as the supervisor of outside/ names them. */
 const IS_CALL = /^(?:sys|libc)::/;
 
-/** The points that a power cut asks. */
-const IN_CUT = new Set([KEEP, TEAR]);
-
 /** What is hit at points that aren't a program's calls. */
-const NAMED = new Map([[KEEP, "pending change"], [TEAR, "write that is kept"], [NEXT, "choice between threads"]]);
+const NAMED = new Map([[KEEP, "change asked for"], [NEXT, "choice between threads"]]);
 
 /**
  * How points are called: by what stands behind the last `::`, where no other point is called so; `sys::write@a.db` is `write of a.db`. Files are told from
- * the root folder on, which is `.` itself.
+ * the data folder on, which is `.` itself.
  * @param {string[]} points
  * @returns {(point: string) => string}
  */
@@ -64,7 +66,7 @@ export function callsOf(points) {
     if (NAMED.has(point)) return;
     const alone = short.filter((name) => name === short[index]).length === 1;
     const [name, ...file] = (alone ? short[index] : point).split("@");
-    const named = file.join("@") === "." && IS_CALL.test(point) ? "the root folder" : file.join("@");
+    const named = IS_CALL.test(point) ? fileWords(file.join("@")) : file.join("@");
     calls.set(point, file.length > 0 && name !== "" ? `${name} of ${named}` : name || point);
   });
   return (point) => calls.get(point) ?? point;
@@ -104,7 +106,6 @@ function actWords(clause, call) {
   const hit = hitWords(clause, call);
   const { point, term: { task, argument } } = clause;
   if (point === KEEP && (task === "return" || task === "panic")) return `${hit} is ${task === "return" ? "kept" : "lost all the same"}`;
-  if (point === TEAR && (task === "return" || task === "panic")) return task === "return" ? `of ${hit} the first half alone is there` : `${hit} is whole all the same`;
   if (point === NEXT && task === "return") return `at ${hit} the next one goes first`;
   switch (task) {
     case "return": return `${hit} ${failureWords(point, argument)}`;
@@ -116,55 +117,33 @@ function actWords(clause, call) {
   }
 }
 
+/** What a hit of the power cut asks for ends so where a sync made the change last: whether the disk undoes it. */
+export const UNDONE = /,? undone$/;
+
 /**
  * What an answer comes to at a hit of a run.
  * @param {string} point
  * @param {string|null} answer null where the hit goes on
+ * @param {string} about what the hit asks for, or its file; empty where nobody tells it
  * @returns {string|null}
  */
-export function answerWords(point, answer) {
+export function answerWords(point, answer, about) {
   const term = answer === null ? null : parseTerm(answer);
   const isReturn = term?.task === "return";
-  if (point === KEEP) return isReturn ? "is kept" : "isn\u2019t kept";
-  if (point === TEAR) return isReturn ? "its first half alone" : "whole";
+  if (point === KEEP) return `${isReturn ? "is" : "isn\u2019t"} ${UNDONE.test(about) ? "undone" : "kept"}`;
   if (term === null) return answer;
   if (isReturn) return point === NEXT ? "the next one goes first" : failureWords(point, term.argument);
   return term.task === "panic" ? "the program ends here" : answer;
 }
 
-/** Whether a power cut keeps something by this clause, or keeps half of it. @param {Clause} clause */
+/** Whether a power cut keeps something by this clause. @param {Clause} clause */
 function isOfCut(clause) {
-  return IN_CUT.has(clause.point) && clause.term.task === "return" && clause.term.percent === null;
+  return clause.point === KEEP && clause.term.task === "return" && clause.term.percent === null;
 }
 
-/** @param {Clause} clause */
-function keptWords({ first, last }) {
-  if (last === Infinity) return first === 1 ? "each pending change" : `each pending change from the ${ordinal(first)} on`;
-  return last > first ? `pending changes ${first} to ${last}` : `the ${ordinal(first)} pending change`;
-}
-
-/**
- * What a power cut keeps. It is asked for the half of a write right behind the hit that keeps it, so in the order of time a tear is of the change before
- * it. Of a scenario that has no order that is certain of the only one.
- * @param {Clause[]} clauses
- * @param {Call} call
- * @param {boolean} inOrder
- */
-function cutWords(clauses, call, inOrder) {
-  const isOne = ({ first, last }) => first === last;
-  const kept = [];
-  const torn = [];
-  clauses.forEach((clause, index) => {
-    const before = clauses[index - 1];
-    const isCertain = inOrder || (clauses.length === 2 && clause.first === 1);
-    if (clause.point === KEEP) kept.push(keptWords(clause));
-    else if (isCertain && before?.point === KEEP && isOne(before) && isOne(clause)) kept.push(`the first half of ${kept.pop()}`);
-    else torn.push(hitWords(clause, call));
-  });
-  return [
-    ...(kept.length > 0 ? [`the power cut keeps ${listed(kept)}`] : []),
-    ...torn.map((hit) => `of ${hit} the first half alone is there`),
-  ];
+/** What a power cut keeps. @param {Clause[]} clauses @param {Call} call */
+function cutWords(clauses, call) {
+  return `the power cut keeps ${listed(clauses.map((clause) => hitWords(clause, call)))}`;
 }
 
 /** @param {Clause} clause @param {Call} call */
@@ -194,7 +173,7 @@ export function wordsOfClauses(clauses, call, inOrder = false) {
       continue;
     }
     while (end < ordered.length && isOfCut(ordered[end])) end += 1;
-    parts.push(...cutWords(ordered.slice(begin, end), call, inOrder));
+    parts.push(cutWords(ordered.slice(begin, end), call));
   }
   return parts.join("; ");
 }
@@ -220,6 +199,7 @@ export function wordsOfKind(point, kind) {
   if (argument === null) return "a failure";
   if (argument === "HALF" && IS_CALL.test(point)) return "its first half alone";
   if (argument === "DROP" && IS_CALL.test(point)) return "a loss that nobody is told";
+  if (argument === "ENOSPC") return "a full disk (ENOSPC)";
   return /^E[A-Z0-9]+$/.test(argument) ? argument : `a failure with the text \u201c${argument}\u201d`;
 }
 

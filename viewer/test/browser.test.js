@@ -7,7 +7,7 @@ import { after, before, describe, test } from "node:test";
 import { shown } from "../words.js";
 import { Browser, findChromium } from "./chromium.js";
 import { drawn, hostileDocument, largestDocument, makeDocument } from "./made.js";
-import { exampleReport, explainedReport, keptReport, tool } from "./reports.js";
+import { exampleReport, explainedReport, keptAppendix, keptReport, tool } from "./reports.js";
 
 const program = findChromium();
 /** The width of A4 between Chromium's margins, in pixels of style sheets. */
@@ -31,11 +31,11 @@ describe("in Chromium", { skip: program === null ? "Chromium isn't installed, so
     rmSync(folder, { recursive: true });
   });
 
-  /** Opens the page of a document. */
-  async function open(document, options = {}, brief = "first none\n") {
-    writeFileSync(join(folder, "report.json"), JSON.stringify(document));
-    writeFileSync(join(folder, "brief"), brief);
-    writeFileSync(join(folder, "page.html"), tool("tools/frame", ["--with", join(folder, "report.json"), join(folder, "brief")]));
+  /** Opens the page of a document, with what the loop adds to it, if that is given. */
+  async function open(document, { told = null, ...options } = {}, brief = "first none\n") {
+    const texts = { "report.json": JSON.stringify(document), brief, ...(told && { "told.json": JSON.stringify(told) }) };
+    for (const [name, text] of Object.entries(texts)) writeFileSync(join(folder, name), text);
+    writeFileSync(join(folder, "page.html"), tool("tools/frame", ["--with", ...Object.keys(texts).map((name) => join(folder, name))]));
     await browser.open(join(folder, "page.html"), options);
   }
 
@@ -43,6 +43,7 @@ describe("in Chromium", { skip: program === null ? "Chromium isn't installed, so
   /** How far the map's strips go. */
   const widest = async () => await side(".map-strips", "right") - await side(".map-box", "left");
   const saved = () => JSON.parse(keptReport("save"));
+  const textOf = (selector) => browser.evaluate(`document.querySelector(${JSON.stringify(selector)}).textContent`);
   const medium = () => makeDocument({ ...drawn(4), depth: 3, most: 900, longest: 9 }).document;
 
   test("no name becomes an element, an attribute or a script, and nothing is asked for", async () => {
@@ -110,12 +111,12 @@ describe("in Chromium", { skip: program === null ? "Chromium isn't installed, so
       const name = document.querySelector(".map").getAttribute("aria-activedescendant");
       return document.getElementById(name).getAttribute("aria-label");
     })()`);
-    assert.match(await current(), /^plan 31, fail lost: the 1st fsync fails; the power cut keeps the 3rd pending change$/);
+    assert.match(await current(), /^plan 19, fail torn: the 1st fsync fails; the power cut keeps the 1st change asked for$/);
     await browser.press("ArrowRight");
-    assert.match(await current(), /^plan 32, pass: /);
+    assert.match(await current(), /^plan 20, pass: /);
     await browser.press("Enter");
-    assert.equal(await browser.evaluate("document.querySelector('#chosen h3').textContent"), "Plan 32 pass");
-    assert.equal(await browser.evaluate("location.hash"), "#plan-32");
+    assert.equal(await browser.evaluate("document.querySelector('#chosen h3').textContent"), "Plan 20 pass");
+    assert.equal(await browser.evaluate("location.hash"), "#plan-20");
     await browser.press("ArrowLeft");
     await browser.press("Enter");
     assert.match(await browser.evaluate("document.querySelector('#chosen').textContent"), /It grew from plan \d+\..*paklour report --explain/);
@@ -211,8 +212,8 @@ describe("in Chromium", { skip: program === null ? "Chromium isn't installed, so
     assert.deepEqual(await rows(), [
       "hit|this run|hit|the run without its last fault", "1|1st create|1|1st create same", "2|1st write|2|1st write same", "3|2nd write|3|2nd write same",
       "4|1st rename|4|1st rename same", "5|1st sync fails|5|1st sync fails fault-line",
-      ...["6|1st", "7|2nd", "8|3rd"].map((hit) => `${hit} pending change isn\u2019t kept|${hit} pending change isn\u2019t kept same`),
-      "9|4th pending change is kept|9|4th pending change isn\u2019t kept fault-line", "|fail torn||pass ends"]);
+      ...["6|1st", "7|2nd", "8|3rd"].map((hit) => `${hit} change asked for isn\u2019t kept|${hit} change asked for isn\u2019t kept same`),
+      "9|4th change asked for is kept|9|4th change asked for isn\u2019t kept fault-line", "|fail torn||pass ends"]);
     const again = await browser.evaluate("document.getElementById('again').textContent");
     const { program_version: version, command, settings } = document.about;
     for (const text of [`paklour ${version}`, command, settings.trim()]) assert.ok(again.includes(text), text);
@@ -228,11 +229,94 @@ describe("in Chromium", { skip: program === null ? "Chromium isn't installed, so
     assert.match(await browser.evaluate("document.querySelector('.finding').textContent"), /In bold: hits of the same file as the fault\u2019s, db\/000003\.log\./);
     await open(JSON.parse(explainedReport("save")));
     assert.deepEqual((await rows()).slice(4), [
-      "4|1st rename|4|1st rename same", "5|1st fsync fails|5|1st fsync fails fault-line", "6|1st pending change isn\u2019t kept|6|1st pending change isn\u2019t kept same",
-      "7|2nd pending change isn\u2019t kept|7|2nd pending change isn\u2019t kept same", "8|3rd pending change is kept|8|3rd pending change isn\u2019t kept fault-line",
-      "|fail lost||pass ends"]);
+      "4|1st rename|4|1st rename same", "5|1st fsync fails|5|1st fsync fails fault-line",
+      "6|1st change asked for is kept|6|1st change asked for isn\u2019t kept fault-line",
+      "7|2nd change asked for isn\u2019t kept|7|2nd change asked for isn\u2019t kept same", "|fail torn||pass ends"]);
     await browser.evaluate("document.querySelector('.causes details').open = true; new Promise((resolve) => setTimeout(resolve, 50))");
     assert.match(await browser.evaluate("document.querySelector('.causes table').textContent"), /the run without its last fault/);
+  });
+
+  const readme = (told) => open(JSON.parse(explainedReport("readme")), { told: { ...JSON.parse(keptAppendix("readme")), ...told } });
+
+  test("a finding has what the terminal has: words, files, promises, the judge's lines and the command", async () => {
+    await readme();
+    const { title, date, stories: [story] } = JSON.parse(keptAppendix("readme"));
+    assert.equal(await textOf("h1"), title);
+    assert.equal(await browser.evaluate("document.title"), `save.py \u2013 ${date} \u2013 Paklour`);
+    assert.equal(`fail torn: ${await textOf(".finding .words")}`.toLowerCase(), `${story.words}.`.toLowerCase());
+    const cells = (selector) =>
+      browser.evaluate(`[...document.querySelectorAll("${selector} tbody tr")].map((row) => [...row.cells].map((cell) => cell.innerText.trim()))`);
+    assert.deepEqual(await cells(".finding .files"), [["note", "old\n3 bytes", "empty"]]);
+    assert.deepEqual(await cells(".finding .pending"), [["create new", "kept"], ["rename new -> note", "kept"], ["length of note 5", "lost"],
+      ["block 0 of note as after write 1", "lost"]]);
+    const told = await textOf(".finding .story");
+    const sentences = ["The program had promised nothing by then", "says: torn. Its last lines:", "note: it has neither its old nor its new contents", story.again];
+    for (const words of sentences) assert.ok(told.includes(words), words);
+    assert.deepEqual((await rows()).slice(4), [
+      "4|1st rename (note)|4|1st rename (note) same", "5|1st fsync (note) fails|5|1st fsync (note) fault-line",
+      "6|1st change asked for (rename new -> note, and all before it) is kept|6|2nd fsync (the data folder)",
+      "7|2nd change asked for (create new) is kept||\u2013", "|fail torn||pass ends"]);
+    const again = await textOf("#again");
+    const items = ["\"$HARNESS\"/../save.py young || exit", "echo done", "campaign bypaklour-loop saving", `date${date}`];
+    for (const words of items) assert.ok(again.includes(words), words);
+  });
+
+  test("a plan that is chosen has its story if it is a cause, and in any case its command", async () => {
+    await readme();
+    const choose = (number) => browser.evaluate(`location.hash = "#plan-${number}";
+      new Promise((resolve) => setTimeout(() => resolve(document.getElementById("chosen").innerText), 50))`);
+    assert.match(await choose(12), /The 1st sys::fsync \(note\) ends the run, the pending changes of names are kept\.[^]*neither its old nor its new contents/);
+    const passing = await choose(13);
+    assert.match(passing, /This run again: paklour-loop saving --try 'sys::fsync=1\*off->1\*return'/);
+    assert.doesNotMatch(passing, /judge/);
+    assert.equal(await browser.evaluate("document.querySelectorAll('.causes .story').length"), 2);
+  });
+
+  test("sentences of others stand with their finding", async () => {
+    const [story, ...others] = JSON.parse(keptAppendix("readme")).stories;
+    await readme({ stories: [{ ...story, further: ["On ext4 it is lost too.", "<b>On XFS</b> it isn\u2019t."] }, ...others] });
+    assert.deepEqual(await browser.evaluate("[...document.querySelectorAll('.finding .story li')].map((one) => one.textContent)"),
+      ["On ext4 it is lost too.", "<b>On XFS</b> it isn\u2019t."]);
+  });
+
+  test("a page to which the loop added nothing shows no story, and one without findings no section of them", async () => {
+    await open(JSON.parse(explainedReport("readme")));
+    assert.equal(await browser.evaluate("document.querySelectorAll('.story').length"), 0);
+    assert.match(await textOf("h1"), /^saving, settings by paklour-loop$/);
+    const document = JSON.parse(keptReport("readme"));
+    const [counts, none] = [{ plans: document.counts.plans, pass: document.counts.plans, fail: 0, unresolved: 0 }, { not_passed: [], findings: [] }];
+    const about = { ...document.about, finding_runs: [], cause_runs: [] };
+    const passing = { ...document, counts, ...none, about, growth: { ...document.growth, causes: [] } };
+    await open(passing, { told: { ...JSON.parse(keptAppendix("readme")), stories: [] } });
+    assert.equal(await browser.evaluate("document.querySelectorAll('.story, .finding, #first').length"), 0);
+    assert.equal(await textOf("h1"), "save.py");
+    assert.match(await textOf(".headline"), /^None of 18 plans fails\.$/);
+  });
+
+  test("what the loop adds becomes no element either, and if it can't be read, the report is shown without it", async () => {
+    const document = JSON.parse(explainedReport("readme"));
+    const text = `${"long".repeat(40)}\u0000\u2028\u202e</script><!--<script>pwned()</script>&amp;\udcff`;
+    const good = JSON.parse(keptAppendix("readme"));
+    const side = { kind: text, mode: text, length: 1, begin: 3, text, more: 4 };
+    const story = {
+      ...good.stories[0], scenario: document.findings[0].reduced, verdict: text, words: `${text}: ${text}`, state: text, pending: [{ what: text, kept: text }],
+      promised: [text], judge: [text], hits: Array(30).fill(text), again: text, further: [text],
+      files: { differences: [{ name: text, before: side, after: side }], more: 1, same: 1, unjudged: 1 },
+    };
+    const program = { name: text, run: [text, text], version: text, files: [{ name: text, digest: text, changed: text }] };
+    await open(document, { width: 390, told: { ...good, title: text, date: text, command: text, clean: Array(30).fill(text), program, stories: [story] } });
+    const found = await browser.evaluate(`(() => {
+      const all = [...document.querySelectorAll("*")];
+      return { tags: [...new Set(all.map((one) => one.tagName.toUpperCase()))], attributes: [...new Set(all.flatMap((one) => one.getAttributeNames()))],
+        stories: document.querySelectorAll(".finding .story").length, scripts: document.scripts.length, pwned: typeof pwned, width: document.documentElement.scrollWidth };
+    })()`);
+    assert.deepEqual(found.tags.filter((tag) => !TAGS.split(/\s+/).includes(tag)), []);
+    assert.deepEqual(found.attributes.filter((name) => !ATTRIBUTES.split(/\s+/).includes(name)), []);
+    assert.deepEqual([found.stories, found.scripts, found.pwned], [1, 3, "undefined"]);
+    assert.ok(found.width <= 390, `the page is ${found.width} wide`);
+    await readme({ version: 7 });
+    assert.match(await textOf("header"), /can\u2019t be read: the appendix has version 7/);
+    assert.equal(await textOf(".finding .words"), "The 1st fsync fails.");
   });
 
   test("a document that can't be read leaves the text open", async () => {

@@ -1,24 +1,26 @@
-// Makes docs/page.png, the picture of README: the head and the first failure of the page of LevelDB, from the answers in leveldb/.
+// Makes docs/page.png, the picture of README: the head of the page of LevelDB and its first failure, up to its run hit by hit, from
+// the files in leveldb/.
 //     node viewer/test/picture.js [FILE]
 import { writeFileSync } from "node:fs";
 import { join } from "node:path";
 import { Browser, findChromium } from "./chromium.js";
-import { TOP, explainedReport, inFolder, keptBrief, tool } from "./reports.js";
+import { TOP, explainedReport, inFolder, keptAppendix, keptBrief, tool } from "./reports.js";
 
-const WIDTH = 960;
-const BELOW = 24;
+const WIDTH = 1280;
+const BELOW = 6;
 
 /** @param {Browser} browser @param {string} into */
 async function take(browser, into) {
   const page = inFolder((folder) => {
     writeFileSync(join(folder, "report.json"), explainedReport("leveldb"));
     writeFileSync(join(folder, "brief"), keptBrief("leveldb"));
-    return tool("tools/frame", ["--with", join(folder, "report.json"), join(folder, "brief")]);
+    writeFileSync(join(folder, "told.json"), keptAppendix("leveldb"));
+    return tool("tools/frame", ["--with", ...["report.json", "brief", "told.json"].map((name) => join(folder, name))]);
   });
   const file = join(browser.folder, "page.html");
   writeFileSync(file, page);
   await browser.open(file, { width: WIDTH });
-  const bottom = await browser.evaluate("document.getElementById('first').getBoundingClientRect().bottom + scrollY");
+  const bottom = await browser.evaluate("document.querySelector('.finding .story').getBoundingClientRect().bottom + scrollY");
   await browser.screenshot(into, { x: 0, y: 0, width: WIDTH, height: Math.ceil(bottom) + BELOW, scale: 1 });
 }
 

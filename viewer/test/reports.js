@@ -65,7 +65,8 @@ export function reports() {
 }
 
 /**
- * A campaign on a program outside, from answers that are kept: `save`, the program of docs/OUTSIDE.md with its file renamed before the sync, and `leveldb`.
+ * A campaign on a program outside, from answers that are kept: `save`, the program of docs/OUTSIDE.md with its file renamed before the sync, `readme`, that of
+ * README.md, and `leveldb`.
  * @param {string} name
  */
 function kept(name) {
@@ -77,6 +78,11 @@ function kept(name) {
 export function keptReport(name) {
   const { settings, input } = kept(name);
   return told(["report", "--json", settings], { input });
+}
+
+/** What the loop has added to the page of a kept campaign. @param {string} name */
+export function keptAppendix(name) {
+  return readFileSync(new URL(`${name}/told.json`, import.meta.url), "utf8");
 }
 
 /** The brief report of a kept campaign. @param {string} name */

@@ -14,24 +14,24 @@ const saved = () => campaignBy(keptReport("save"));
 test("plans in words, of the program in the tutorial", () => {
   const campaign = saved();
   const words = (number) => planWords(campaign, campaign.plans[number]);
-  assert.equal(words(31), "the 1st fsync fails; the power cut keeps the 3rd pending change");
-  assert.equal(wordsOfNumbered(campaign, 31, campaign.told.findings[0].reduced), words(31));
-  assert.equal(wordsOfNumbered(campaign, 31, "libc::fsync=1*return"), "the 1st fsync fails");
-  assert.equal(words(34), "the program ends at the 1st fsync; the power cut keeps the 3rd pending change");
+  assert.equal(words(19), "the 1st fsync fails; the power cut keeps the 1st change asked for");
+  assert.equal(wordsOfNumbered(campaign, 19, campaign.told.findings[0].reduced), words(19));
+  assert.equal(wordsOfNumbered(campaign, 19, "sys::fsync=1*return"), "the 1st fsync fails");
+  assert.equal(words(21), "the program ends at the 1st fsync; the power cut keeps the 1st change asked for");
   assert.equal(words(0), "no fault");
   const onward = JSON.parse(keptReport("save")).about.grown.indexOf("3 1 1*return; 11 2 return");
-  assert.equal(words(onward), "the 1st fsync fails; the power cut keeps each pending change from the 2nd on");
+  assert.equal(words(onward), "the 1st fsync fails; the power cut keeps each change asked for from the 2nd on");
   assert.deepEqual(rowsOf(campaign).rows.map((row) => rowWords(row, campaign.call)),
     ["no fault", "1st open", "2nd open", "1st write", "1st rename", "1st fsync", "2nd fsync"]);
 });
 
 test("a plan that grew is told in the order in which its faults act", () => {
   const document = JSON.parse(keptReport("save"));
-  const number = document.about.grown.indexOf("0 1 1*return; 5 1 1*panic");
+  const number = document.about.grown.indexOf("2 1 1*return; 2 2 1*panic");
   document.about.grown[number] = "5 1 1*return; 0 1 1*panic";
   const campaign = campaignBy(JSON.stringify(document));
   assert.equal(planWords(campaign, campaign.plans[number]), "the 1st rename fails; the program ends at the 1st open");
-  assert.equal(campaign.plans[number].text, "libc::open=1*panic;libc::rename=1*return");
+  assert.equal(campaign.plans[number].text, "sys::open=1*panic;sys::rename=1*return");
 });
 
 const steps = (explained, names) => readRun("", { explained }, names).steps.map(({ point, answer }) => [point, answer]);
@@ -212,7 +212,7 @@ test("what a program outside does, by its answers: LevelDB deletes a log that it
 test("a run that answers tell stands beside its parent's", () => {
   const { runs, told } = campaignBy(explainedReport("save"));
   const beside = told.growth.causes.map(({ number, scenario }) => runs.beside(runs.of(number, scenario)));
-  assert.deepEqual(beside.map(({ scenario, verdict }) => [scenario, verdict]), [["libc::fsync=1*return", "pass"], ["libc::fsync=1*panic", "pass"]]);
+  assert.deepEqual(beside.map(({ scenario, verdict }) => [scenario, verdict]), [["sys::fsync=1*return", "pass"], ["sys::fsync=1*panic", "pass"]]);
 });
 
 test("which answers are faults", () => {

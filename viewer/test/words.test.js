@@ -1,16 +1,16 @@
 import assert from "node:assert/strict";
 import { test } from "node:test";
-import { KEEP, NEXT, TEAR, clausesOf } from "../scenario.js";
+import { KEEP, NEXT, clausesOf } from "../scenario.js";
 import { answerWords, callsOf, counted, listed, ordinal, quoted, shown, wordsOfClauses, wordsOfKind, wordsOfScenario } from "../words.js";
 
-const call = callsOf(["libc::write", "libc::fsync", "libc::write@a.db", "one::send", "two::send", "sys::send", "sys::fsync@note.new", "sys::fsync@.", KEEP, TEAR, NEXT]);
+const call = callsOf(["libc::write", "libc::fsync", "libc::write@a.db", "one::send", "two::send", "sys::send", "sys::fsync@note.new", "sys::fsync@.", KEEP, NEXT]);
 
 test("a point is called by its last part where that says which", () => {
   assert.equal(call("libc::fsync"), "fsync");
   assert.equal(call("libc::write@a.db"), "write of a.db");
   assert.equal(call("sys::fsync@note.new"), "fsync of note.new");
-  assert.equal(call("sys::fsync@."), "fsync of the root folder");
-  assert.deepEqual([KEEP, TEAR, NEXT].map(call), ["pending change", "write that is kept", "choice between threads"]);
+  assert.equal(call("sys::fsync@."), "fsync of the data folder");
+  assert.deepEqual([KEEP, NEXT].map(call), ["change asked for", "choice between threads"]);
   assert.equal(call("one::send"), "one::send");
   assert.equal(call("elsewhere"), "elsewhere");
 });
@@ -19,22 +19,15 @@ const SENTENCES = {
   none: "no fault",
   "libc::fsync=1*off->1*return": "the 2nd fsync fails",
   "libc::fsync=1*off->1*panic": "the program ends at the 2nd fsync",
-  [`libc::fsync=1*return;${KEEP}=2*off->1*return`]: "the 1st fsync fails; the power cut keeps the 3rd pending change",
+  [`libc::fsync=1*return;${KEEP}=2*off->1*return`]: "the 1st fsync fails; the power cut keeps the 3rd change asked for",
   [`${KEEP}=1*return->1*off->1*return;libc::fsync=panic`]:
-    "the program ends at each fsync; the power cut keeps the 1st pending change and the 3rd pending change",
-  [`${KEEP}=return`]: "the power cut keeps each pending change",
-  [`${KEEP}=1*off->return`]: "the power cut keeps each pending change from the 2nd on",
-  [`${KEEP}=1*return(HALF)`]: "the power cut keeps the 1st pending change",
-  [`${KEEP}=1*off->1*return;${TEAR}=1*return`]: "the power cut keeps the first half of the 2nd pending change",
-  [`${KEEP}=1*return->1*off->1*return;${TEAR}=1*return`]:
-    "the power cut keeps the 1st pending change and the 3rd pending change; of the 1st write that is kept the first half alone is there",
-  [`${KEEP}=return;${TEAR}=1*off->1*return`]:
-    "the power cut keeps each pending change; of the 2nd write that is kept the first half alone is there",
-  [`${KEEP}=2*return;${TEAR}=return`]: "the power cut keeps pending changes 1 to 2; of each write that is kept the first half alone is there",
-  [`${KEEP}=1*panic`]: "the 1st pending change is lost all the same",
-  [`${TEAR}=1*panic`]: "the 1st write that is kept is whole all the same",
-  [`${KEEP}=50%return`]: "each pending change is kept by chance, in 50 of 100",
-  [`${TEAR}=50%return`]: "of each write that is kept the first half alone is there by chance, in 50 of 100",
+    "the program ends at each fsync; the power cut keeps the 1st change asked for and the 3rd change asked for",
+  [`${KEEP}=return`]: "the power cut keeps each change asked for",
+  [`${KEEP}=1*off->return`]: "the power cut keeps each change asked for from the 2nd on",
+  [`${KEEP}=2*return`]: "the power cut keeps each change asked for from the 1st to the 2nd",
+  [`${KEEP}=1*return(HALF)`]: "the power cut keeps the 1st change asked for",
+  [`${KEEP}=1*panic`]: "the 1st change asked for is lost all the same",
+  [`${KEEP}=50%return`]: "each change asked for is kept by chance, in 50 of 100",
   [`${NEXT}=1*off->1*return`]: "at the 2nd choice between threads the next one goes first",
   [`${NEXT}=1*panic`]: "the program ends at the 1st choice between threads",
   "sys::fsync@note.new=1*off->1*return": "the 2nd fsync of note.new fails",
@@ -58,13 +51,11 @@ test("a scenario in words", () => {
   for (const [scenario, words] of Object.entries(SENTENCES)) assert.equal(wordsOfScenario(scenario, call), words, scenario);
 });
 
-test("of what a cut keeps, in the order of time, a tear is of the change before it", () => {
+test("of two power cuts each says what it keeps, where the order of time is known", () => {
   const words = (...texts) => wordsOfClauses(texts.flatMap(clausesOf), call, true);
-  const [first, third] = [`${KEEP}=1*return`, `${KEEP}=2*off->1*return`];
-  assert.equal(words(first, third, `${TEAR}=1*return`), "the power cut keeps the 1st pending change and the first half of the 3rd pending change");
-  assert.equal(words(first, `${TEAR}=1*return`, third), "the power cut keeps the first half of the 1st pending change and the 3rd pending change");
-  assert.equal(words(first, `${TEAR}=1*return`, "libc::fsync=1*return", third),
-    "the power cut keeps the first half of the 1st pending change; the 1st fsync fails; the power cut keeps the 3rd pending change");
+  const [first, second, third] = [`${KEEP}=1*return`, `${KEEP}=1*off->1*return`, `${KEEP}=2*off->1*return`];
+  assert.equal(words(first, second, "libc::fsync=1*return", third),
+    "the power cut keeps the 1st change asked for and the 2nd change asked for; the 1st fsync fails; the power cut keeps the 3rd change asked for");
 });
 
 test("an answer in words", () => {
@@ -72,9 +63,14 @@ test("an answer in words", () => {
     ["libc::fsync", "return", "fails"], ["libc::write", "return(ENOSPC)", "fails with ENOSPC"], ["libc::write", "return(HALF)", "does its first half alone"],
     ["libc::write", "panic", "the program ends here"], ["libc::write", null, null], ["libc::write", "print(x)", "print(x)"],
     ["one::send", "return(<b>)", "fails with the text \u201c<b>\u201d"], [KEEP, "return", "is kept"], [KEEP, null, "isn\u2019t kept"],
-    [KEEP, "panic", "isn\u2019t kept"], [TEAR, "return", "its first half alone"], [TEAR, null, "whole"], [NEXT, "return", "the next one goes first"],
+    [KEEP, "panic", "isn\u2019t kept"], [NEXT, "return", "the next one goes first"],
     [NEXT, null, null]];
-  for (const [point, answer, words] of told) assert.equal(answerWords(point, answer), words, `${point} ${answer}`);
+  for (const [point, answer, words] of told) assert.equal(answerWords(point, answer, ""), words, `${point} ${answer}`);
+  const asked = [["2 rename new -> note, and all before it", "kept"], ["0 create log, undone", "undone"], ["0 rename a -> b, of it b undone", "undone"]];
+  for (const [about, word] of asked) {
+    assert.equal(answerWords(KEEP, "return", about), `is ${word}`);
+    assert.equal(answerWords(KEEP, null, about), `isn\u2019t ${word}`);
+  }
 });
 
 test("numbers and lists in words", () => {
@@ -85,7 +81,7 @@ test("numbers and lists in words", () => {
   assert.equal(listed(["a", "b", "c"]), "a, b and c");
   const kinds = (point, ...texts) => texts.map((kind) => wordsOfKind(point, kind));
   assert.deepEqual(kinds("libc::write", "return(ENOSPC)", "return(HALF)", "return", "panic"),
-    ["ENOSPC", "its first half alone", "a failure", "the end of the program"]);
+    ["a full disk (ENOSPC)", "its first half alone", "a failure", "the end of the program"]);
   assert.deepEqual([...kinds("one::send", "return(HALF)", "panic"), ...kinds("sys::send", "return(DROP)"), ...kinds(NEXT, "return")],
     ["a failure with the text \u201cHALF\u201d", "the end of the program", "a loss that nobody is told", "that the next one goes first"]);
 });

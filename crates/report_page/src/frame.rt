@@ -7,7 +7,7 @@ pub const BEFORE: &str = r###"<!doctype html>
 <meta charset="utf-8">
 <meta name="viewport" content="width=device-width, initial-scale=1">
 <meta name="color-scheme" content="light dark">
-<meta http-equiv="Content-Security-Policy" content="default-src 'none'; style-src 'sha256-L87Oq7Nc/HEjekxG72nxbkfBHH+HF6asMliwfq9vORQ='; script-src 'sha256-+afs94hEHrqHodtnDpaw4Vg7ohOwObOwHo5Zh/aII9Y='; base-uri 'none'; form-action 'none'">
+<meta http-equiv="Content-Security-Policy" content="default-src 'none'; style-src 'sha256-YyhRs2h6WGgG/k93DZLwBPQ487v1E0rfOYKil8B6SYk='; script-src 'sha256-hjyV+xrflguk47ztPV7S/SW364x8tXKDEBdsbjEKOFU='; base-uri 'none'; form-action 'none'">
 <title>Paklour report</title>
 <style>
 :root {
@@ -113,6 +113,15 @@ summary { cursor: pointer; }
 /* first failures, causes, runs */
 .finding, .chosen:not(:empty) { margin: 0.8rem 0; padding: 0.8rem 1rem; border: 1px solid var(--line); border-radius: 8px; }
 .finding .words, .chosen .words { font-size: 1.08rem; }
+.story { margin: 0.6rem 0; }
+.story p { margin: 0 0 0.3rem; }
+.story pre, .story ul, .story .scroll, .story .again { margin: 0 0 0.8rem; }
+.story .scroll + .muted { margin-top: -0.5rem; }
+.story th[scope="row"] { min-width: 4.5rem; white-space: normal; }
+.story th[scope="row"] code { overflow-wrap: break-word; }
+.story .pending .lost td { font-weight: 600; }
+.files td { min-width: 6rem; }
+.command { user-select: all; }
 .group { margin: 0.4rem 0; }
 .causes { padding: 0; list-style: none; }
 .causes li { margin: 0.5rem 0; padding-left: 0.8rem; border-left: 2px solid var(--line); }
@@ -316,10 +325,8 @@ function rowsOfPlans(told) {
  * @typedef {{point: string, term: Term, first: number, last: number}} Clause
  */
 
-/** The point at which a power cut asks for each pending change whether it is kept. */
+/** The point at which a power cut asks for a change that is pending whether it is kept. */
 const KEEP = "power::keep";
-/** The point at which it asks whether of a write that is kept the first half alone is there. */
-const TEAR = "power::tear";
 /** The point of the order of threads: a return lets the next one go first. */
 const NEXT = "order::next";
 
@@ -461,11 +468,227 @@ function spellWith(shares, fault, names) {
   return text === "" ? added : `${text};${added}`;
 }
 
+// Scenarios, runs and what was tried, in words.
+
+/** @typedef {import("./scenario.js").Clause} Clause */
+/** How a point is called. @typedef {(point: string) => string} Call */
+
+const SHOWN_AS_CODE = /[\u0000-\u001f\u007f-\u009f\u061c\u200b-\u200f\u2028-\u202e\u2060-\u206f\ufeff\ufff9-\uffff]/g;
+
+/**
+ * A text of others, to be shown: characters that can't be seen, or that turn what follows them around, stand as their numbers.
+ * @param {string} text
+ */
+function shown(text) {
+  return text.replace(SHOWN_AS_CODE, (character) => `\u27e8U+${character.charCodeAt(0).toString(16).toUpperCase().padStart(4, "0")}\u27e9`);
+}
+
+/** @param {number} count @param {string} one @param {string} [many] */
+function counted(count, one, many = `${one}s`) {
+  return `${grouped(count)} ${count === 1 ? one : many}`;
+}
+
+/** @param {number} count */
+function grouped(count) {
+  return String(count).replace(/\B(?=(\d{3})+$)/g, "\u202f");
+}
+
+/** @param {number} number */
+function ordinal(number) {
+  const tens = number % 100;
+  const ending = tens >= 11 && tens <= 13 ? "th" : ["th", "st", "nd", "rd"][number % 10] ?? "th";
+  return `${grouped(number)}${ending}`;
+}
+
+/** @param {string[]} texts @param {string} [word] */
+function listed(texts, word = "and") {
+  if (texts.length < 2) return texts.join("");
+  return `${texts.slice(0, -1).join(", ")} ${word} ${texts[texts.length - 1]}`;
+}
+
+/** @param {string} text */
+function sentence(text) {
+  return `${text.charAt(0).toUpperCase()}${text.slice(1)}.`;
+}
+
+/** A file as it is told: the supervisor names files from the folder of the data on, which is `.` itself. @param {string} name */
+function fileWords(name) {
+  return name === "." ? "the data folder" : name;
+}
+
+/** The points of calls of the system, as the supervisor of outside/ names them. */
+const IS_CALL = /^(?:sys|libc)::/;
+
+/** What is hit at points that aren't a program's calls. */
+const NAMED = new Map([[KEEP, "change asked for"], [NEXT, "choice between threads"]]);
+
+/**
+ * How points are called: by what stands behind the last `::`, where no other point is called so; `sys::write@a.db` is `write of a.db`. Files are told from
+ * the data folder on, which is `.` itself.
+ * @param {string[]} points
+ * @returns {(point: string) => string}
+ */
+function callsOf(points) {
+  const short = points.map(lastOf);
+  const calls = new Map(NAMED);
+  points.forEach((point, index) => {
+    if (NAMED.has(point)) return;
+    const alone = short.filter((name) => name === short[index]).length === 1;
+    const [name, ...file] = (alone ? short[index] : point).split("@");
+    const named = IS_CALL.test(point) ? fileWords(file.join("@")) : file.join("@");
+    calls.set(point, file.length > 0 && name !== "" ? `${name} of ${named}` : name || point);
+  });
+  return (point) => calls.get(point) ?? point;
+}
+
+/** @param {string} point */
+function lastOf(point) {
+  const at = point.indexOf("@");
+  const name = at < 0 ? point : point.slice(0, at);
+  const colons = name.lastIndexOf("::");
+  return colons >= 0 && colons + 2 < name.length ? point.slice(colons + 2) : point;
+}
+
+/** @param {Clause} clause @param {Call} call */
+function hitWords({ point, first, last }, call) {
+  const name = call(point);
+  if (last === Infinity) return first === 1 ? `each ${name}` : `each ${name} from the ${ordinal(first)} on`;
+  if (last > first) return `each ${name} from the ${ordinal(first)} to the ${ordinal(last)}`;
+  return `the ${ordinal(first)} ${name}`;
+}
+
+/**
+ * What a call comes to that a return answers. To points of a program's own an argument is a text, of which the program makes what it likes.
+ * @param {string} point
+ * @param {string|null} argument
+ */
+function failureWords(point, argument) {
+  if (argument === null) return "fails";
+  if (/^E[A-Z0-9]+$/.test(argument)) return `fails with ${argument}`;
+  if (argument === "HALF" && IS_CALL.test(point)) return "does its first half alone";
+  if (argument === "DROP" && IS_CALL.test(point)) return "answers that all is done, and does nothing";
+  return `fails with the text \u201c${argument}\u201d`;
+}
+
+/** @param {Clause} clause @param {Call} call */
+function actWords(clause, call) {
+  const hit = hitWords(clause, call);
+  const { point, term: { task, argument } } = clause;
+  if (point === KEEP && (task === "return" || task === "panic")) return `${hit} is ${task === "return" ? "kept" : "lost all the same"}`;
+  if (point === NEXT && task === "return") return `at ${hit} the next one goes first`;
+  switch (task) {
+    case "return": return `${hit} ${failureWords(point, argument)}`;
+    case "panic": return `the program ends at ${hit}`;
+    case "pause": return `the run is ended at ${hit}`;
+    case "print": return `a note is taken at ${hit}`;
+    case "drawn": return `what ${hit} answers is drawn by ${argument}`;
+    default: return `${hit} takes ${argument} ms more`;
+  }
+}
+
+/** What a hit of the power cut asks for ends so where a sync made the change last: whether the disk undoes it. */
+const UNDONE = /,? undone$/;
+
+/**
+ * What an answer comes to at a hit of a run.
+ * @param {string} point
+ * @param {string|null} answer null where the hit goes on
+ * @param {string} about what the hit asks for, or its file; empty where nobody tells it
+ * @returns {string|null}
+ */
+function answerWords(point, answer, about) {
+  const term = answer === null ? null : parseTerm(answer);
+  const isReturn = term?.task === "return";
+  if (point === KEEP) return `${isReturn ? "is" : "isn\u2019t"} ${UNDONE.test(about) ? "undone" : "kept"}`;
+  if (term === null) return answer;
+  if (isReturn) return point === NEXT ? "the next one goes first" : failureWords(point, term.argument);
+  return term.task === "panic" ? "the program ends here" : answer;
+}
+
+/** Whether a power cut keeps something by this clause. @param {Clause} clause */
+function isOfCut(clause) {
+  return clause.point === KEEP && clause.term.task === "return" && clause.term.percent === null;
+}
+
+/** What a power cut keeps. @param {Clause[]} clauses @param {Call} call */
+function cutWords(clauses, call) {
+  return `the power cut keeps ${listed(clauses.map((clause) => hitWords(clause, call)))}`;
+}
+
+/** @param {Clause} clause @param {Call} call */
+function clauseWords(clause, call) {
+  const { percent } = clause.term;
+  const words = actWords(clause, call);
+  if (percent === null) return words;
+  const times = clause.term.count === null ? "" : `, ${clause.term.count} times at most`;
+  const anywhere = actWords({ ...clause, first: 1, last: Infinity }, call);
+  return `${anywhere} by chance, in ${percent} of 100${times}`;
+}
+
+/**
+ * What happens where these clauses act. Where they aren't in the order of time, what the power cut keeps stands last.
+ * @param {Clause[]} clauses
+ * @param {Call} call
+ * @param {boolean} [inOrder]
+ */
+function wordsOfClauses(clauses, call, inOrder = false) {
+  if (clauses.length === 0) return "no fault";
+  const ordered = inOrder ? clauses : [...clauses.filter((clause) => !isOfCut(clause)), ...clauses.filter(isOfCut)];
+  const parts = [];
+  for (let begin = 0, end = 0; begin < ordered.length; begin = end) {
+    end = begin + 1;
+    if (!isOfCut(ordered[begin])) {
+      parts.push(clauseWords(ordered[begin], call));
+      continue;
+    }
+    while (end < ordered.length && isOfCut(ordered[end])) end += 1;
+    parts.push(cutWords(ordered.slice(begin, end), call));
+  }
+  return parts.join("; ");
+}
+
+/**
+ * @param {string} scenario
+ * @param {Call} call
+ */
+function wordsOfScenario(scenario, call) {
+  const clauses = clausesOf(scenario);
+  return clauses === null ? "a scenario that this page can't put in words" : wordsOfClauses(clauses, call);
+}
+
+/**
+ * A kind of fault, as `return(ENOSPC)`, in words.
+ * @param {string} point
+ * @param {string} kind
+ */
+function wordsOfKind(point, kind) {
+  const { task, argument } = parseTerm(kind) ?? { task: kind, argument: null };
+  if (task === "panic") return "the end of the program";
+  if (point === NEXT) return "that the next one goes first";
+  if (argument === null) return "a failure";
+  if (argument === "HALF" && IS_CALL.test(point)) return "its first half alone";
+  if (argument === "DROP" && IS_CALL.test(point)) return "a loss that nobody is told";
+  if (argument === "ENOSPC") return "a full disk (ENOSPC)";
+  return /^E[A-Z0-9]+$/.test(argument) ? argument : `a failure with the text \u201c${argument}\u201d`;
+}
+
+/**
+ * A word of a command, as a shell reads it.
+ * @param {string} word
+ */
+function quoted(word) {
+  return /^[A-Za-z0-9_./=:@%+,-]+$/.test(word) ? word : `'${word.replace(/'/g, "'\\''")}'`;
+}
+
 // A run hit by hit, beside another one.
 
 /** @typedef {{point: number, answer: string|null}} Step */
 /** @typedef {{scenario: string, verdict: string, steps: Step[], more: number, end: string|null}} Run */
-/** @typedef {{number: number, point: string, ordinal: number, answer: string|null, near?: boolean}} Hit */
+/** @typedef {{number: number, point: string, ordinal: number, answer: string|null, about?: string, kept?: boolean, near?: boolean}} Hit */
+/**
+ * What is known of a run's hits besides: what each is about, and the state of the last power cut, if the disk doesn't keep what the scenario says.
+ * @typedef {{about: string[], state: string}} Known
+ */
 /** A run as a document tells it. @typedef {{explained: string, left_out?: number, parent?: {explained: string, left_out?: number}}} Told */
 /**
  * A line of two runs side by side. `same` is where both hit the same point and are answered the same. Near is a hit of a file at whose hits a fault acts.
@@ -475,6 +698,14 @@ function spellWith(shares, fault, names) {
 
 /** A stretch of so many lines that are the same is folded. */
 const FOLDED = 6;
+const UNKNOWN = { about: [], state: "" };
+const OF_BYTES = /^(?:length of|block) /;
+/** Whether a state has what a power cut asks for, by its words. Each has what a sync made last. */
+const HAS = new Map([
+  ["names", (about) => !OF_BYTES.test(about) && !UNDONE.test(about)],
+  ["contents", (about) => OF_BYTES.test(about)],
+  ["live", (about) => !UNDONE.test(about)],
+]);
 const KEPT_BEFORE = 2;
 
 /** Where the lines of `explain` are cut: names and tasks may have line feeds. Behind the last hit stands what stopped the run, and which faults were idle. */
@@ -595,16 +826,22 @@ class Runs {
 }
 
 /**
+ * The hits of a run. Those of the last power cut are the last ones, as far as all hits are told.
  * @param {Run} run
  * @param {string[]} names
+ * @param {Known} [known]
  * @returns {Hit[]}
  */
-function hitsOf(run, names) {
+function hitsOf(run, names, known = UNKNOWN) {
   const ordinals = new Map();
+  const cut = run.more > 0 ? Infinity : run.steps.findLastIndex(({ point }) => names[point] !== KEEP) + 1;
   return run.steps.map(({ point, answer }, index) => {
     const ordinal = (ordinals.get(point) ?? 0) + 1;
     ordinals.set(point, ordinal);
-    return { number: index + 1, point: names[point], ordinal, answer };
+    const name = names[point];
+    const about = name.includes("@") ? undefined : known.about[index];
+    const kept = index >= cut && about !== undefined ? HAS.get(known.state)?.(about) : undefined;
+    return { number: index + 1, point: name, ordinal, answer, ...(about !== undefined && { about }), ...(kept !== undefined && { kept }) };
   });
 }
 
@@ -663,14 +900,15 @@ function pairsOf(here, there) {
  * @param {Run} run
  * @param {Run|null} beside
  * @param {string[]} names
+ * @param {(scenario: string) => Known} [known]
  * @returns {Line[]}
  */
-function linesOf(run, beside, names) {
-  const here = hitsOf(run, names);
-  const there = beside ? hitsOf(beside, names) : [];
+function linesOf(run, beside, names, known = () => UNKNOWN) {
+  const here = hitsOf(run, names, known(run.scenario));
+  const there = beside ? hitsOf(beside, names, known(beside.scenario)) : [];
   const lines = [];
   const add = (one, other) => {
-    const same = one !== null && other !== null && one.point === other.point && one.answer === other.answer;
+    const same = one !== null && other !== null && one.point === other.point && one.answer === other.answer && one.kept === other.kept;
     lines.push({ here: one, there: other, same, fault: isFault(one?.answer ?? null) });
   };
   let [nextHere, nextThere] = [0, 0];
@@ -681,19 +919,19 @@ function linesOf(run, beside, names) {
     [nextHere, nextThere] = [one + 1, other + 1];
   }
   const files = filesOfFaults(lines);
-  for (const hit of [...here, ...there]) hit.near = files.has(fileOf(hit.point));
+  for (const hit of [...here, ...there]) hit.near = files.has(fileOf(hit));
   return lines;
 }
 
-/** The file that a point names; null where it names none. @param {string} point */
-function fileOf(point) {
+/** The file of a hit; null where nobody tells it. @param {Hit} hit */
+function fileOf({ point, about }) {
   const at = point.indexOf("@");
-  return at < 0 ? null : point.slice(at + 1);
+  return at >= 0 ? point.slice(at + 1) : point === KEEP ? null : about ?? null;
 }
 
-/** The files at whose hits a fault acts, of a run whose points name files. @param {Line[]} lines @returns {Set<string>} */
+/** The files at whose hits a fault acts, where they are told. @param {Line[]} lines @returns {Set<string>} */
 function filesOfFaults(lines) {
-  const files = lines.filter(({ fault }) => fault).map(({ here }) => fileOf(here.point));
+  const files = lines.filter(({ fault }) => fault).map(({ here }) => fileOf(here));
   return new Set(files.filter((file) => file !== null));
 }
 
@@ -715,238 +953,6 @@ function foldLines(lines) {
     begin = at + 1;
   }
   return pieces;
-}
-
-// Scenarios, runs and what was tried, in words.
-
-/** @typedef {import("./scenario.js").Clause} Clause */
-/** How a point is called. @typedef {(point: string) => string} Call */
-
-const SHOWN_AS_CODE = /[\u0000-\u001f\u007f-\u009f\u061c\u200b-\u200f\u2028-\u202e\u2060-\u206f\ufeff\ufff9-\uffff]/g;
-
-/**
- * A text of others, to be shown: characters that can't be seen, or that turn what follows them around, stand as their numbers.
- * @param {string} text
- */
-function shown(text) {
-  return text.replace(SHOWN_AS_CODE, (character) => `\u27e8U+${character.charCodeAt(0).toString(16).toUpperCase().padStart(4, "0")}\u27e9`);
-}
-
-/** @param {number} count @param {string} one @param {string} [many] */
-function counted(count, one, many = `${one}s`) {
-  return `${grouped(count)} ${count === 1 ? one : many}`;
-}
-
-/** @param {number} count */
-function grouped(count) {
-  return String(count).replace(/\B(?=(\d{3})+$)/g, "\u202f");
-}
-
-/** @param {number} number */
-function ordinal(number) {
-  const tens = number % 100;
-  const ending = tens >= 11 && tens <= 13 ? "th" : ["th", "st", "nd", "rd"][number % 10] ?? "th";
-  return `${grouped(number)}${ending}`;
-}
-
-/** @param {string[]} texts @param {string} [word] */
-function listed(texts, word = "and") {
-  if (texts.length < 2) return texts.join("");
-  return `${texts.slice(0, -1).join(", ")} ${word} ${texts[texts.length - 1]}`;
-}
-
-/** @param {string} text */
-function sentence(text) {
-  return `${text.charAt(0).toUpperCase()}${text.slice(1)}.`;
-}
-
-/** The points of calls of the system, as the supervisor of outside/ names them. */
-const IS_CALL = /^(?:sys|libc)::/;
-
-/** The points that a power cut asks. */
-const IN_CUT = new Set([KEEP, TEAR]);
-
-/** What is hit at points that aren't a program's calls. */
-const NAMED = new Map([[KEEP, "pending change"], [TEAR, "write that is kept"], [NEXT, "choice between threads"]]);
-
-/**
- * How points are called: by what stands behind the last `::`, where no other point is called so; `sys::write@a.db` is `write of a.db`. Files are told from
- * the root folder on, which is `.` itself.
- * @param {string[]} points
- * @returns {(point: string) => string}
- */
-function callsOf(points) {
-  const short = points.map(lastOf);
-  const calls = new Map(NAMED);
-  points.forEach((point, index) => {
-    if (NAMED.has(point)) return;
-    const alone = short.filter((name) => name === short[index]).length === 1;
-    const [name, ...file] = (alone ? short[index] : point).split("@");
-    const named = file.join("@") === "." && IS_CALL.test(point) ? "the root folder" : file.join("@");
-    calls.set(point, file.length > 0 && name !== "" ? `${name} of ${named}` : name || point);
-  });
-  return (point) => calls.get(point) ?? point;
-}
-
-/** @param {string} point */
-function lastOf(point) {
-  const at = point.indexOf("@");
-  const name = at < 0 ? point : point.slice(0, at);
-  const colons = name.lastIndexOf("::");
-  return colons >= 0 && colons + 2 < name.length ? point.slice(colons + 2) : point;
-}
-
-/** @param {Clause} clause @param {Call} call */
-function hitWords({ point, first, last }, call) {
-  const name = call(point);
-  if (last === Infinity) return first === 1 ? `each ${name}` : `each ${name} from the ${ordinal(first)} on`;
-  if (last > first) return `each ${name} from the ${ordinal(first)} to the ${ordinal(last)}`;
-  return `the ${ordinal(first)} ${name}`;
-}
-
-/**
- * What a call comes to that a return answers. To points of a program's own an argument is a text, of which the program makes what it likes.
- * @param {string} point
- * @param {string|null} argument
- */
-function failureWords(point, argument) {
-  if (argument === null) return "fails";
-  if (/^E[A-Z0-9]+$/.test(argument)) return `fails with ${argument}`;
-  if (argument === "HALF" && IS_CALL.test(point)) return "does its first half alone";
-  if (argument === "DROP" && IS_CALL.test(point)) return "answers that all is done, and does nothing";
-  return `fails with the text \u201c${argument}\u201d`;
-}
-
-/** @param {Clause} clause @param {Call} call */
-function actWords(clause, call) {
-  const hit = hitWords(clause, call);
-  const { point, term: { task, argument } } = clause;
-  if (point === KEEP && (task === "return" || task === "panic")) return `${hit} is ${task === "return" ? "kept" : "lost all the same"}`;
-  if (point === TEAR && (task === "return" || task === "panic")) return task === "return" ? `of ${hit} the first half alone is there` : `${hit} is whole all the same`;
-  if (point === NEXT && task === "return") return `at ${hit} the next one goes first`;
-  switch (task) {
-    case "return": return `${hit} ${failureWords(point, argument)}`;
-    case "panic": return `the program ends at ${hit}`;
-    case "pause": return `the run is ended at ${hit}`;
-    case "print": return `a note is taken at ${hit}`;
-    case "drawn": return `what ${hit} answers is drawn by ${argument}`;
-    default: return `${hit} takes ${argument} ms more`;
-  }
-}
-
-/**
- * What an answer comes to at a hit of a run.
- * @param {string} point
- * @param {string|null} answer null where the hit goes on
- * @returns {string|null}
- */
-function answerWords(point, answer) {
-  const term = answer === null ? null : parseTerm(answer);
-  const isReturn = term?.task === "return";
-  if (point === KEEP) return isReturn ? "is kept" : "isn\u2019t kept";
-  if (point === TEAR) return isReturn ? "its first half alone" : "whole";
-  if (term === null) return answer;
-  if (isReturn) return point === NEXT ? "the next one goes first" : failureWords(point, term.argument);
-  return term.task === "panic" ? "the program ends here" : answer;
-}
-
-/** Whether a power cut keeps something by this clause, or keeps half of it. @param {Clause} clause */
-function isOfCut(clause) {
-  return IN_CUT.has(clause.point) && clause.term.task === "return" && clause.term.percent === null;
-}
-
-/** @param {Clause} clause */
-function keptWords({ first, last }) {
-  if (last === Infinity) return first === 1 ? "each pending change" : `each pending change from the ${ordinal(first)} on`;
-  return last > first ? `pending changes ${first} to ${last}` : `the ${ordinal(first)} pending change`;
-}
-
-/**
- * What a power cut keeps. It is asked for the half of a write right behind the hit that keeps it, so in the order of time a tear is of the change before
- * it. Of a scenario that has no order that is certain of the only one.
- * @param {Clause[]} clauses
- * @param {Call} call
- * @param {boolean} inOrder
- */
-function cutWords(clauses, call, inOrder) {
-  const isOne = ({ first, last }) => first === last;
-  const kept = [];
-  const torn = [];
-  clauses.forEach((clause, index) => {
-    const before = clauses[index - 1];
-    const isCertain = inOrder || (clauses.length === 2 && clause.first === 1);
-    if (clause.point === KEEP) kept.push(keptWords(clause));
-    else if (isCertain && before?.point === KEEP && isOne(before) && isOne(clause)) kept.push(`the first half of ${kept.pop()}`);
-    else torn.push(hitWords(clause, call));
-  });
-  return [
-    ...(kept.length > 0 ? [`the power cut keeps ${listed(kept)}`] : []),
-    ...torn.map((hit) => `of ${hit} the first half alone is there`),
-  ];
-}
-
-/** @param {Clause} clause @param {Call} call */
-function clauseWords(clause, call) {
-  const { percent } = clause.term;
-  const words = actWords(clause, call);
-  if (percent === null) return words;
-  const times = clause.term.count === null ? "" : `, ${clause.term.count} times at most`;
-  const anywhere = actWords({ ...clause, first: 1, last: Infinity }, call);
-  return `${anywhere} by chance, in ${percent} of 100${times}`;
-}
-
-/**
- * What happens where these clauses act. Where they aren't in the order of time, what the power cut keeps stands last.
- * @param {Clause[]} clauses
- * @param {Call} call
- * @param {boolean} [inOrder]
- */
-function wordsOfClauses(clauses, call, inOrder = false) {
-  if (clauses.length === 0) return "no fault";
-  const ordered = inOrder ? clauses : [...clauses.filter((clause) => !isOfCut(clause)), ...clauses.filter(isOfCut)];
-  const parts = [];
-  for (let begin = 0, end = 0; begin < ordered.length; begin = end) {
-    end = begin + 1;
-    if (!isOfCut(ordered[begin])) {
-      parts.push(clauseWords(ordered[begin], call));
-      continue;
-    }
-    while (end < ordered.length && isOfCut(ordered[end])) end += 1;
-    parts.push(...cutWords(ordered.slice(begin, end), call, inOrder));
-  }
-  return parts.join("; ");
-}
-
-/**
- * @param {string} scenario
- * @param {Call} call
- */
-function wordsOfScenario(scenario, call) {
-  const clauses = clausesOf(scenario);
-  return clauses === null ? "a scenario that this page can't put in words" : wordsOfClauses(clauses, call);
-}
-
-/**
- * A kind of fault, as `return(ENOSPC)`, in words.
- * @param {string} point
- * @param {string} kind
- */
-function wordsOfKind(point, kind) {
-  const { task, argument } = parseTerm(kind) ?? { task: kind, argument: null };
-  if (task === "panic") return "the end of the program";
-  if (point === NEXT) return "that the next one goes first";
-  if (argument === null) return "a failure";
-  if (argument === "HALF" && IS_CALL.test(point)) return "its first half alone";
-  if (argument === "DROP" && IS_CALL.test(point)) return "a loss that nobody is told";
-  return /^E[A-Z0-9]+$/.test(argument) ? argument : `a failure with the text \u201c${argument}\u201d`;
-}
-
-/**
- * A word of a command, as a shell reads it.
- * @param {string} word
- */
-function quoted(word) {
-  return /^[A-Za-z0-9_./=:@%+,-]+$/.test(word) ? word : `'${word.replace(/'/g, "'\\''")}'`;
 }
 
 // Reads the report's document, checks it against what docs/report.schema.json says, and makes of it the campaign that the page shows.
@@ -1047,20 +1053,27 @@ function contradictions(told) {
 }
 
 /**
- * The document, checked. A version that this page doesn't know is refused, members that it doesn't know are passed over.
- * @param {string} json
+ * What a JSON text has, checked. A version that this page doesn't know is refused, members that it doesn't know are passed over.
+ * @param {string} json @param {number} version @param {Check} check @param {string} name
  */
-function readDocument(json) {
+function readChecked(json, version, check, name) {
   let told;
   try {
     told = JSON.parse(json);
   } catch (error) {
     throw new ReadError([`this is no JSON: ${error.message}`]);
   }
-  if (told === null || typeof told !== "object" || Array.isArray(told)) throw new ReadError(["the document isn't an object"]);
-  if (told.version !== VERSION) throw new ReadError([`the document has version ${JSON.stringify(told.version)}, and this page shows version ${VERSION}`]);
-  const problems = report(told, "document");
-  const found = problems.length > 0 ? problems : contradictions(told);
+  if (told === null || typeof told !== "object" || Array.isArray(told)) throw new ReadError([`the ${name} isn't an object`]);
+  if (told.version !== version) throw new ReadError([`the ${name} has version ${JSON.stringify(told.version)}, and this page shows version ${version}`]);
+  const problems = check(told, name);
+  if (problems.length > 0) throw new ReadError(problems);
+  return told;
+}
+
+/** The document, checked. @param {string} json */
+function readDocument(json) {
+  const told = readChecked(json, VERSION, report, "document");
+  const found = contradictions(told);
   if (found.length > 0) throw new ReadError(found);
   return told;
 }
@@ -1692,9 +1705,8 @@ function headline(campaign) {
   const plans = counted(counts.plans, "plan");
   const ended = counts.unresolved === 0 ? "" : `; ${counted(counts.unresolved, "run was", "runs were")} ended without a verdict`;
   if (counts.fail === 0) return `None of ${plans} fails${ended}.`;
-  const ways = campaign.codes.length === 1 ? "in one way" : `in ${campaign.codes.length} ways`;
   const already = clean.verdict === "fail" ? "The run without faults fails already: " : "";
-  return `${already}${grouped(counts.fail)} of ${plans} ${counts.fail === 1 ? "fails" : "fail"}, ${ways}${ended}.`;
+  return `${already}${grouped(counts.fail)} of ${plans} ${counts.fail === 1 ? "fails" : "fail"}${ended}.`;
 }
 
 /**
@@ -1712,7 +1724,7 @@ function kindsByPoint({ plans, names }) {
 function pointsByKinds(kinds, { call }) {
   const groups = new Map();
   for (const [point, tried] of kinds) {
-    if (point === KEEP || point === TEAR) continue;
+    if (point === KEEP) continue;
     const words = listed(tried.map((kind) => wordsOfKind(point, kind)), "or");
     groups.set(words, [...(groups.get(words) ?? []), call(point)]);
   }
@@ -1725,9 +1737,7 @@ function faultsWords(campaign) {
   const groups = pointsByKinds(kinds, campaign);
   const parts = groups.map(([words, points], index) =>
     `${words} at ${index < groups.length - 1 ? listed(points) : groups.length > 1 ? "each other point that is hit" : "any point that is hit"}`);
-  const isTried = (point) => (kinds.get(point) ?? []).some((kind) => kind.startsWith("return"));
-  if (isTried(KEEP)) parts.push("a pending change that the power cut keeps");
-  if (isTried(TEAR)) parts.push("a write of which it keeps the first half alone");
+  if ((kinds.get(KEEP) ?? []).some((kind) => kind.startsWith("return"))) parts.push("a pending change that the power cut keeps");
   return parts.length > 2 ? `${parts.slice(0, -1).join("; ")}; or ${parts[parts.length - 1]}` : parts.join(", or ");
 }
 
@@ -1737,7 +1747,7 @@ function triedToDepth(campaign) {
   if (about.grown.length <= 1) return ["Tried was the run without faults, and no fault."];
   const faults = depth === 1 ? "at most one fault acts" : `at most ${depth} faults act`;
   const sentences = [`Tried was each behaviour in which ${faults}. A fault is ${faultsWords(campaign)}.`];
-  if (onward > 0) sentences.push(`In ${counted(onward, "plan")} more the ${depth === 1 ? "fault" : `last of ${depth} faults`} goes on from then on.`);
+  if (onward > 0) sentences.push(`In ${counted(onward, "plan")} more the ${depth === 1 ? "fault" : `last of ${depth} faults`} acts at each later hit of its point too.`);
   return sentences;
 }
 
@@ -1760,16 +1770,14 @@ function tried(campaign) {
   return sentences;
 }
 
-const BEYOND = "plan with one fault more isn\u2019t";
-const BEYOND_MANY = "plans with one fault more aren\u2019t";
 
 /** Whether it is whole, and what of it isn't. @param {any} campaign @returns {{whole: boolean, sentences: string[]}} */
 function wholeness({ told }) {
   const { growth, counts, unmet = 0 } = told;
   const whole = growth !== null && growth.beyond === 0 && counts.unresolved === 0;
   const sentences = [];
-  if (growth === null) sentences.push("Not whole: without a depth, hits that only a fault leads to, as those of clean-up, get no fault of their own.");
-  else if (growth.beyond > 0) sentences.push(`Not whole: ${counted(growth.beyond, BEYOND, BEYOND_MANY)} tried.`);
+  if (growth === null) sentences.push("Without a depth, hits that only a fault leads to, as those of clean-up, got no fault of their own.");
+  else if (growth.beyond > 0) sentences.push(`${counted(growth.beyond, "plan with one fault more is", "plans with one fault more are")} left for the next depth.`);
   else if (whole) sentences.push("Whole: no run has a hit left for one fault more, so more such faults show nothing else.");
   if (counts.unresolved > 0) sentences.push(endedWords(counts.unresolved, growth !== null && growth.beyond === 0));
   if (growth?.unseen) sentences.push(`Nobody knows the hits of ${counted(growth.unseen, "ended run")}: nothing grew from there.`);
@@ -1786,8 +1794,8 @@ function endedWords(ended, wholeElse) {
 /** What holds only if something else does, and what is never in it. @param {any} campaign */
 function limits({ told }) {
   const sentences = [];
-  if (told.about.told_by === "answers") sentences.push("This was told by answers: it holds of a program that does the same whenever it is answered the same.");
-  sentences.push("Never in it: threads, time, other kinds of faults, other workloads.");
+  if (told.about.told_by === "answers") sentences.push("This rests on recorded runs: it holds of a program that does the same whenever its calls come to the same.");
+  sentences.push("No campaign tries other orders of threads, other times, other kinds of faults or other work for the program.");
   return sentences;
 }
 
@@ -2086,6 +2094,164 @@ class MapView {
   }
 }
 
+// What the loop has added to a page: the program, and a story for each finding and cause. A page of another origin has none.
+
+/** @typedef {{kind: string, mode: string, length: number, begin: number, text: string, more: number}} Side */
+/** @typedef {{name: string, before: Side|null, after: Side|null}} Difference */
+/**
+ * @typedef {{
+ *   scenario: string, verdict: string, words: string, state: string, pending: {what: string, kept: string}[], promised: string[], promised_before: number,
+ *   files: {differences: Difference[], more: number, same: number, unjudged: number}|null, judge: string[], program: string[], hits: string[],
+ *   again: string, further: string[]
+ * }} Story
+ */
+
+const VERSION_TOLD = 1;
+const oneSide = members({ kind: text, mode: text, length: count, begin: count, text, more: count });
+const oneDifference = members({ name: text, before: orNull(oneSide), after: orNull(oneSide) });
+const oneStory = members({
+  scenario: text, verdict: text, words: text, state: text, pending: list(members({ what: text, kept: text })), promised: list(text), promised_before: count,
+  files: orNull(members({ differences: list(oneDifference), more: count, same: count, unjudged: count })),
+  judge: list(text), program: list(text), hits: list(text), again: text, further: list(text),
+});
+const appendix = members({
+  title: text,
+  program: members({ name: text, run: list(text), version: text, files: list(members({ name: text, digest: text, changed: text })) }),
+  date: text, command: text, clean: list(text), stories: list(oneStory),
+});
+
+/** What the loop tells, by scenario. */
+class Appendix {
+  /** @param {any} told */
+  constructor(told) {
+    this.told = told;
+    /** @type {Map<string, Story>} */
+    this.stories = new Map(told.stories.map((story) => [story.scenario === "none" ? "" : story.scenario, story]));
+  }
+
+  /** @param {string} scenario @returns {Story|null} */
+  storyOf(scenario) {
+    return this.stories.get(scenario) ?? null;
+  }
+
+  /** What is known of the hits of a run besides. @param {string} scenario */
+  hitsOf(scenario) {
+    const story = this.storyOf(scenario);
+    return story === null ? { about: scenario === "" ? this.told.clean : [], state: "" } : { about: story.hits, state: story.state };
+  }
+
+  /** The command that makes a run again. @param {string} scenario */
+  again(scenario) {
+    return `${this.told.command} --try ${quoted(scenario === "" ? "none" : scenario)}`;
+  }
+}
+
+/** The appendix, checked. @param {string} json */
+function readAppendix(json) {
+  return new Appendix(readChecked(json, VERSION_TOLD, appendix, "appendix"));
+}
+
+/** A story's words without its verdict, which stands before them. @param {Story} story */
+function wordsOfStory({ verdict, words }) {
+  return words.slice(`${verdict}: `.length);
+}
+
+const STATES = new Map([
+  ["names", "of the changes that weren\u2019t synced yet, the disk keeps those of names, modes and shorter lengths, such as a renamed file, and loses those of contents"],
+  ["contents", "of the changes that weren\u2019t synced yet, the disk keeps those of contents, and loses those of names, modes and shorter lengths, such as a renamed file"],
+  ["live", "nothing is lost: all that the program did is there, as after a kill of the program alone"],
+]);
+
+/** What the power cut did to the changes that were pending. @param {Story} story */
+function cutSentence({ state, pending }) {
+  if (state === "live") return `Then ${STATES.get(state)}.`;
+  if (pending.length === 0) return "Then the power went. Every change was synced, so nothing was lost by that.";
+  if (STATES.has(state)) return `Then the power went: ${STATES.get(state)}.`;
+  if (pending.every(({ kept }) => kept === "lost")) return "Then the power went: all changes that weren\u2019t synced yet are lost.";
+  return "Then the power went: of the changes that weren\u2019t synced yet, the disk keeps some, and loses the others.";
+}
+
+// Draws the story of a failing run: what was pending, what lay there before and after, what was promised, and how the run is made again.
+
+/** @typedef {import("./told.js").Story} Story */
+/** @typedef {import("./told.js").Side} Side */
+
+/** @param {string[]} heads @param {HTMLElement[]} rows @param {string} kind */
+function drawTable(heads, rows, kind) {
+  const head = element("thead", {}, element("tr", {}, ...heads.map((words) => element("th", {}, words))));
+  return element("div", { class: "scroll" }, element("table", { class: kind }, head, element("tbody", {}, ...rows)));
+}
+
+/** @param {Story} story */
+function drawPending(story) {
+  if (story.pending.length === 0) return [element("p", {}, cutSentence(story))];
+  const rows = story.pending.map(({ what, kept }) =>
+    element("tr", { class: kept === "lost" ? "lost" : null }, element("td", {}, element("code", {}, what)), element("td", {}, kept)));
+  return [element("p", {}, cutSentence(story)), drawTable(["change that wasn\u2019t synced yet", "on the disk"], rows, "pending")];
+}
+
+/** @param {Side} side @param {Side|null} other */
+function sideNotes({ kind, mode, length, begin }, other) {
+  const notes = kind === "file" ? [length === 0 ? "empty" : counted(length, "byte")] : [kind];
+  if (begin > 0) notes.push(`shown from byte ${grouped(begin)} on`);
+  if (other !== null && other.mode !== mode) notes.push(`mode ${mode}`);
+  return notes.join(", ");
+}
+
+/** @param {Side|null} side @param {Side|null} other */
+function drawSide(side, other) {
+  if (side === null) return element("td", { class: "muted" }, "isn\u2019t there");
+  const text = `${side.begin > 0 ? "\u2026" : ""}${side.text}${side.text !== "" && side.more > 0 ? "\u2026" : ""}`;
+  return element("td", {}, text === "" ? null : element("code", {}, text), element("div", { class: "muted" }, sideNotes(side, other)));
+}
+
+/** @param {Story} story */
+function drawFiles({ files }) {
+  if (files === null) return [];
+  const same = files.same > 0 ? `${counted(files.same, "other file is", "other files are")} as before the run.` : null;
+  const more = files.more > 0 ? `${counted(files.more, "more name differs", "more names differ")}.` : null;
+  const unjudged = files.unjudged > 0 ? `${counted(files.unjudged, "file differs", "files differ")} into which the judge doesn\u2019t look.` : null;
+  const notes = [more, same, unjudged].filter((note) => note !== null).join(" ");
+  if (files.differences.length === 0) {
+    const none = files.same + files.unjudged === 0;
+    return [element("p", {}, none ? "No file was there, before the run or after it." : "When the judge looked, each file was as before the run.")];
+  }
+  const rows = files.differences.map(({ name, before, after }) =>
+    element("tr", {}, element("th", { scope: "row" }, element("code", {}, name)), drawSide(before, after), drawSide(after, before)));
+  const table = drawTable(["file", "before the run", "after it, when the judge looked"], rows, "files");
+  return [table, ...(notes === "" ? [] : [element("p", { class: "muted" }, notes)])];
+}
+
+/** @param {Story} story */
+function drawPromised({ promised, promised_before: before }) {
+  if (promised.length === 0) return [element("p", {}, "The program had promised nothing by then: it had printed no line.")];
+  const more = before > 0 ? ` (${counted(before, "line")} before these)` : "";
+  return [element("p", {}, `What the program had printed by then, and so had promised${more}:`), preformatted(promised.join("\n"))];
+}
+
+/** @param {Story} story */
+function drawLines({ verdict, files, judge, program }) {
+  const code = verdict.replace(/^fail /, "");
+  if (files !== null) {
+    const said = judge.length > 0 ? [preformatted(judge.join("\n"))] : [];
+    return [element("p", {}, `The judge, which checks what is left, says: ${code}${judge.length > 0 ? ". Its last lines:" : "."}`), ...said];
+  }
+  return program.length > 0 ? [element("p", {}, "The last lines that the program wrote to standard error:"), preformatted(program.join("\n"))] : [];
+}
+
+/** @param {string} command */
+function drawAgainCommand(command) {
+  return element("p", { class: "again" }, "This run again: ", element("code", { class: "command" }, command));
+}
+
+/** @param {Story} story */
+function drawStory(story) {
+  const further = story.further.length > 0 ? [element("ul", {}, ...story.further.map((words) => element("li", {}, words)))] : [];
+  const parts = [...(story.files === null ? [] : drawPending(story)), ...drawFiles(story), ...drawPromised(story), ...drawLines(story), ...further];
+  if (/\(\.\)/.test(story.words)) parts.unshift(element("p", { class: "muted" }, "The file . is the data folder itself, in which the program runs."));
+  return element("div", { class: "story" }, ...parts, drawAgainCommand(story.again));
+}
+
 // Draws the page: what came of a campaign, from its document.
 
 /** @typedef {import("./document.js").Plan} Plan */
@@ -2116,22 +2282,54 @@ function scenarioCode(text) {
 
 // ---- the verdict
 
+/** What the page is about. @param {any} campaign */
+function titleOf({ told, appendix }) {
+  return appendix?.told.title ?? told.label;
+}
+
+/** @param {any} campaign @returns {HTMLElement[]} */
+function drawProgram({ told, appendix }) {
+  if (!appendix) return [];
+  const { title, program: { name, run, version } } = appendix.told;
+  const command = run.length > 0 ? ["Run as ", element("code", {}, run[0]), run.length > 1 ? " \u2026 " : ". "] : [];
+  return [element("p", { class: "muted" }, version === "" ? null : `Version: ${version}. `, ...command,
+    title === told.label ? `Harness: ${name}.` : `Campaign: ${told.label}.`)];
+}
+
+/** The story of a scenario, or null. @param {any} campaign @param {string} scenario */
+function storyOf({ appendix }, scenario) {
+  return appendix?.storyOf(scenario) ?? null;
+}
+
+/**
+ * What a plan or a scenario does: as the loop says it, or else by the names of the points.
+ * @param {any} campaign
+ * @param {number} number
+ * @param {string} scenario
+ */
+function wordsOf(campaign, number, scenario) {
+  const story = storyOf(campaign, scenario);
+  return sentence(story ? wordsOfStory(story) : wordsOfNumbered(campaign, number, scenario));
+}
+
 /** @param {any} campaign */
 function drawHeader(campaign) {
-  const { told } = campaign;
+  const { told, appendix, problems } = campaign;
   const { sentences, whole } = wholeness(campaign);
   const { fail, unresolved } = told.counts;
   const ways = failuresByCode(campaign).map(([code, count]) =>
     element("li", {}, markIcon(markOf({ verdict: "fail", code }, campaign.codes)), `${code}: ${counted(count, "plan")}`));
   return element("header", {},
-    element("p", { class: "kind" }, "Paklour report"),
-    element("h1", {}, told.label),
+    element("p", { class: "kind" }, appendix ? `Paklour report, ${appendix.told.date}` : "Paklour report"),
+    element("h1", {}, titleOf(campaign)),
+    ...drawProgram(campaign),
     element("div", { class: `outcome ${fail > 0 ? "fails" : unresolved > 0 ? "ended" : "passes"}` },
       element("p", { class: "headline" }, headline(campaign)),
       ways.length > 0 ? element("ul", { class: "ways" }, ...ways) : null),
     element("p", {}, ["A plan is one run of the program, with its faults.", ...tried(campaign)].join(" ")),
     element("p", { class: whole ? "whole" : "open" }, sentences.join(" ")),
-    element("p", { class: "muted" }, limits(campaign).join(" ")));
+    element("p", { class: "muted" }, limits(campaign).join(" ")),
+    problems.length > 0 ? element("p", {}, `What the loop adds to this page can\u2019t be read: ${problems.slice(0, 3).join("; ")}.`) : null);
 }
 
 /** Links to the sections that there are. @param {HTMLElement[]} sections */
@@ -2145,8 +2343,9 @@ function drawContents(sections) {
 /** @param {(point: string) => string} call @param {import("./run.js").Hit|null} hit */
 function drawHit(call, hit) {
   if (hit === null) return element("div", { class: "hit muted" }, "\u2013");
-  const answer = answerWords(hit.point, hit.answer);
-  const name = element("span", {}, `${ordinal(hit.ordinal)} ${call(hit.point)}`);
+  const answer = answerWords(hit.point, hit.kept ? "return" : hit.kept === false ? null : hit.answer, hit.about ?? "");
+  const about = hit.about === undefined ? "" : ` (${fileWords(hit.point === KEEP ? hit.about.replace(UNDONE, "") : hit.about)})`;
+  const name = element("span", {}, `${ordinal(hit.ordinal)} ${call(hit.point)}${about}`);
   return element("div", { class: hit.near ? "hit near" : "hit" }, name, ...(answer === null ? [] : [" ", element(isFault(hit.answer) ? "b" : "span", {}, answer)]));
 }
 
@@ -2163,7 +2362,7 @@ function drawLine(call, { here, there, same, fault }, beside) {
 
 /** @param {(point: string) => string} call @param {{lines: any[]}} piece @param {boolean} beside */
 function drawFold(call, { lines }, beside) {
-  const button = element("button", { type: "button", class: "more" }, `${lines.length} hits go on, the same${beside ? " in both" : ""}`);
+  const button = element("button", { type: "button", class: "more" }, `${lines.length} hits${beside ? " that are the same in both" : " without a fault"}`);
   const row = element("tr", { class: "fold" }, element("td", { class: "number" }, "\u22ee"), element("td", { colspan: beside ? "3" : null }, button));
   button.addEventListener("click", () => row.replaceWith(...lines.map((line) => drawLine(call, line, beside))));
   return row;
@@ -2185,18 +2384,18 @@ function besideWords({ scenario }) {
 
 /** @param {any} campaign @param {import("./run.js").Run} run @param {import("./run.js").Run|null} other */
 function drawHits(campaign, run, other) {
-  const { names, call } = campaign;
+  const { names, call, appendix } = campaign;
   const beside = other !== null;
-  const lines = linesOf(run, other, names);
+  const lines = linesOf(run, other, names, appendix ? (scenario) => appendix.hitsOf(scenario) : undefined);
   const pieces = foldLines(beside ? lines : lines.map((line) => ({ ...line, same: true })));
   const rows = pieces.map((piece) => (piece.fold ? drawFold(call, piece, beside) : drawLine(call, piece.line, beside)));
   const head = (words) => [element("th", { class: "number" }, "hit"), element("th", {}, words)];
   const heads = element("thead", {}, element("tr", {}, ...head("this run"), ...(other ? head(besideWords(other)) : [])));
   const files = [...filesOfFaults(lines)];
   const notes = [
-    files.length > 0 ? `In bold: hits of the same file as ${files.length === 1 ? "the fault\u2019s" : "a fault\u2019s"}, ${listed(files)}.` : null,
+    files.length > 0 ? `In bold: hits of the same file as ${files.length === 1 ? "the fault\u2019s" : "a fault\u2019s"}, ${listed(files.map(fileWords))}.` : null,
     lines.some(({ here, there }) => here?.point === KEEP || there?.point === KEEP)
-      ? "A pending change is one that no sync has made last. A power cut may keep any of them." : null,
+      ? "What is asked for at the power cut wasn\u2019t synced yet, so the disk may keep or lose it." : null,
     run.more > 0 ? `${counted(run.more, "further hit")} of this run ${run.more === 1 ? "isn\u2019t" : "aren\u2019t"} told.` : null,
     endWords(run),
   ];
@@ -2231,13 +2430,15 @@ function endWords({ end }) {
 
 /** @param {any} campaign @param {any} finding @param {number} index */
 function drawFinding(campaign, finding, index) {
+  const story = storyOf(campaign, finding.reduced);
   const planned = finding.reduced === finding.scenario ? null
     : element("p", { class: "muted" }, `Reduced, in ${counted(finding.tests, "test")}, from `, scenarioCode(finding.scenario));
   return element("article", { id: `first-${finding.number}`, class: "finding" },
     element("h3", {}, verdictMark(campaign, { verdict: "fail", code: finding.code }), ", ", planLink(finding.number)),
-    element("p", { class: "words" }, sentence(wordsOfNumbered(campaign, finding.number, finding.reduced))),
+    element("p", { class: "words" }, wordsOf(campaign, finding.number, finding.reduced)),
     element("p", {}, scenarioCode(finding.reduced)),
     planned,
+    story ? drawStory(story) : null,
     drawRun(campaign, { number: finding.number, scenario: finding.reduced }, index === 0));
 }
 
@@ -2254,23 +2455,24 @@ function drawFindings(campaign) {
 /** @param {any} campaign @param {any} cause */
 function drawCause(campaign, cause) {
   const mark = verdictMark(campaign, { verdict: "fail", code: cause.code });
+  const story = storyOf(campaign, cause.scenario);
   return element("li", { id: `cause-${cause.number}` },
-    element("p", {}, mark, ", ", planLink(cause.number), ": ", sentence(wordsOfNumbered(campaign, cause.number, cause.scenario))),
+    element("p", {}, mark, ", ", planLink(cause.number), ": ", wordsOf(campaign, cause.number, cause.scenario)),
     scenarioCode(cause.scenario),
+    story ? element("details", {}, element("summary", {}, "What was left"), drawStory(story)) : null,
     drawRun(campaign, cause, false));
 }
 
 /** @param {any} campaign @param {string[]} points */
 function groupWords({ call }, points) {
-  const calls = points.filter((point) => point !== KEEP && point !== TEAR).map(call);
-  const kept = points.includes(KEEP) || points.includes(TEAR) ? "what the power cut keeps" : null;
-  return listed([...calls, ...(kept ? [kept] : [])]) || "no fault";
+  const calls = points.filter((point) => point !== KEEP).map(call);
+  return listed([...calls, ...(points.includes(KEEP) ? ["what the power cut keeps"] : [])]) || "no fault";
 }
 
 /** @param {{depth: number, causes: any[]}} growth */
 function causesWords({ depth, causes }) {
-  const what = causes.length === 1 ? "One failing plan doesn\u2019t fail so without any one of its faults."
-    : `${grouped(causes.length)} failing plans don\u2019t fail so without any one of their faults.`;
+  const what = causes.length === 1 ? "One failing plan needs each of its faults: without any one of them it doesn\u2019t fail so."
+    : `${grouped(causes.length)} failing plans need each of their faults: without any one of them they don\u2019t fail so.`;
   return `${what} Each plan with at most ${counted(depth, "fault")} that fails has the faults of one of these.`;
 }
 
@@ -2335,13 +2537,14 @@ function mapWords({ told }) {
 function drawChosen(campaign, number) {
   const plan = campaign.plans[number];
   if (!plan) return [element("p", {}, `Plan ${number} isn\u2019t in this campaign.`)];
+  const story = storyOf(campaign, plan.text);
   return [
     element("h3", {}, `Plan ${number} `, verdictMark(campaign, plan)),
-    element("p", { class: "words" }, sentence(planWords(campaign, plan))),
+    element("p", { class: "words" }, wordsOf(campaign, number, plan.text)),
     element("p", {}, scenarioCode(plan.text)),
     plan.parent === null ? null : element("p", {}, "It grew from ", planLink(plan.parent), "."),
     drawDescendants(campaign, number),
-    element("p", {}, "Again, hit by hit: ", element("code", {}, explainCommand(campaign.told.about, plan))),
+    story ? drawStory(story) : drawAgainCommand(campaign.appendix?.again(plan.text) ?? explainCommand(campaign.told.about, plan)),
     drawRun(campaign, { number, scenario: plan.text }, true),
   ].filter((child) => child !== null);
 }
@@ -2376,7 +2579,7 @@ function drawPoints(campaign) {
     element("tr", {}, element("td", {}, element("code", {}, point)), cell(clean), grown ? cell(reached ?? 0) : null, cell(failures.get(point) ?? 0)));
   const heads = ["point", "hits without faults", ...(grown ? ["most hits of any run"] : []), "failing plans with a fault there"];
   return section("Points", "points",
-    element("p", { class: "muted" }, grown ? "Of a point that no run hits this campaign says nothing." : "A point without hits gets no fault here."),
+    element("p", { class: "muted" }, grown ? "A point that no run hits got no fault." : "A point that the run without faults doesn\u2019t hit got no fault."),
     element("div", { class: "scroll" }, element("table", { class: "points" },
       element("thead", {}, element("tr", {}, ...heads.map((head, index) => element("th", { class: index > 0 ? "number" : null }, head)))),
       element("tbody", {}, ...rows))));
@@ -2439,11 +2642,20 @@ function drawPlans(campaign) {
 
 // ---- again
 
+/** The program that was tested, and the command of the campaign. @param {any} appendix @returns {[string, string][]} */
+function itemsOfLoop(appendix) {
+  if (!appendix) return [];
+  const { program, date, command } = appendix.told;
+  const files = program.files.map(({ name, digest, changed }) => ["program\u2019s file", `${name}, SHA-256 ${digest}\u2026, changed ${changed}`]);
+  const version = program.version === "" ? [] : [["program\u2019s version", program.version]];
+  return [["program, run as", program.run.join("\n")], ...version, ...files, ["date", date], ["campaign by", command]];
+}
+
 /** @param {any} campaign */
-function drawAgain({ told: { seed, about } }) {
-  const items = [["seed", seed], ["program", `paklour ${about.program_version}`], ["command", about.command]];
-  const rows = items.map(([name, value]) =>
-    element("tr", {}, element("th", { scope: "row" }, name), element("td", {}, element("code", {}, value))));
+function drawAgain({ told: { seed, about }, appendix }) {
+  const items = [...itemsOfLoop(appendix), ["seed", seed], ["report by", `paklour ${about.program_version}`], ["command", about.command]];
+  const lines = (value) => value.split("\n").map((line) => element("div", {}, element("code", {}, line)));
+  const rows = items.map(([name, value]) => element("tr", {}, element("th", { scope: "row" }, name), element("td", {}, ...lines(value))));
   return section("Make it again", "again",
     element("table", {}, element("tbody", {}, ...rows)),
     element("p", { class: "muted" }, "Settings, as they stand in FILE:"),
@@ -2500,13 +2712,24 @@ function drawError(error) {
     element("p", {}, "Its text stands below."));
 }
 
+/** What the loop has added, or null. If it can't be read, the report is shown without it. */
+function appendixInPage() {
+  const added = document.getElementById("told-by-the-loop");
+  try {
+    return { appendix: added && readAppendix(added.textContent), problems: [] };
+  } catch (error) {
+    if (!(error instanceof ReadError)) throw error;
+    return { appendix: null, problems: error.problems };
+  }
+}
+
 /** Shows the report that stands in this page. The text that is there without a script is folded then. */
 function start() {
   try {
-    const campaign = campaignOf(readDocument(document.getElementById("document").textContent));
+    const campaign = { ...campaignOf(readDocument(document.getElementById("document").textContent)), ...appendixInPage() };
     drawPage(campaign);
     requestIdleCallback(() => loweredTexts(campaign));
-    document.title = shown(`${campaign.told.label} \u2013 Paklour`);
+    document.title = shown([titleOf(campaign), ...(campaign.appendix ? [campaign.appendix.told.date] : []), "Paklour"].join(" \u2013 "));
     document.getElementById("brief").open = false;
   } catch (error) {
     drawError(error);
