@@ -23,7 +23,6 @@ No line of it is longer than 100 letters, as has just been seen. It says what ea
         --json      Write the report as a JSON document, for programs that read it
         --junit     Write JUnit's XML, with a case for each plan
         --strict    Warn on standard error about gaps in the report, and then end with 5
-        --recheck   For your own target: run failing plans again, and refuse it if a verdict changes
         --progress  Show on standard error how far it is; --progress=plain: in lines, for logs
     -h, --help      Print help
   

@@ -551,3 +551,17 @@ From here on the program itself is needed.
   $ printf '%s\n' 'target = "outside"' 'depth = 1' '[outside]' 'label = "a row"' 'codes = []' 'points = ["a"]' > row.toml
   $ line pass none '32767*a' | paklour asks row.toml | wc -l
   65534
+
+Runs that hit a point thousands of times are compared by what they have in common, and not hit by hit. After all runs of 16,000 hits with one fault the
+onward plans are left: one for each hit but the last. Hit by hit these are 400 million comparisons, which takes longer than this allows.
+
+  $ python3 - << 'END' > long
+  > count = lambda hits: "a" if hits == 1 else f"{hits}*a"
+  > print(f"pass\tnone\t{count(16000)}")
+  > for hit in range(1, 16001):
+  >     before = f"{hit - 1}*off->" if hit > 1 else ""
+  >     print(f"pass\ta={before}1*return\t{count(16000)}")
+  >     print(f"pass\ta={before}1*panic\t{count(hit)}")
+  > END
+  $ (ulimit -t 15; paklour asks row.toml < long | wc -l)
+  15999

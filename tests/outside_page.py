@@ -5,8 +5,8 @@
 
 `paklour` has to be on the PATH, and outside/ built. Of a page the part below HEADING is performed, or, where none is named, all of it.
 In one folder for all of them a block that begins with `#!` becomes the file that its second line names, one of `toml` with a name in its first line that file, and each
-other block of `sh` is run; those that run an example of outside/ aren't: tools/page_rules holds them to their reports. Behind a command, a comment is
-a line that the block writes, up to `, and so on`. A block without a language shows how standard output ends that was written last, or lines of standard
+other block of `sh` is run. Those that run an example of outside/ aren't, which tools/page_rules holds to their reports, nor those that certify findings, which
+take minutes and root: the tests of outside/ do that. Behind a command, a comment is a line that the block writes, up to `, and so on`. A block without a language shows how standard output ends that was written last, or lines of standard
 error, in any order; and a report's line that the text names, as `beyond 2`, is one that was written last. Prints each difference, and at last how
 many things were compared. Fails where something differs.
 """
@@ -18,7 +18,7 @@ import tempfile
 
 TOP = os.path.normpath(os.path.join(os.path.dirname(os.path.abspath(__file__)), ".."))
 NAMED = re.compile(r"`((?:clean|counts|first) [^`\n]+|(?:census|depth|level|onward|beyond|reached|plans|causes) [^`\n]*\d)`")
-LEFT_OUT = "outside/examples/"
+LEFT_OUT = re.compile("outside/examples/|--certify")
 
 
 class Reader:
@@ -44,7 +44,7 @@ class Reader:
             self.file(re.match(r".*\n# (\S+)", text)[1], text)
         elif language == "toml" and text.startswith("# "):
             self.file(text.split()[1], text)
-        elif language == "sh" and LEFT_OUT in text:
+        elif language == "sh" and LEFT_OUT.search(text):
             self.wrote = None
         elif language == "sh":
             self.run(text)

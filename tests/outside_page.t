@@ -8,13 +8,15 @@ The mended program has the rename behind the fsync of the file. What is pending 
 cut". Two faults deep it has
 
 - none behind an open that fails or ends the run, as Python ends there with nothing changed;
-- behind each of two ways in which the write fails, the next write in four ways, and the name `new` and its contents are pending: 12;
+- behind each of two ways in which the write fails, the next write in four ways, and the name `new` is asked for: 10. Without it the contents aren't;
 - behind a write that does half, the next write in four ways, and each later hit in two: 10; where the write ends the run, the name: 1;
-- 4 behind the fsync of the file, 2 behind the rename, whose `new` isn't synced by its folder yet, and 4 behind the fsync of the folder.
+- the name behind the fsync of the file: 2. That fsync makes it last, so nothing is asked for behind the rename. Behind the fsync of the folder it is the rename,
+then each of its two ends alone, as the fsync of the file may take along a rename in its folder: 6.
 
-These are 33. From then on there are the 3 of one fault; 6 in which the second write fails in another way than the first; and 6 where two changes are left, behind
-two of the writes and both fsyncs: 15. With 14 of one fault and plan 0 all are 63. The script's settings have two kinds at each hit: 12 plans of one fault, 15 of two
-(4 and 1 behind the write, 4, 2 and 4 behind the others) and 6 from then on: 34.
+These are 29. From then on there are the 3 of one fault; 6 in which the second write fails in another way than the first; and 6 where something more is asked for
+behind what is kept: the length behind the name, for two of the writes and the fsync of the file, and the second end of the rename behind the first: 15. With 14 of
+one fault and plan 0 all are 59. The script's settings have two kinds at each hit: 12 plans of one fault, 12 of two (3 and 1 behind the write, 2 and 6 behind the
+fsyncs) and 6 from then on: 31.
 
   $ pages() { "$TESTDIR/outside_page.py" "${1:-$TESTDIR/../docs/TUTORIAL.md}" "${2:-$TESTDIR/../docs/OUTSIDE.md}#By a script" "$TESTDIR/../docs/HARNESS.md#The harness"; }
   $ pages
@@ -37,6 +39,6 @@ Pages that show otherwise: a comment, a report's end, what is told, lines that t
   $ sed 's/^paklour-loop --depth 2 saving/paklour-loop --none saving/' "$TESTDIR/../docs/TUTORIAL.md" > tutorial.md
   $ pages tutorial.md
   ended with 2: paklour-loop --none saving
-  shows otherwise: plans 63
+  shows otherwise: plans 59
   16 compared, 2 differ
   [1]

@@ -57,23 +57,23 @@ What a page shows of a report that stands in this repository, and what a table t
   page.md: outside/examples/dovecot/report has 175 plans, failing none: dovecot
 
 Of a loop over an example of outside/: the lines that are shown, of which `..` stands for some, and those that the text names. Three faults deep SQLite
-has 1,119 plans, and 217 causes are the last that is told.
+has 1,119 plans, and one cause is the last that is told.
 
   $ printf '%s\n' '```sh' 'paklour-loop --settings ../paklour/outside/examples/sqlite/extra.toml ../paklour/outside/examples/sqlite' '```' '' > begin.md
   $ shown() { { cat begin.md; printf '%s\n' "$1" '```' "$2" '..' "$3" '..' '```' "$4"; } > page.md; rules; }
-  $ shown 'Of `plans 1119`' 'tests 3' 'causes 217' '| `sqlite` | three deep (`extra.toml`) | 1,119 | 1 lost, 222 corrupt |'
-  $ shown 'Of `plans 1118`' 'tests 3' 'causes 217' '`level 3 537`, `census TRACE`, and `level 3 536`'
+  $ shown 'Of `plans 1119`' 'tests 1' 'causes 1' '| `sqlite` | three deep (`extra.toml`) | 1,119 | 3 lost |'
+  $ shown 'Of `plans 1118`' 'tests 1' 'causes 1' '`level 3 537`, `census TRACE`, and `level 3 536`'
   pages:
   page.md: outside/examples/sqlite/extra.report has no line plans 1118
   page.md: outside/examples/sqlite/extra.report has no line level 3 537
-  $ shown '' 'causes 217' 'tests 3' '| `sqlite` | three deep (`extra.toml`) | 1,119 | 2 lost, 222 corrupt |'
+  $ shown '' 'causes 1' 'tests 1' '| `sqlite` | three deep (`extra.toml`) | 1,119 | 2 lost |'
   pages:
-  page.md: outside/examples/sqlite/extra.report ends otherwise: causes 217
-  page.md: outside/examples/sqlite/extra.report has 1119 plans, failing 1 lost, 222 corrupt: sqlite
+  page.md: outside/examples/sqlite/extra.report ends otherwise: causes 1
+  page.md: outside/examples/sqlite/extra.report has 1119 plans, failing 3 lost: sqlite
   $ { cat begin.md; printf '%s\n' '**2. Another**' 'has `plans 7`'; } > page.md; rules
-  $ { cat begin.md; printf '%s\n' '```' 'tests 3' '```'; } > page.md; rules
+  $ { cat begin.md; printf '%s\n' '```' 'tests 1' '```'; } > page.md; rules
   pages:
-  page.md: outside/examples/sqlite/extra.report ends otherwise: tests 3
+  page.md: outside/examples/sqlite/extra.report ends otherwise: tests 1
 
 How many plans a depth has: tests/sizes.t has 13, 21 and 21 of a small replacement, of which nothing is left from depth 2 on, and 13, 23 and 25 of
 `ignore_sync`, from depth 3 on.

@@ -68,6 +68,8 @@ Where the other shells are installed, they read their own.
   $ ls here/usr/lib/paklour here/usr/share/doc/paklour
   here/usr/lib/paklour:
   census
+  cut
+  disks
   harness
   loop
   new

@@ -119,20 +119,6 @@ A failing plan's status is 1 all the same, what is refused 2, and a failed write
   $ paklour page --strict small.toml 2>&1 | head -n 1
   error: unexpected argument '--strict' found
 
-`run --recheck` is for a target of one's own, whose failing plans it runs again. A bundled target is proved to say the same twice: no plan of it
-is run again, and its report and its status are those of `run`.
-
-  $ paklour run flawed.toml > plain
-  [1]
-  $ paklour run --recheck flawed.toml > again
-  [1]
-  $ cmp plain again
-  $ paklour run --recheck --strict all.toml > again
-  $ paklour run all.toml | cmp - again
-  $ sed '2a pears = true' small.toml | paklour run --recheck
-  settings: unknown key pears
-  [2]
-
 `report --strict` tells of a component that somebody else runs what settings and answers say: unresolved answers, and points that aren't hit
 without faults; which points the other runs reach, no answer tells. Names that no point has are told by `asks` and `report` in any case, of
 the scenarios that settings list, numbered from 0 as where one is refused, and of the lines of answers, numbered from 1.

@@ -85,9 +85,9 @@ What words ask for
 The version stands on a line of its own, as the constant `VERSION` of command_words has it.
 
   $ paklour --version
-  paklour 0.5.0
+  paklour 0.7.0
   $ paklour -V
-  paklour 0.5.0
+  paklour 0.7.0
 
 Two commands take their settings from a file alone, since standard input has the answers of a component that somebody else runs.
 
@@ -167,7 +167,7 @@ What is wrong is told on standard error, and nothing is on standard output.
   error: the argument '--brief' cannot be used with '--page'
   $ refused report --page --page f
   error: the argument '--page' cannot be used multiple times
-  $ refused report --recheck f
+  $ refused run --recheck f
   error: unexpected argument '--recheck' found
   $ refused run --page f
   error: unexpected argument '--page' found

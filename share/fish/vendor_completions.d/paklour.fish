@@ -15,7 +15,6 @@ complete -c paklour -n '__fish_seen_subcommand_from run' -l brief -d 'Count verd
 complete -c paklour -n '__fish_seen_subcommand_from run' -l json -d 'Write the report as a JSON document, for programs that read it'
 complete -c paklour -n '__fish_seen_subcommand_from run' -l junit -d 'Write JUnit\'s XML, with a case for each plan'
 complete -c paklour -n '__fish_seen_subcommand_from run' -l strict -d 'Warn on standard error about gaps in the report, and then end with 5'
-complete -c paklour -n '__fish_seen_subcommand_from run' -l recheck -d 'For your own target: run failing plans again, and refuse it if a verdict changes'
 complete -c paklour -n '__fish_seen_subcommand_from run' -l progress -d 'Show on standard error how far it is; --progress=plain: in lines, for logs'
 complete -c paklour -n '__fish_seen_subcommand_from run' -s h -l help -d 'Print help'
 complete -c paklour -n '__fish_seen_subcommand_from run' -k -a '(__fish_complete_suffix .toml)'
