@@ -5,7 +5,7 @@ use Rattle.std.specs.List.{range_with_len}
 use Rattle.std.proofs.lemmas.List.{get_or-map, length-map}
 use Rattle.std.proofs.lemmas.List.FromFn.{length-range_with_len}
 use Rattle.std.proofs.lemmas.Bool.Decides.{nat_tests}
-use Rattle.std.proofs.lemmas.Option.{get_or_from_slice_get}
+use Rattle.std.proofs.lemmas.Option.{get_or_from_slice_get, slice_get-get_or, slice_get_within}
 use Rattle.scenario_values.specs.Scenario.{Entries, all_faults}
 use Rattle.scenario_values.specs.Keep.{are_faults}
 use Rattle.scenario_values.proofs.Sets.{all_are_faults, without_are_faults}
@@ -17,9 +17,11 @@ use Rattle.result_book.specs.Verdicts.{numbered, verdicts_from}
 use Rattle.result_book.specs.FirstFailures.{first_failures, AreFirstFailures}
 use Rattle.result_book.specs.FirstFailure.{FailsAt}
 use Rattle.result_book.proofs.EachCodeLemmas.{firsts_of}
+use Rattle.result_book.proofs.SlotLemmas.{length_verdicts}
 use Rattle.report.specs.Reports.{FindingFacts, GrowthFacts}
 use Rattle.campaign_core.specs.promises.Told.{Told, HasVerdict}
-use Rattle.campaign_core.specs.promises.Promises.{IsReduced, without}
+use Rattle.campaign_core.specs.promises.Promises.{IsFirst}
+use Rattle.campaign_core.specs.promises.Further.{Further, IsOfItsNumber, IsReduction, without}
 use Rattle.campaign_core.specs.FaultTest.{fails_with}
 use Rattle.campaign_core.specs.Findings.{finding, report_of, IsMinimal, ReducesToMinimal}
 use Rattle.campaign_core.specs.Headline.{Campaign, grower, say}
@@ -44,14 +46,11 @@ without_one asked code s m fault low =
     (right_fails (are_faults (all_faults s) (remove all fault)) (fails_with code (asked (without fault s)))
     (without_are_faults (all_faults s) fault all (all_are_faults (all_faults s))) (m.1.each fault (omega (arith, low, size))))
 
--- a verdict by its number is that of the plan of this number
-said_at : (asked : ℕ → Entries → Verdict) (from : ℕ) (entries : List Entries) (n : ℕ) (v : Verdict) → slice_get (verdicts_from asked from entries) n ≡ Some v
-    → asked (from + n) (slice_index_or entries n []) ≡ v
-said_at asked from [] n v e = absurd cc
-said_at asked from (x ∷ entries) zero v e =
-    ap (λ (k : ℕ). asked k x) (let none : from + 0 ≡ from = omega arith in none) ∙ (let same : asked from x ≡ v = cc in same)
-said_at asked from (x ∷ entries) (suc n) v e =
-    ap (λ (k : ℕ). asked k (slice_index_or entries n [])) (let more : from + suc n ≡ from + 1 + n = omega arith in more) ∙ said_at asked (from + 1) entries n v e
+-- the verdict of the plan of a number is the one by that number
+pub verdict_at : (say : ℕ → Entries → Verdict) (from : ℕ) (entries : List Entries) (n : ℕ) (s : Entries) → slice_get entries n ≡ Some s → slice_get (verdicts_from say from entries) n ≡ Some (say (from + n) s)
+verdict_at say from [] n s e = absurd cc
+verdict_at say from (x ∷ entries) zero s e = ap (λ (y : Entries). Some (say from y)) (let same : x ≡ s = cc in same) ∙ ap (λ k. Some (say k s)) (let goal : from ≡ from + 0 = omega arith in goal)
+verdict_at say from (x ∷ entries) (suc n) s e = verdict_at say (from + 1) entries n s e ∙ ap (λ k. Some (say k s)) (let goal : from + 1 + n ≡ from + suc n = omega arith in goal)
 
 at_number : (vs : List Verdict) (n code : ℕ) → FailsAt vs n code → slice_get vs n ≡ Some (verdict.Fail code)
 at_number [] n code e = absurd cc
@@ -70,23 +69,16 @@ module _ (c : Campaign) (label counts : List ℕ) (entries : List Entries) (grow
   are = firsts_of told.report.verdicts
 
   -- what is reported of the first failure at a place
-  pub reduced_at : (n : ℕ) (none : FindingFacts) → n < length told.report.findings → IsReduced (grower c) told (slice_index_or told.report.findings n none)
-  reduced_at n none low =
+  pub first_at : (n : ℕ) (none : FindingFacts) → n < length told.report.findings → IsFirst told (slice_index_or told.report.findings n none)
+  first_at n none low =
       let size = length-map firsts (finding (say c) entries) in
       let inside : n < length firsts = omega (arith, low, size) in
       let first : ℕ × ℕ = slice_index_or firsts n (0, 0) in
-      let f : FindingFacts = finding (say c) entries first in
-      let here : slice_index_or told.report.findings n none ≡ f = get_or-map (finding (say c) entries) firsts n (0, 0) none inside in
+      let here : slice_index_or told.report.findings n none ≡ finding (say c) entries first = get_or-map (finding (say c) entries) firsts n (0, 0) none inside in
       let least = are.least n (0, 0) inside in
-      let reduces : ReducesToMinimal (say c) f = subst (ReducesToMinimal (say c)) here (minimal n none low) in
-      subst (IsReduced (grower c) told) (sym here) (record {
+      subst (IsFirst told) (sym here) (record {
         fails = at_number told.report.verdicts first.0 first.1 least.0;
-        scenario_fails =
-            ap (λ (n : ℕ). say c n f.scenario) (let none : first.0 ≡ 0 + first.0 = omega arith in none)
-            ∙ said_at (say c) 0 entries first.0 (verdict.Fail first.1) (at_number told.report.verdicts first.0 first.1 least.0);
         least = λ other less comes. least.1 other less (get_or_from_slice_get told.report.verdicts other (verdict.Fail first.1) verdict.Pass comes);
-        reduced_fails = own_code first.1 (say c first.0 f.reduced) reduces.0;
-        minimal = without_one (say c first.0) first.1 f.reduced reduces;
       })
 
   pub found_of : (number code : ℕ) → HasVerdict told number (verdict.Fail code) → (f : FindingFacts) × Contains told.report.findings f × (f.code ≡ code)
@@ -101,3 +93,30 @@ module _ (c : Campaign) (label counts : List ℕ) (entries : List Entries) (grow
       let a = get_or-map (finding (say c) entries) firsts i (0, 0) none (omega (arith, less, inside)) in
       let b = get_or-map (finding (say c) entries) firsts j (0, 0) none inside in
       λ same. are.distinct i j (0, 0) less inside (sym (ap (λ (f : FindingFacts). f.code) a) ∙ same ∙ ap (λ (f : FindingFacts). f.code) b)
+
+  -- ---- scenarios
+
+  judged_at : (number : ℕ) (s : Entries) → slice_get entries number ≡ Some s → HasVerdict told number (say c number s)
+  judged_at number s at = verdict_at (say c) 0 entries number s at ∙ ap (λ (n : ℕ). Some (say c n s)) (let none : 0 + number ≡ number = omega arith in none)
+
+  pub reduction_at : (n : ℕ) (none : FindingFacts) → n < length told.report.findings → IsReduction (grower c) entries told (slice_index_or told.report.findings n none)
+  reduction_at n none low =
+      let size = length-map firsts (finding (say c) entries) in
+      let inside : n < length firsts = omega (arith, low, size) in
+      let first : ℕ × ℕ = slice_index_or firsts n (0, 0) in
+      let f : FindingFacts = finding (say c) entries first in
+      let here : slice_index_or told.report.findings n none ≡ f = get_or-map (finding (say c) entries) firsts n (0, 0) none inside in
+      let reduces : ReducesToMinimal (say c) f = subst (ReducesToMinimal (say c)) here (minimal n none low) in
+      let fails = at_number told.report.verdicts first.0 first.1 (are.least n (0, 0) inside).0 in
+      let within : first.0 < length told.report.verdicts = slice_get_within told.report.verdicts first.0 (verdict.Fail first.1) fails in
+      let counted = length_verdicts (say c) 0 entries in
+      subst (IsReduction (grower c) entries told) (sym here) (record {
+        scenario = slice_get-get_or entries first.0 [] (omega (arith, within, counted));
+        kept_are = refl;
+        tests = refl;
+        fails = own_code first.1 (say c first.0 f.reduced) reduces.0;
+        minimal = without_one (say c first.0) first.1 f.reduced reduces;
+      })
+
+  pub further : All (IsOfItsNumber entries) grew.causes → Further (grower c) entries told
+  further causes = record { all_told = length_verdicts (say c) 0 entries; judged = judged_at; findings = reduction_at; causes = causes }

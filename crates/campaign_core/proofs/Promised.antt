@@ -26,25 +26,21 @@ use Rattle.report.specs.Reports.{FindingFacts, CauseFacts, GrowthFacts}
 use Rattle.campaign_core.specs.Headline.{Campaign, census, grower, plans, plans_to, say, growth, report, told_in, EachIsMinimal, KeepsPromises}
 use Rattle.campaign_core.specs.Findings.{cause_of, finding, growth_of, reduction, IsCauseAmong, ReducesToMinimal}
 use Rattle.campaign_core.proofs.Causes.{causes_are_causes}
-use Rattle.campaign_core.proofs.Findings.{found_of, once_each, reduced_at}
+use Rattle.campaign_core.proofs.Findings.{first_at, found_of, further, once_each, reduction_at, verdict_at}
 use Rattle.campaign_core.specs.promises.Behaviours.{times_hit}
 use Rattle.campaign_core.specs.promises.Told.{HasVerdict, Told}
-use Rattle.campaign_core.specs.promises.Promises.{Complete, HasFewest, IsReduced, Promises, Sound, nothing_unseen}
+use Rattle.campaign_core.specs.promises.Promises.{Complete, HasFewest, IsFirst, Promises, Sound, nothing_unseen}
 use Rattle.campaign_core.specs.promises.Promises.{IsCause as IsToldCause}
+use Rattle.campaign_core.specs.promises.Further.{Further, IsOfItsNumber, IsReduction}
 use Rattle.campaign_core.proofs.PromisesLemmas.Failures.{of_level, has_cause, fewest}
 use Rattle.campaign_core.proofs.PromisesLemmas.Least.{no_lesser}
 use Rattle.campaign_core.proofs.PromisesLemmas.Numbers.{get_front, get_map}
+use Rattle.grown_plans.proofs.Levels.{level_grown}
+use Rattle.campaign_core.proofs.PromisesLemmas.ByLevel.{by_level, levels_flat}
 use Rattle.campaign_core.proofs.PromisesLemmas.Counted.{level_sizes as sizes_of_levels, size_beyond}
 use Rattle.campaign_core.proofs.PromisesLemmas.Facts.{at_point, census_counts, first_level, long_range, reached_by, without_faults}
 use Rattle.campaign_core.proofs.PromisesLemmas.KeepsEach.{keeps_each}
-use Rattle.campaign_core.proofs.PromisesLemmas.Grew.{Grew, IsCauseOf, all_numbers, behaves_at, counted, twice, skipped_none, told_behaves, told_judged, whole_told, onward_told, most_reached}
-
--- ---- verdicts by numbers
-
-pub verdict_at : (say : ℕ → Entries → Verdict) (from : ℕ) (entries : List Entries) (n : ℕ) (s : Entries) → slice_get entries n ≡ Some s → slice_get (verdicts_from say from entries) n ≡ Some (say (from + n) s)
-verdict_at say from [] n s e = absurd cc
-verdict_at say from (x ∷ entries) zero s e = ap (λ (y : Entries). Some (say from y)) (let same : x ≡ s = cc in same) ∙ ap (λ k. Some (say k s)) (let goal : from ≡ from + 0 = omega arith in goal)
-verdict_at say from (x ∷ entries) (suc n) s e = verdict_at say (from + 1) entries n s e ∙ ap (λ k. Some (say k s)) (let goal : from + 1 + n ≡ from + suc n = omega arith in goal)
+use Rattle.campaign_core.proofs.PromisesLemmas.Grew.{Grew, IsCauseOf, all_numbers, behaves_at, counted, twice, skipped_none, lists as as_lists, told_behaves, told_judged, whole_told, onward_told, most_reached}
 
 -- ---- causes that are listed
 
@@ -176,11 +172,13 @@ module _ (k : Campaign) (d : ℕ) (is_depth : Some d ≡ k.given.depth) (l : IsL
       let f : FindingFacts = finding (say k) (plans k) first in
       let size = length-map firsts (finding (say k) (plans k)) in
       let here : slice_index_or (report k).findings n none ≡ f = get_or-map (finding (say k) (plans k)) firsts n (0, 0) none (omega (arith, low, size)) in
-      let is : IsReduced (grower k) told f = subst (IsReduced (grower k) told) here (reduced_at k k.label (census k) (plans k) (growth k) told.growth told.behaviours minimal n none low) in
+      let is : IsFirst told f = subst (IsFirst told) here (first_at k k.label (census k) (plans k) (growth k) told.growth told.behaviours minimal n none low) in
+      let reduction_is : IsReduction (grower k) (plans k) told f =
+      subst (IsReduction (grower k) (plans k) told) here (reduction_at k k.label (census k) (plans k) (growth k) told.growth told.behaviours minimal n none low) in
       subst (HasFewest (grower k) told) (sym here) (record {
         fewest = fewest (grower k) l d told (has_grown k d is_depth) first.0 first.1 is.least;
         keeps_each = λ of_level. keeps_each (grower k) l few_hits d low_depth told (has_grown k d is_depth) first.0 first.1 is.least of_level
-            (reduction (say k) first.0 first.1 f.scenario).kept f.scenario (scenario_at first.0) is.reduced_fails;
+            (reduction (say k) first.0 first.1 f.scenario).kept f.scenario (scenario_at first.0) reduction_is.fails;
       })
 
   cause_at_place : (n : ℕ) (none : CauseFacts) → n < length told.growth.causes → IsToldCause (grower k) told (slice_index_or told.growth.causes n none)
@@ -194,7 +192,6 @@ module _ (k : Campaign) (d : ℕ) (is_depth : Some d ≡ k.given.depth) (l : IsL
       record {
         told_of = omega (arith, inside, numbers);
         fails = g.comes c.number h.0 h.1 ∙ ap (λ (v : Verdict). Some v) h.2.0;
-        scenario_fails = ap (say k c.number) among.scenario ∙ among.least.0;
         least = λ levels_low found hits left b has behaves answered.
             let own = of_level (grower k) l d told g c.number found levels_low b in
             let same : own.plan ≡ h.0 = some_is own.plan h.0 (sym own.at_grown ∙ h.1) in
@@ -225,10 +222,11 @@ module _ (k : Campaign) (d : ℕ) (is_depth : Some d ≡ k.given.depth) (l : IsL
         depth = refl;
         levels = long_range (λ n. length (level (grower k) n)) (d + 1) ∙ (let one_more : d + 1 ≡ suc d = omega arith in one_more);
         clean = (run_of_plan (grower k) [], behaves_at (grower k) l d told g 0 [] first_plan, without_faults (grower k) l, clean_is);
+        by_level = by_level (grower k) l (levels (grower k) d) (onward (grower k) d) told (as_lists (grower k) l d told g) (level (grower k)) d (levels_flat (grower k) d) refl (level_grown (grower k) l);
         points = long_range (reached (grower k) d) (length k.points);
         reached = λ point times at many.
             reached_by (grower k) told (grown (grower k) d) (grown (grower k) d) refl (λ plan there. there) point times (at_point (reached (grower k) d) (length k.points) point times at) many;
-        findings = reduced_at k k.label (census k) (plans k) (growth k) told.growth told.behaviours minimal;
+        findings = first_at k k.label (census k) (plans k) (growth k) told.growth told.behaviours minimal;
         once = once_each k k.label (census k) (plans k) (growth k) told.growth told.behaviours minimal;
         causes = cause_at_place;
       }
@@ -242,6 +240,10 @@ module _ (k : Campaign) (d : ℕ) (is_depth : Some d ≡ k.given.depth) (l : IsL
         whole = λ none hits b. inl (whole_told (grower k) l d told g none hits b);
         found = found_of k k.label (census k) (plans k) (growth k) told.growth told.behaviours minimal;
         caused = λ number code hits low b comes. inl (has_cause (grower k) l d told g number code hits low b comes);
+        census = λ hits told_so.
+            let same : run_of_plan (grower k) [] ≡ hits = some_is (run_of_plan (grower k) []) hits (sym (behaves_at (grower k) l d told g 0 [] first_plan) ∙ told_so) in
+            inl (subst (λ (ms : List Met). census k ≡ map (λ point. times_hit point ms) (range_with_len 0 (length k.points))) same (census_counts (grower k) l d k.given.plans.seed first_plan));
+        none_unseen = λ none hits never. never;
       }
 
   keeps : Promises (grower k) d told
@@ -253,13 +255,25 @@ module _ (k : Campaign) (d : ℕ) (is_depth : Some d ≡ k.given.depth) (l : IsL
         beyond = size_beyond (grower k) l d told g;
         fewest = finding_at;
         most = most_reached (grower k) l d told g;
-        census = λ hits told_so.
-            let same : run_of_plan (grower k) [] ≡ hits = some_is (run_of_plan (grower k) []) hits (sym (behaves_at (grower k) l d told g 0 [] first_plan) ∙ told_so) in
-            subst (λ (ms : List Met). census k ≡ map (λ point. times_hit point ms) (range_with_len 0 (length k.points))) same (census_counts (grower k) l d k.given.plans.seed first_plan);
       }
+
+  -- a cause stands beside its plan
+  named_at : (n : ℕ) (none : CauseFacts) → n < length told.growth.causes → IsOfItsNumber (plans k) (slice_index_or told.growth.causes n none)
+  named_at n none low =
+      let among : IsCauseAmong (grower k) k.given.plans.seed (grown (grower k) d) (slice_index_or told.growth.causes n none) = listed_causes k d is_depth n none low in
+      let number : ℕ = (slice_index_or told.growth.causes n none).number in
+      plan_at k d is_depth number (slice_index_or (grown (grower k) d) number []) (slice_get-get_or (grown (grower k) d) number [] among.among)
+      ∙ ap (λ (s : Entries). Some s) (sym among.scenario)
+
+  further_in : Further (grower k) (plans k) told
+  further_in = further k k.label (census k) (plans k) (growth k) told.growth told.behaviours minimal named_at
 
 -- Of a campaign with a depth.
 pub keeps_promises : (k : Campaign) → IsLawful (grower k) → k.given.max_hits < 2 ^ 32 → IfSome k.given.depth (λ depth. depth ≤ 64) → EachIsMinimal k → KeepsPromises k
 keeps_promises k l few low minimal = λ depth is.
-    let low_depth : depth ≤ 64 = subst (λ (o : Option ℕ). IfSome o (λ d. d ≤ 64)) is low in
-    (grew k depth (sym is), ap (λ (o : Option ℕ). growth_of (grower k) k.given.plans.seed (plans k) o) is, keeps k depth (sym is) l few low_depth minimal)
+    let low_depth : depth ≤ 64 = subst (λ (o : Option ℕ). IfSome o (λ d. d ≤ 64)) is low in (
+      grew k depth (sym is),
+      ap (λ (o : Option ℕ). growth_of (grower k) k.given.plans.seed (plans k) o) is,
+      keeps k depth (sym is) l few low_depth minimal,
+      further_in k depth (sym is) l few low_depth minimal,
+    )

@@ -11,3 +11,4 @@ pub mod KeptRigs
 pub mod Counted
 pub mod KeepsEach
 pub mod Facts
+pub mod ByLevel

@@ -18,6 +18,7 @@ use Rattle.result_book.specs.FirstFailures.{first_failures as first_of_each}
 use Rattle.report.specs.Reports.{GrowthFacts, ReportFacts}
 use Rattle.campaign_core.specs.promises.Told.{Told}
 use Rattle.campaign_core.specs.promises.Promises.{Promises}
+use Rattle.campaign_core.specs.promises.Further.{Further}
 use Rattle.campaign_core.specs.declared.subject.Subject.{Subject}
 use Rattle.campaign_core.specs.Findings.{report_of, growth_of, ReducesToMinimal, IsCauseAmong}
 
@@ -116,6 +117,7 @@ told_in c growth = record {
 abbrev pub KeepsPromises : Campaign → Type 0
 KeepsPromises c = (depth : ℕ) → c.given.depth ≡ Some depth
     → (growth : GrowthFacts) × ((report c).growth ≡ Some growth) × Promises (grower c) depth (told_in c growth)
+    × Further (grower c) (plans c) (told_in c growth)
 
 -- Each cause that the report lists is one, including those with a sticky fault.
 abbrev pub EachIsCause : Campaign → Type 0

@@ -41,7 +41,7 @@ module _ (t : Subject) (l : IsLawful t) (d : ℕ) (told : Told) (g : Grew t d to
   levels_told = ap (λ (ns : List ℕ). sum ns) g.sizes ∙ sizes_sum t d
 
   -- as a list of plans
-  lists : Lists t (levels t d) (onward t d) told
+  pub lists : Lists t (levels t d) (onward t d) told
   lists = record { first_are = levels_told; behind_are = g.onward_are; behaves = g.behaves; comes = g.comes; apart = runs_nothing_twice t l d }
 
   pub all_numbers : count_of_all told ≡ length (grown t d)

@@ -1,5 +1,5 @@
 -- Members of lists by their numbers.
-use Rattle.std.proofs.Common.{◌≡◌, ◌≢◌, ℕ, zero, suc, ◌+◌, ◌<◌, Some, List, [], ◌∷◌, ◌++◌, map, length, refl, ap, sym, ◌∙◌, subst, arith, length-append}
+use Rattle.std.proofs.Common.{◌≡◌, ◌≢◌, ℕ, zero, suc, ◌+◌, ◌-◌, ◌<◌, ◌≤◌, Some, List, [], ◌∷◌, ◌++◌, map, length, refl, ap, sym, ◌∙◌, subst, arith, length-append}
 use Rattle.std.specs.Prelude.{Contains, slice_get, sum}
 use Rattle.std.specs.List.{AllByRecursion, range_with_len}
 use Rattle.std.proofs.lemmas.List.FromFn.{map-range_with_len_more}
@@ -33,6 +33,13 @@ pub get_in_front : {A : Type 0} (xs ys : List A) (k : ℕ) (x : A) → k < lengt
 get_in_front [] ys k x h e = absurd (omega (arith, h))
 get_in_front (y ∷ xs) ys zero x h e = e
 get_in_front (y ∷ xs) ys (suc k) x h e = get_in_front xs ys k x (omega (arith, h)) e
+
+-- a member of what stands behind, by a number past the front
+pub get_behind : {A : Type 0} (xs ys : List A) (k : ℕ) (x : A) → length xs ≤ k → slice_get (xs ++ ys) k ≡ Some x → slice_get ys (k - length xs) ≡ Some x
+get_behind {A} [] ys k x le e = ap (λ n. slice_get ys n) (let goal : k - 0 ≡ k = omega arith in goal) ∙ e
+get_behind (y ∷ xs) ys zero x le e = absurd (omega (arith, le))
+get_behind (y ∷ xs) ys (suc k) x le e =
+    ap (λ n. slice_get ys n) (let goal : suc k - suc (length xs) ≡ k - length xs = omega arith in goal) ∙ get_behind xs ys k x (omega (arith, le)) e
 
 pub all_at : {A : Type 0} (P : A → Type 0) (xs : List A) (k : ℕ) (x : A) → AllByRecursion P xs → slice_get xs k ≡ Some x → P x
 all_at P [] k x a e = absurd cc

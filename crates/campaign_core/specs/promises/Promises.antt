@@ -1,11 +1,8 @@
 -- What a report of a campaign with a depth promises about its component, by the facts that it prints and the behaviours of its plans: that what it
 -- tells is so, that nothing is left out, and what follows for a component of which every run was seen.
-use Rattle.std.specs.Prelude.{◌≡◌, ◌≢◌, ℕ, suc, ◌≤◌, ◌<◌, ◌⊎◌, Option, Some, List, ◌∷◌, ◌++◌, All, AllPairs, Contains, length, map, remove, slice_get}
+use Rattle.std.specs.Prelude.{◌≡◌, ◌≢◌, ℕ, suc, ◌≤◌, ◌<◌, ◌⊎◌, Option, Some, List, ◌∷◌, ◌++◌, All, AllPairs, Contains, length, map, slice_get}
 use Rattle.std.specs.List.{AllByRecursion, range_with_len}
-use Rattle.scenario_values.specs.Scenario.{Entries, all_faults}
-use Rattle.scenario_values.specs.Keep.{kept}
 use Rattle.action_eval.specs.Answers.{Return}
-use Rattle.target_trait.specs.Outcomes.{verdict_with}
 use Rattle.target_trait.specs.declared.judgement.Verdict.{Verdict}
 use Rattle.target_trait.specs.declared.judgement.Verdict.TheVariants.{Fail}
 use Rattle.grown_plans.specs.Runs.{Met, acting}
@@ -13,33 +10,20 @@ use Rattle.grown_plans.specs.GrownPlans.{Subject, most}
 use Rattle.grown_plans.specs.Promises.{EachTwo, ReturnsOnward}
 use Rattle.report.specs.Reports.{FindingFacts, CauseFacts}
 use Rattle.campaign_core.specs.promises.Behaviours.{IsBehaviour, IsBehaviourOfKinds, verdict_at_end, faults, times_hit, AnsweredWithout, AreSoMany, HasActing}
-use Rattle.campaign_core.specs.promises.Told.{Told, count_of_levels, count_of_all, HasBehaviour, HasVerdict, IsToldOnce}
-
--- The verdict of a scenario that is run with this number as its stream number.
-abbrev pub verdict_of : Subject → Told → ℕ → Entries → Verdict
-verdict_of t told number scenario = verdict_with t.asks t.names told.report.seed t.limit number scenario
-
--- A scenario without one of its faults.
-abbrev pub without : ℕ → Entries → Entries
-without fault scenario = kept (remove (range_with_len 0 (all_faults scenario)) fault) scenario
+use Rattle.campaign_core.specs.promises.Told.{Told, count_of_levels, count_of_all, level_at, HasBehaviour, HasVerdict, IsToldOnce}
 
 -- ---- what is told is so
 
--- A finding has the lowest number that fails with its code, and the scenario that is printed fails with it. So does the reduced scenario, which doesn't
--- if any one of its faults is left out.
-pub record IsReduced (t : Subject) (told : Told) (f : FindingFacts) : Type 0 where
+-- A finding has the lowest number that fails with its code.
+pub record IsFirst (told : Told) (f : FindingFacts) : Type 0 where
   pub fails : HasVerdict told f.number (Fail f.code)
   pub least : (other : ℕ) → other < f.number → HasVerdict told other (Fail f.code) → ⊥
-  pub scenario_fails : verdict_of t told f.number f.scenario ≡ Fail f.code
-  pub reduced_fails : verdict_of t told f.number f.reduced ≡ Fail f.code
-  pub minimal : (fault : ℕ) → fault < all_faults f.reduced → verdict_of t told f.number (without fault f.reduced) ≢ Fail f.code
 
--- A cause fails with its code, and so does the scenario that is printed. If its number is of a level, it doesn't if any one of its faults is left out:
--- no behaviour whose hits are answered by its other faults fails with the code.
+-- A cause fails with its code. If its number is of a level, it doesn't if any one of its faults is left out: no behaviour whose hits are answered by its
+-- other faults fails with the code.
 pub record IsCause (t : Subject) (told : Told) (c : CauseFacts) : Type 0 where
   pub told_of : c.number < count_of_all told
   pub fails : HasVerdict told c.number (Fail c.code)
-  pub scenario_fails : verdict_of t told c.number c.scenario ≡ Fail c.code
   pub least : c.number < count_of_levels told → (found hits : List Met) (left : Met) → HasBehaviour told c.number found → Contains (faults found) left
       → IsBehaviour t hits → AnsweredWithout left (faults found) hits → verdict_at_end t hits ≢ Fail c.code
 
@@ -55,12 +39,15 @@ pub record Sound (t : Subject) (d : ℕ) (told : Told) : Type 0 where
   pub depth : told.growth.depth ≡ d
   pub levels : length told.growth.levels ≡ suc d
   pub clean : (hits : List Met) × HasBehaviour told 0 hits × (acting hits ≡ 0) × HasVerdict told 0 told.report.clean
+  -- In the behaviour of a number of level n exactly n faults act.
+  pub by_level : (number : ℕ) (hits : List Met) → number < count_of_levels told → HasBehaviour told number hits
+      → acting hits ≡ level_at told.growth.levels number
   -- How often a point is reached is told of each point. If it is reached at all, one of the behaviours hits it so often.
   pub points : length told.growth.reached ≡ length t.names
   pub reached : (point times : ℕ) → slice_get told.growth.reached point ≡ Some times → 0 < times
       → (hits : List Met) × Contains told.behaviours hits × (times_hit point hits ≡ times)
   -- Each finding and each cause that is listed is one, and no two findings have the same code.
-  pub findings : All (IsReduced t told) told.report.findings
+  pub findings : All (IsFirst told) told.report.findings
   pub once : AllPairs (λ f g. f.code ≢ g.code) told.report.findings
   pub causes : All (IsCause t told) told.growth.causes
 
@@ -102,6 +89,10 @@ pub record Complete (t : Subject) (d : ℕ) (told : Told) (IsUnseen : List Met �
   pub found : (number code : ℕ) → HasVerdict told number (Fail code) → (f : FindingFacts) × Contains told.report.findings f × (f.code ≡ code)
   pub caused : (number code : ℕ) (hits : List Met) → number < count_of_levels told → HasBehaviour told number hits → HasVerdict told number (Fail code)
       → HasCause told code hits ⊎ HasUnseenCause t IsUnseen code hits
+  -- `census` tells how often the run without faults hits each point. If the report says that no run is unseen, none is.
+  pub census : (hits : List Met) → HasBehaviour told 0 hits
+      → (told.report.census ≡ map (λ point. times_hit point hits) (range_with_len 0 (length t.names))) ⊎ IsUnseen hits
+  pub none_unseen : told.growth.unseen ≡ 0 → (hits : List Met) → IsUnseen hits → ⊥
 
 -- What a report to depth d promises of a component of which some runs may be unseen.
 pub record PromisesAsSeen (t : Subject) (d : ℕ) (told : Told) (IsUnseen : List Met → Type 0) : Type 0 where
@@ -127,5 +118,3 @@ pub record Promises (t : Subject) (d : ℕ) (told : Told) : Type 0 where
   pub fewest : All (HasFewest t told) told.report.findings
   -- The number after `reached` is the most hits of a point that one of the behaviours has.
   pub most : (point : ℕ) → point < length t.names → slice_get told.growth.reached point ≡ Some (most (map (times_hit point) told.behaviours))
-  -- `census` tells how often the run without faults hits each point.
-  pub census : (hits : List Met) → HasBehaviour told 0 hits → told.report.census ≡ map (λ point. times_hit point hits) (range_with_len 0 (length t.names))

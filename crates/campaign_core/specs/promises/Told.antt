@@ -1,5 +1,5 @@
 -- What a report of a campaign with a depth says: the facts that it prints, and the behaviour of each plan that grew, as `explain` shows it.
-use Rattle.std.specs.Prelude.{◌≡◌, ℕ, ◌+◌, ◌<◌, List, Some, sum, slice_get}
+use Rattle.std.specs.Prelude.{◌≡◌, ℕ, suc, ◌+◌, ◌-◌, ◌<◌, nat_lt, if◌then◌else◌, List, [], ◌∷◌, Some, sum, slice_get}
 use Rattle.target_trait.specs.declared.judgement.Verdict.{Verdict}
 use Rattle.grown_plans.specs.Runs.{Met}
 use Rattle.report.specs.Reports.{ReportFacts, GrowthFacts}
@@ -16,6 +16,11 @@ count_of_levels told = sum told.growth.levels
 
 abbrev pub count_of_all : Told → ℕ
 count_of_all told = count_of_levels told + told.growth.onward
+
+-- The level of a number, given how many plans each level has: the numbers of level 0 come first, then those of level 1, and so on.
+abbrev pub level_at : List ℕ → ℕ → ℕ
+level_at [] number = 0
+level_at (size ∷ sizes) number = if nat_lt number size then 0 else suc (level_at sizes (number - size))
 
 -- The number has this behaviour and, below, this verdict.
 abbrev pub HasBehaviour : Told → ℕ → List Met → Type 0

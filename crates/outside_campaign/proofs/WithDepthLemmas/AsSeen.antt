@@ -1,6 +1,6 @@
 -- A report by answers keeps its promises of each behaviour that doesn't begin like a run recorded without its hits.
 use Rattle.std.proofs.Common.{◌≡◌, ℕ, zero, suc, ◌+◌, ◌<◌, ◌≤◌, ◌⊎◌, inl, inr, Bool, true, false, cond, Some, List, [], ◌∷◌, ◌++◌, get_or, length, map, refl, ap, sym, ◌∙◌, subst, arith}
-use Rattle.std.specs.Prelude.{All, Contains, Option, slice_get, slice_index_or, sum}
+use Rattle.std.specs.Prelude.{All, Contains, None, Option, flat_map, slice_get, slice_index_or, sum}
 use Rattle.std.specs.List.{AllByRecursion, filter, range_with_len}
 use Rattle.std.proofs.lemmas.List.{append-nil, get_or_append_left, get_or-map, length-append, length-map}
 use Rattle.std.proofs.lemmas.List.Elements.{All-from_recursion}
@@ -17,7 +17,9 @@ use Rattle.grown_plans.specs.Promises.{IsCause, IsLawful, IsOfKinds, ReturnsOnwa
 use Rattle.grown_plans.proofs.Apart.{IsGrownTo, levels_grown}
 use Rattle.grown_plans.proofs.Causes.{has_causes}
 use Rattle.grown_plans.proofs.Faults.{faults as faults_of}
-use Rattle.grown_plans.proofs.Members.{all_append, all_contains, all_left, all_right, all_weaker, contains_map}
+use Rattle.grown_plans.proofs.Levels.{IsGrown, level_grown}
+use Rattle.grown_plans.proofs.Members.{all_append, all_contains, all_left, all_right, all_weaker, contains_head, contains_map}
+use Rattle.plan_gen.specs.Census.{census_of}
 use Rattle.grown_plans.proofs.Onward.{grown_can}
 use Rattle.grown_plans.proofs.Paths.{some_is}
 use Rattle.grown_plans.proofs.PlanRuns.{plan_judged}
@@ -27,21 +29,24 @@ use Rattle.grown_runs.specs.known.Known.{KnownRuns}
 use Rattle.grown_runs.specs.known.KnownPart.{are_told, is_reached, is_reached_onward, known_levels, to_run}
 use Rattle.grown_runs.specs.known.KnownPlans.{level_size}
 use Rattle.grown_runs.specs.known.SeenPromises.{IsTriedAsSeen}
-use Rattle.grown_runs.specs.known.Unseen.{BeginsUnseen}
-use Rattle.grown_runs.proofs.KnownLemmas.Seen.{apart, contains_filtered, from_then_on, nothing_skipped, reached_or_unseen, stands_in, whole}
+use Rattle.grown_runs.specs.known.Unseen.{BeginsUnseen, is_unseen}
+use Rattle.grown_runs.proofs.KnownLemmas.Seen.{apart, contains_filtered, from_then_on, nothing_skipped, reached_or_unseen, stands_in, unseen_in, whole}
+use Rattle.grown_runs.proofs.KnownLemmas.Ends.{filtered}
 use Rattle.answered_runs.specs.grown.Further.{further_known}
 use Rattle.answered_runs.specs.grown.Reached.{reached_known}
 use Rattle.result_book.specs.Verdicts.{numbered, verdicts_from}
 use Rattle.result_book.specs.FirstFailures.{first_failures}
 use Rattle.result_book.proofs.EachCodeLemmas.{firsts_of}
 use Rattle.report.specs.Reports.{CauseFacts, GrowthFacts}
-use Rattle.campaign_core.specs.promises.Behaviours.{IsBehaviourOfKinds, faults, verdict_at_end}
+use Rattle.campaign_core.specs.promises.Behaviours.{IsBehaviourOfKinds, faults, times_hit, verdict_at_end}
 use Rattle.campaign_core.specs.promises.Promises.{HasCause, HasUnseenCause, IsToldOrUnseen, PromisesAsSeen, Sound}
 use Rattle.campaign_core.specs.promises.Promises.{IsCause as IsToldCause}
-use Rattle.campaign_core.specs.promises.Told.{HasBehaviour, HasVerdict, Told, count_of_all, count_of_levels}
+use Rattle.campaign_core.specs.promises.Further.{Further, IsOfItsNumber}
+use Rattle.campaign_core.specs.promises.Told.{HasBehaviour, HasVerdict, Told, count_of_all, count_of_levels, level_at}
 use Rattle.campaign_core.proofs.PromisesLemmas.Cases.{case_for, case_runs}
+use Rattle.campaign_core.proofs.PromisesLemmas.ByLevel.{by_level, levels_flat}
 use Rattle.campaign_core.proofs.PromisesLemmas.Counted.{has_acting}
-use Rattle.campaign_core.proofs.PromisesLemmas.Facts.{at_point, first_level, long_range, reached_by, without_faults}
+use Rattle.campaign_core.proofs.PromisesLemmas.Facts.{at_point, census_counts, first_level, long_range, reached_by, without_faults}
 use Rattle.campaign_core.proofs.PromisesLemmas.Faults.{faults_among}
 use Rattle.campaign_core.proofs.PromisesLemmas.Kinds.{each_of_kinds}
 use Rattle.campaign_core.proofs.PromisesLemmas.Least.{no_lesser}
@@ -50,9 +55,9 @@ use Rattle.campaign_core.proofs.PromisesLemmas.Numbers.{at_contained, contains_a
 use Rattle.campaign_core.specs.Findings.{IsCauseAmong, ReducesToMinimal, cause_of}
 use Rattle.campaign_core.specs.Headline.{Campaign, grower, say}
 use Rattle.campaign_core.proofs.Causes.{each_is}
-use Rattle.campaign_core.proofs.Findings.{found_of, once_each, reduced_at}
+use Rattle.campaign_core.proofs.Findings.{first_at, found_of, further, once_each, verdict_at}
 use Rattle.campaign_core.proofs.Firsts.{each_fails, findings_minimal}
-use Rattle.campaign_core.proofs.Promised.{cause_here, in_flat, verdict_at}
+use Rattle.campaign_core.proofs.Promised.{cause_here, in_flat}
 use Rattle.answer_text.specs.Runs.{told_in}
 use Rattle.answered_runs.specs.Answered.{runs_in}
 use Rattle.answered_runs.specs.Components.{AgreesWithRuns, IsComponent}
@@ -77,6 +82,10 @@ filter_both {A} p (x ∷ xs) ys = ap (λ (l : List A). cond (p x) (x ∷ l) l) (
     by_test true = refl
     by_test false = refl
 
+filter_flat : {A B : Type 0} (p : B → Bool) (f : A → List B) (xs : List A) → filter p (flat_map f xs) ≡ flat_map (λ x. filter p (f x)) xs
+filter_flat p f [] = refl
+filter_flat {A} {B} p f (x ∷ xs) = filter_both p (f x) (flat_map f xs) ∙ ap (λ (l : List B). filter p (f x) ++ l) (filter_flat p f xs)
+
 sizes_known : (t : Subject) (known : KnownRuns) (d : ℕ) → sum (map (level_size t known) (range_with_len 0 (d + 1))) ≡ length (known_levels t d known)
 unfolding levels_to
 sizes_known t known zero = omega arith
@@ -88,13 +97,16 @@ sizes_known t known (suc d) =
     ∙ sym (length-append (filter (is_reached known) (levels t d)) (filter (is_reached known) (level t (suc d))))
     ∙ ap (λ (l : List (List Rig)). length l) (sym (filter_both (is_reached known) (levels t d) (level t (suc d))))
 
-all_filtered : {A : Type 0} (P : A → Type 0) (p : A → Bool) (xs : List A) → AllByRecursion P xs → AllByRecursion P (filter p xs)
-all_filtered P p [] all = tt
-all_filtered {A} P p (x ∷ xs) all = by_test (p x) (all_filtered P p xs all.1)
-  where
-    by_test : (b : Bool) → AllByRecursion P (filter p xs) → AllByRecursion P (cond b (x ∷ filter p xs) (filter p xs))
-    by_test true later = (all.0, later)
-    by_test false later = later
+in_first_level : (t : Subject) → Contains (level t 0) []
+unfolding level
+in_first_level t = contains_head [] []
+
+-- a known plan of a level grew to it
+each_known : (t : Subject) → IsLawful t → (known : KnownRuns) (n : ℕ) → AllByRecursion (IsGrown t n) (filter (is_reached known) (level t n))
+each_known t l known n = filtered (is_reached known) (IsGrown t n) (level t n) (level_grown t l n)
+
+known_flat : (t : Subject) (known : KnownRuns) (d : ℕ) → known_levels t d known ≡ flat_map (λ n. filter (is_reached known) (level t n)) (range_with_len 0 (d + 1))
+known_flat t known d = ap (λ (l : List (List Rig)). filter (is_reached known) l) (levels_flat t d) ∙ filter_flat (is_reached known) (level t) (range_with_len 0 (d + 1))
 
 -- ---- the promises
 
@@ -139,8 +151,8 @@ module _ (c : Campaign) (depth : ℕ) (known : KnownRuns) (l : IsLawful (grower 
   of_known : (P : List Rig → Type 0) → AllByRecursion P (grown t depth) → AllByRecursion P (first ++ behind)
   of_known P each =
       all_append P first behind
-      (all_filtered P (is_reached known) (levels t depth) (all_left P (levels t depth) (onward t depth) each))
-      (all_filtered P (is_reached_onward known) (onward t depth) (all_right P (levels t depth) (onward t depth) each))
+      (filtered (is_reached known) P (levels t depth) (all_left P (levels t depth) (onward t depth) each))
+      (filtered (is_reached_onward known) P (onward t depth) (all_right P (levels t depth) (onward t depth) each))
 
   told_behaves : AllByRecursion (IsBehaviourOfKinds t) told.behaviours
   told_behaves = each_behaves t l first behind told lists (of_known (λ plan. IsOfKinds t.kinds (run_of_plan t plan)) (each_of_kinds t l depth))
@@ -207,7 +219,6 @@ module _ (c : Campaign) (depth : ℕ) (known : KnownRuns) (l : IsLawful (grower 
       record {
         told_of = omega (arith, inside, all);
         fails = comes_at x.number plan at ∙ ap (λ (v : Verdict). Some v) h.least.0;
-        scenario_fails = ap (say c x.number) h.scenario ∙ h.least.0;
         least = λ levels_low found hits left b has behaves answered.
             let runs : run_of_plan t plan ≡ found = some_is (run_of_plan t plan) found (sym (has_behaviour t l first behind told lists x.number plan at) ∙ b) in
             no_lesser t l depth seed x.number x.code plan found hits left (grown_to plan (in_levels x.number plan levels_low at)) runs h.least has behaves answered;
@@ -279,6 +290,34 @@ module _ (c : Campaign) (depth : ℕ) (known : KnownRuns) (l : IsLawful (grower 
       let comes = comes_at 0 [] first_plan in
       comes ∙ ap (λ (v : Verdict). Some v) (sym (get_or_from_slice_get told.report.verdicts 0 (verdict_of_plan t seed 0 []) Unresolved comes))
 
+  -- how many faults act
+  by_their_level : (number : ℕ) (hits : List Met) → number < count_of_levels told → HasBehaviour told number hits → acting hits ≡ level_at told.growth.levels number
+  by_their_level =
+      by_level t l first behind told lists (λ n. filter (is_reached known) (level t n)) depth (known_flat t known depth) refl (each_known t l known)
+
+  -- ---- the census, and what is unseen
+
+  census_of_first : (hits : List Met) → HasBehaviour told 0 hits → (told.report.census ≡ map (λ point. times_hit point hits) (range_with_len 0 (length t.names))) ⊎ IsUnseen hits
+  census_of_first hits told_so = by_hits (hits_of known []) refl
+    where
+      runs : run_of_plan t [] ≡ hits
+      runs = some_is (run_of_plan t []) hits (sym (has_behaviour t l first behind told lists 0 [] first_plan) ∙ told_so)
+
+      by_hits : (o : Option (List ℕ)) → hits_of known [] ≡ o → (census_seen t seed o ≡ map (λ point. times_hit point hits) (range_with_len 0 (length t.names))) ⊎ IsUnseen hits
+      by_hits (Some points) e =
+          inl (subst (λ (ms : List Met). census_of t.asks t.names seed t.limit ≡ map (λ point. times_hit point ms) (range_with_len 0 (length t.names))) runs
+          (census_counts t l depth seed (get_front (levels t depth) (onward t depth) 0 [] (first_level t depth))))
+      by_hits None e =
+          inr ([], unseen_in t l depth known done 0 [] (omega arith) (in_first_level t) refl (ap are_told e), tt)
+
+  none_of_them : told.growth.unseen ≡ 0 → (hits : List Met) → IsUnseen hits → ⊥
+  none_of_them none hits begins =
+      let both = ap (λ (l : List (List Rig)). length l) (filter_both (is_unseen known) first behind) in
+      let sum = length-append (filter (is_unseen known) first) (filter (is_unseen known) behind) in
+      let place = at_contained (filter (is_unseen known) first) begins.0 begins.1 in
+      let low = place.1 in
+      omega (arith, none, both, sum, low)
+
   -- ---- the record
 
   pub minimal_seen : All (ReducesToMinimal (say c)) (report_seen c depth known).findings
@@ -303,11 +342,12 @@ module _ (c : Campaign) (depth : ℕ) (known : KnownRuns) (l : IsLawful (grower 
     depth = refl;
     levels = long_range (level_size t known) (depth + 1) ∙ (let one_more : depth + 1 ≡ suc depth = omega arith in one_more);
     clean = (run_of_plan t [], has_behaviour t l first behind told lists 0 [] first_plan, without_faults t l, clean_is);
+    by_level = by_their_level;
     points = long_range (reached_known t depth known) (length t.names);
     reached = λ point times at many.
         reached_by t told (first ++ behind) (filter (λ plan. are_told (hits_of known plan)) (first ++ behind)) refl
         (λ plan there. contains_filtered (λ (plan : List Rig). are_told (hits_of known plan)) (first ++ behind) plan there) point times (at_point (reached_known t depth known) (length t.names) point times at) many;
-    findings = reduced_at c c.label counts plans (Some grew) grew told.behaviours minimal_seen;
+    findings = first_at c c.label counts plans (Some grew) grew told.behaviours minimal_seen;
     once = once_each c c.label counts plans (Some grew) grew told.behaviours minimal_seen;
     causes = cause_at_place;
   }
@@ -321,8 +361,20 @@ module _ (c : Campaign) (depth : ℕ) (known : KnownRuns) (l : IsLawful (grower 
       whole = whole_told;
       found = found_of c c.label counts plans (Some grew) grew told.behaviours minimal_seen;
       caused = caused_of;
+      census = census_of_first;
+      none_unseen = none_of_them;
     };
   }
+
+  -- a cause stands beside its plan
+  named_at : (n : ℕ) (none : CauseFacts) → n < length told.growth.causes → IsOfItsNumber plans (slice_index_or told.growth.causes n none)
+  named_at n none low =
+      let among : IsCauseAmong t seed (first ++ behind) (slice_index_or told.growth.causes n none) = among_all n none low in
+      let number : ℕ = (slice_index_or told.growth.causes n none).number in
+      plan_at number (slice_index_or (first ++ behind) number []) (slice_get-get_or (first ++ behind) number [] among.among) ∙ ap (λ (s : Entries). Some s) (sym among.scenario)
+
+  pub further_seen : Further t plans told
+  further_seen = further c c.label counts plans (Some grew) grew told.behaviours minimal_seen named_at
 
 -- ---- the scenarios of each component's list
 

@@ -27,7 +27,7 @@ use Rattle.outside_campaign.specs.with_depth.Grown.{campaign, listed, untried}
 use Rattle.outside_campaign.specs.with_depth.Questions.{AreUnbroken, IsReportedText, Tells}
 use Rattle.outside_campaign.specs.with_depth.Seen.{IsReportAsSeen, first_number_seen, report_seen_in}
 use Rattle.outside_campaign.specs.with_depth.inside.Outcomes.{AreLawfulOf, IsFirstNumberOf, IsTextOf}
-use Rattle.outside_campaign.proofs.WithDepthLemmas.AsSeen.{keeps_promises, minimal_seen}
+use Rattle.outside_campaign.proofs.WithDepthLemmas.AsSeen.{further_seen, keeps_promises, minimal_seen}
 use Rattle.outside_campaign.proofs.WithDepthLemmas.Reports.{grower_is}
 use Rattle.outside_campaign.proofs.WithDepthLemmas.Wholes.{is_whole}
 
@@ -70,13 +70,16 @@ as_seen form outside given a depth text first low same is_text is_first lawful t
     let done : to_run t depth (runs_in a) ≡ [] = nothing_to_run a depth t is low agrees told in
     let text_is : text ≡ report_seen_in form c (told_in a.book) depth (runs_in a) = is_text t is agrees in
     let first_is : first ≡ first_number_seen c depth (runs_in a) = is_first t is agrees in
+    let own_lawful : IsLawful (grower c) = subst IsLawful own is.lawful in
+    let own_done : to_run (grower c) depth (runs_in a) ≡ [] = subst (λ (g : Subject). to_run g depth (runs_in a) ≡ []) own done in
+    let scenarios = lawful t is agrees in
     record {
       text_is = text_is;
       first_is = first_is;
       whole = λ none.
-          is_whole c depth (runs_in a) refl (subst (λ (g : Subject). to_run g depth (runs_in a) ≡ []) own done) none (subst IsLawful own is.lawful) is.few low
-          (minimal_seen c depth (runs_in a) (subst IsLawful own is.lawful) (subst (λ (g : Subject). to_run g depth (runs_in a) ≡ []) own done) (lawful t is agrees)) form (told_in a.book) text first text_is first_is;
-      promises = keeps_promises c depth (runs_in a) (subst IsLawful own is.lawful) (subst (λ (g : Subject). to_run g depth (runs_in a) ≡ []) own done) (lawful t is agrees);
+          is_whole c depth (runs_in a) refl own_done none own_lawful is.few low (minimal_seen c depth (runs_in a) own_lawful own_done scenarios) form (told_in a.book) text first text_is first_is;
+      promises = keeps_promises c depth (runs_in a) own_lawful own_done scenarios;
+      further = further_seen c depth (runs_in a) own_lawful own_done scenarios;
     }
 
 pub reported : (form : Form) (outside : Description) (given : Given) (a : Answered) (depth : ℕ) (answers text : List ℕ) (first : Option ℕ) → depth ≤ 64 → Tells outside answers a

@@ -14,6 +14,7 @@ use Rattle.result_book.specs.Verdicts.{numbered, verdicts_from}
 use Rattle.result_book.specs.FirstFailures.{first_failures}
 use Rattle.report.specs.Reports.{GrowthFacts, ReportFacts}
 use Rattle.campaign_core.specs.promises.Promises.{PromisesAsSeen}
+use Rattle.campaign_core.specs.promises.Further.{Further}
 use Rattle.campaign_core.specs.promises.Told.{Told}
 use Rattle.campaign_core.specs.Findings.{cause_of, report_of}
 use Rattle.campaign_core.specs.Headline.{Campaign, KeepsPromises, grower, say}
@@ -86,3 +87,4 @@ pub record IsReportAsSeen (form : Form) (c : Campaign) (told : ToldRuns) (depth 
   pub first_is : first ≡ first_number_seen c depth known
   pub whole : unseen (grower c) depth known ≡ [] → IsReportOf form c told text first
   pub promises : PromisesAsSeen (grower c) depth (told_seen c depth known) (BeginsUnseen (grower c) depth known)
+  pub further : Further (grower c) (plans_seen c depth known) (told_seen c depth known)

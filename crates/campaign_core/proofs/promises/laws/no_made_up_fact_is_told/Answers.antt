@@ -1,12 +1,17 @@
-use Rattle.std.proofs.Common.{◌≡◌, ℕ, suc, Option, Some, List, [], ◌∷◌, ap, sym, ◌∙◌, refl, subst, arith}
-use Rattle.std.specs.Prelude.{slice_get}
+use Rattle.std.proofs.Common.{◌≡◌, ◌⊎◌, inl, inr, ℕ, suc, map, Option, Some, List, [], ◌∷◌, ap, sym, ◌∙◌, refl, subst, arith}
+use Rattle.std.specs.Prelude.{◌<◌, slice_get, sum}
+use Rattle.std.specs.List.{range_with_len}
 use Rattle.target_trait.specs.Play.{IsDone}
 use Rattle.target_trait.specs.declared.judgement.Verdict.{Verdict}
 use Rattle.target_trait.specs.declared.judgement.Verdict.TheVariants.{Fail, Pass}
-use Rattle.grown_plans.specs.Runs.{Met}
+use Rattle.grown_plans.specs.Runs.{Met, acting}
 use Rattle.grown_plans.proofs.Members.{all_contains}
 use Rattle.campaign_core.specs.promises.Behaviours.{IsBehaviourOfKinds, times_hit}
-use Rattle.campaign_core.specs.promises.Promises.{IsCause, IsReduced}
+use Rattle.campaign_core.specs.promises.Promises.{IsCause, IsFirst}
+use Rattle.campaign_core.specs.promises.Further.{Further, IsOfItsNumber, IsReduction, verdict_of}
+use Rattle.campaign_core.specs.promises.Told.{HasVerdict, Told, count_of_levels, level_at}
+use Rattle.scenario_values.specs.Scenario.{Entries}
+use Rattle.grown_plans.specs.GrownPlans.{Subject}
 use Rattle.campaign_core.specs.promises.WrongReports.{quiet}
 use Rattle.campaign_core.proofs.Promised.{all_each}
 use Rattle.campaign_core.proofs.PromisesLemmas.Numbers.{contains_at}
@@ -15,15 +20,28 @@ use Rattle.campaign_core.proofs.promises.laws.no_made_up_fact_is_told.Goals as g
 never_both : (v : Verdict) (code : ℕ) → v ≡ Pass → v ≡ Fail code → ⊥
 never_both v code passes fails = let both : Pass ≡ Fail code = sym passes ∙ fails in absurd cc
 
+some_same : (v w : Verdict) → (let o : Option Verdict = Some v in o) ≡ Some w → v ≡ w
+some_same v w e = cc
+
+-- a number's verdict is that of its scenario
+not_passed : (t : Subject) (scenarios : List Entries) (told : Told) → Further t scenarios told → (number code : ℕ) (scenario : Entries) → slice_get scenarios number ≡ Some scenario
+    → verdict_of t told number scenario ≡ Pass → HasVerdict told number (Fail code) → ⊥
+not_passed t scenarios told further number code scenario at passes fails =
+    never_both (verdict_of t told number scenario) code passes (some_same (verdict_of t told number scenario) (Fail code) (sym (further.judged number scenario at) ∙ fails))
+
 pub returns-clause-cause : goal.returns-clause-cause
-returns-clause-cause c t d told cause listed passes sound =
+returns-clause-cause c t d told cause listed passes sound scenarios further =
     let is : IsCause t told cause = all_contains (IsCause t told) told.growth.causes cause (all_each (IsCause t told) told.growth.causes sound.causes) listed in
-    never_both _ cause.code passes is.scenario_fails
+    let named : IsOfItsNumber scenarios cause =
+    all_contains (IsOfItsNumber scenarios) told.growth.causes cause (all_each (IsOfItsNumber scenarios) told.growth.causes further.causes) listed in
+    not_passed t scenarios told further cause.number cause.code cause.scenario named passes is.fails
 
 pub returns-clause-finding : goal.returns-clause-finding
-returns-clause-finding c t d told found listed passes sound =
-    let is : IsReduced t told found = all_contains (IsReduced t told) told.report.findings found (all_each (IsReduced t told) told.report.findings sound.findings) listed in
-    never_both _ found.code passes is.scenario_fails
+returns-clause-finding c t d told found listed passes sound scenarios further =
+    let is : IsFirst told found = all_contains (IsFirst told) told.report.findings found (all_each (IsFirst told) told.report.findings sound.findings) listed in
+    let named : IsReduction t scenarios told found =
+    all_contains (IsReduction t scenarios told) told.report.findings found (all_each (IsReduction t scenarios told) told.report.findings further.findings) listed in
+    not_passed t scenarios told further found.number found.code found.scenario named.scenario passes is.fails
 
 pub returns-clause-depth : goal.returns-clause-depth
 returns-clause-depth c t d told more sound = let depth = sound.depth in omega (arith, more, depth)
@@ -46,9 +64,6 @@ returns-clause-reached c d times told at sound =
 some_count : (m n : ℕ) → (let o : Option ℕ = Some m in o) ≡ Some n → m ≡ n
 some_count m n e = cc
 
-some_same : (v w : Verdict) → (let o : Option Verdict = Some v in o) ≡ Some w → v ≡ w
-some_same v w e = cc
-
 pub returns-clause-clean : goal.returns-clause-clean
 returns-clause-clean c d told fails sound =
     let clean = sound.clean in
@@ -59,6 +74,30 @@ pub returns-clause-census : goal.returns-clause-census
 returns-clause-census c d times told at keeps =
     let clean = keeps.seen.sound.clean in
     let none = no_times clean.0 (all_contains (IsBehaviourOfKinds quiet) told.behaviours clean.0 keeps.seen.sound.behaves (contains_at told.behaviours 0 clean.0 clean.1)) in
-    let counted : slice_get told.report.census 0 ≡ Some (times_hit 0 clean.0) = ap (λ (l : List ℕ). slice_get l 0) (keeps.census clean.0 clean.1) in
-    let same : suc times ≡ times_hit 0 clean.0 = some_count (suc times) (times_hit 0 clean.0) (sym at ∙ counted) in
-    omega (arith, none, same)
+    by_census clean.0 none (keeps.seen.complete.census clean.0 clean.1)
+  where
+    by_census : (hits : List Met) → times_hit 0 hits ≡ 0 → (told.report.census ≡ map (λ point. times_hit point hits) (range_with_len 0 1)) ⊎ ⊥ → ⊥
+    by_census hits none (inl counted) =
+        let same : suc times ≡ times_hit 0 hits = some_count (suc times) (times_hit 0 hits) (sym at ∙ ap (λ (l : List ℕ). slice_get l 0) counted) in
+        omega (arith, none, same)
+    by_census hits none (inr never) = never
+
+pub returns-clause-no_fault : goal.returns-clause-no_fault
+returns-clause-no_fault c d told empty sound =
+    let clean = sound.clean in
+    let some : 0 < count_of_levels told = subst (λ (sizes : List ℕ). 0 < sum sizes) (sym empty) (omega arith) in
+    let acts : acting clean.0 ≡ 1 = sound.by_level 0 clean.0 some clean.1 ∙ ap (λ (sizes : List ℕ). level_at sizes 0) empty in
+    let none : acting clean.0 ≡ 0 = clean.2 in
+    omega (arith, acts, none)
+
+pub returns-clause-unseen : goal.returns-clause-unseen
+returns-clause-unseen c t d told unseen none complete = complete.none_unseen none unseen refl
+
+pub returns-clause-verdict : goal.returns-clause-verdict
+returns-clause-verdict c t scenarios told number code scenario at passes fails further = not_passed t scenarios told further number code scenario at passes fails
+
+pub returns-clause-tests : goal.returns-clause-tests
+returns-clause-tests c t scenarios told found listed others further =
+    let is : IsReduction t scenarios told found =
+    all_contains (IsReduction t scenarios told) told.report.findings found (all_each (IsReduction t scenarios told) told.report.findings further.findings) listed in
+    others is.tests

@@ -1,0 +1,41 @@
+-- What a report says of scenarios: each verdict is that of its number's scenario, also where that is a storm or a listed one, and what a finding is
+-- reduced to is ddmin's, fails, and is minimal.
+use Rattle.std.specs.Prelude.{◌≡◌, ◌≢◌, ◌<◌, ℕ, Some, List, All, length, remove, slice_get}
+use Rattle.std.specs.List.{range_with_len}
+use Rattle.scenario_values.specs.Scenario.{Entries, all_faults}
+use Rattle.scenario_values.specs.Keep.{kept}
+use Rattle.target_trait.specs.Outcomes.{verdict_with}
+use Rattle.target_trait.specs.declared.judgement.Verdict.{Verdict}
+use Rattle.target_trait.specs.declared.judgement.Verdict.TheVariants.{Fail}
+use Rattle.grown_plans.specs.GrownPlans.{Subject}
+use Rattle.report.specs.Reports.{FindingFacts, CauseFacts}
+use Rattle.campaign_core.specs.Findings.{reduced, reduction}
+use Rattle.campaign_core.specs.promises.Told.{Told, HasVerdict}
+
+-- The verdict of a scenario that is run with this number as its stream number.
+abbrev pub verdict_of : Subject → Told → ℕ → Entries → Verdict
+verdict_of t told number scenario = verdict_with t.asks t.names told.report.seed t.limit number scenario
+
+-- A scenario without one of its faults.
+abbrev pub without : ℕ → Entries → Entries
+without fault scenario = kept (remove (range_with_len 0 (all_faults scenario)) fault) scenario
+
+-- The scenario of a finding is that of its number. The reduced one has the faults that ddmin keeps of it, and `tests` is how many sets ddmin looks at. It
+-- fails with the code, and doesn't if any one of its faults is left out.
+pub record IsReduction (t : Subject) (scenarios : List Entries) (told : Told) (f : FindingFacts) : Type 0 where
+  pub scenario : slice_get scenarios f.number ≡ Some f.scenario
+  pub kept_are : f.reduced ≡ reduced (verdict_of t told) f.number f.code f.scenario
+  pub tests : f.tests ≡ (reduction (verdict_of t told) f.number f.code f.scenario).tests
+  pub fails : verdict_of t told f.number f.reduced ≡ Fail f.code
+  pub minimal : (fault : ℕ) → fault < all_faults f.reduced → verdict_of t told f.number (without fault f.reduced) ≢ Fail f.code
+
+-- The scenario of a cause is that of its number.
+abbrev pub IsOfItsNumber : List Entries → CauseFacts → Type 0
+IsOfItsNumber scenarios c = slice_get scenarios c.number ≡ Some c.scenario
+
+-- Of the scenarios of all numbers, in order.
+pub record Further (t : Subject) (scenarios : List Entries) (told : Told) : Type 0 where
+  pub all_told : length told.report.verdicts ≡ length scenarios
+  pub judged : (number : ℕ) (s : Entries) → slice_get scenarios number ≡ Some s → HasVerdict told number (verdict_of t told number s)
+  pub findings : All (IsReduction t scenarios told) told.report.findings
+  pub causes : All (IsOfItsNumber scenarios) told.growth.causes
