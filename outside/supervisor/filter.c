@@ -6,6 +6,7 @@
 #include <linux/audit.h>
 #include <linux/filter.h>
 #include <linux/fs.h>
+#include <linux/futex.h>
 #include <linux/seccomp.h>
 #include <stddef.h>
 #include <stdlib.h>
@@ -73,6 +74,14 @@ static void add_condition(struct steps *steps, const struct row *row) {
         add(steps, IF_EQUAL((unsigned)FICLONERANGE, 0, 1));
         add(steps, ASK);
         return add(steps, ALLOW);
+    case FUTEXES:
+        add(steps, LOAD(ARGUMENT(row->mode)));
+        add(steps, KEEP_BITS((unsigned)FUTEX_CMD_MASK));
+        add(steps, IF_AT_LEAST(FUTEX_LOCK_PI, 0, 2));
+        add(steps, IF_EQUAL(FUTEX_WAIT_BITSET, 1, 0));
+        add(steps, IF_EQUAL(FUTEX_WAKE_BITSET, 0, 1));
+        add(steps, ASK);
+        return add(steps, ALLOW);
     default:
         return add(steps, ASK);
     }
@@ -81,7 +90,7 @@ static void add_condition(struct steps *steps, const struct row *row) {
 static bool is_looked_at(const struct row *row, const struct looks *looks) {
     if (row->where == ON_SOCKETS) return looks->sockets;
     if (row->where == PINNED) return looks->random;
-    if (row->where == ORDERED) return looks->order;
+    if (row->where == ORDERED || row->where == FUTEXES) return looks->order;
     return true;
 }
 

@@ -9,7 +9,6 @@
 #include <dirent.h>
 #include <errno.h>
 #include <fcntl.h>
-#include <linux/futex.h>
 #include <linux/openat2.h>
 #include <poll.h>
 #include <signal.h>
@@ -19,6 +18,7 @@
 #include <sys/mman.h>
 #include <sys/personality.h>
 #include <sys/prctl.h>
+#include <sys/socket.h>
 #include <sys/syscall.h>
 #include <sys/uio.h>
 #include <sys/wait.h>
@@ -40,6 +40,7 @@ static struct {
 } *shared;
 
 static int hearing[2] = {-1, -1}; /* a pipe to which the supervisor writes once it has the listener */
+static int telling[2] = {-1, -1}; /* sockets, of which the command's process shuts one when it has set its step: a call that isn't looked at */
 static pid_t keeper;
 static sigset_t signals_before;
 
@@ -134,14 +135,13 @@ static _Noreturn void keep(pid_t supervisor, const sigset_t *awaited) {
 
 static void say(enum step step) {
     __atomic_store_n(&shared->step, step, __ATOMIC_SEQ_CST);
-    syscall(SYS_futex, &shared->step, FUTEX_WAKE, 1, NULL, NULL, 0);
+    shutdown(telling[0], SHUT_RDWR);
 }
 
 static bool hears(enum step before, int milliseconds) {
-    struct timespec at_most = {milliseconds / 1000, milliseconds % 1000 * 1000000L};
-    while (__atomic_load_n(&shared->step, __ATOMIC_SEQ_CST) == (int)before)
-        if (syscall(SYS_futex, &shared->step, FUTEX_WAIT, before, &at_most, NULL, 0) && errno == ETIMEDOUT) return false;
-    return true;
+    struct pollfd told = {telling[1], POLLIN, 0};
+    while (poll(&told, 1, milliseconds) < 0 && errno == EINTR) continue;
+    return __atomic_load_n(&shared->step, __ATOMIC_SEQ_CST) != (int)before;
 }
 
 /* Waits for the supervisor. Returns false if that is gone. */
@@ -177,6 +177,7 @@ static _Noreturn void run_keeper(pid_t supervisor, char **words, const struct lo
     sigaddset(&awaited, SIGUSR1);
     keeper = getpid();
     close(hearing[1]);
+    close(telling[1]);
     prctl(PR_SET_CHILD_SUBREAPER, 1, 0, 0, 0);
     prctl(PR_SET_PDEATHSIG, SIGUSR1, 0, 0, 0);
     pid_t made = vfork();
@@ -217,11 +218,13 @@ int start_command(char **words, const struct looks *looks) {
     check_system();
     shared = mmap(NULL, sizeof *shared, PROT_READ | PROT_WRITE, MAP_SHARED | MAP_ANONYMOUS, -1, 0);
     if (shared == MAP_FAILED || pipe2(hearing, O_CLOEXEC)) refuse("memory", strerror(errno));
+    if (socketpair(AF_UNIX, SOCK_STREAM | SOCK_CLOEXEC, 0, telling)) refuse("the system forbids a pair of sockets", strerror(errno));
     sigprocmask(SIG_SETMASK, NULL, &signals_before);
     prctl(PR_SET_CHILD_SUBREAPER, 1, 0, 0, 0); /* if the keeper is killed, what it kept can be ended */
     keeper = fork();
     if (keeper < 0) refuse("can't start a process", strerror(errno));
     if (!keeper) run_keeper(supervisor, words, looks);
+    close(telling[0]);
     if (!hears(STARTED, 10000)) refuse("can't start a process", "it didn't begin within ten seconds");
     if (shared->step == FAILED)
         refuse("the system lacks seccomp with SECCOMP_FILTER_FLAG_WAIT_KILLABLE_RECV (Linux 5.19), or forbids it",
@@ -231,6 +234,7 @@ int start_command(char **words, const struct looks *looks) {
     close(hearing[0]);
     close(hearing[1]);
     hearing[1] = -1;
+    close(telling[1]);
     return listener;
 }
 

@@ -8,11 +8,16 @@
 #include <stdio.h>
 #include <stdlib.h>
 #include <sys/wait.h>
-#include <time.h>
 
-enum { MOST_THREADS = 4096, MOST_PIDS = 4194304, TRIES_AT_ONCE = 4 };
+enum { MOST_THREADS = 4096, MOST_PIDS = 4194304, TRIES_AT_ONCE = 4, MOST_IN_A_ROW = 1000 };
 
 static const uint64_t LONGEST = 2000000000; /* nanoseconds, after which a thread that doesn't rest isn't waited for any more */
+
+static const uint64_t A_MOMENT = 20000; /* between two looks at all threads */
+
+/* A thread that has computed for so long doesn't keep those waiting that were woken, so that those that share work compute at the same time. It is the
+   time of the processor, since other work on the machine doesn't count. */
+static const uint64_t A_LONG_TIME = 50000000;
 
 static enum order how;
 
@@ -30,6 +35,8 @@ bool may_go(struct call *call) {
 static struct looked {
     int number, stat, turns;
     bool is_restless; /* it isn't waited for */
+    bool computes;    /* it didn't rest when it was looked at last */
+    uint64_t began;   /* how long it had computed when it was first seen so */
 } all[MOST_THREADS];
 static int count;
 
@@ -39,10 +46,10 @@ static int open_proc(int thread, const char *name) {
     return had(open(path, O_RDONLY | O_CLOEXEC));
 }
 
-static bool was_restless(int thread) {
+static struct looked looked_before(int thread) {
     for (int i = 0; i < count; i++)
-        if (all[i].number == thread) return all[i].is_restless;
-    return false;
+        if (all[i].number == thread) return all[i];
+    return (struct looked){.number = thread};
 }
 
 static struct looked listed[MOST_THREADS];
@@ -50,8 +57,11 @@ static int listed_count;
 
 static bool list(pid_t process, pid_t thread) {
     (void)process;
-    if (listed_count < MOST_THREADS)
-        listed[listed_count++] = (struct looked){thread, open_proc(thread, "stat"), open_proc(thread, "schedstat"), was_restless(thread)};
+    if (listed_count == MOST_THREADS) return true;
+    struct looked *looked = &listed[listed_count++];
+    *looked = looked_before(thread);
+    looked->stat = open_proc(thread, "stat");
+    looked->turns = open_proc(thread, "schedstat");
     return true;
 }
 
@@ -107,7 +117,8 @@ static bool tells_numbers(void) {
 /* ---- at rest */
 
 static bool (*has_call)(int thread);
-static struct looked *unsettled; /* the first that isn't at rest */
+static struct looked *unsettled; /* one that isn't at rest */
+static bool waits_shortly;       /* whether one that computes for long doesn't count */
 
 /* Whether a thread waits for a child that uses its memory. It sleeps in the same way as one that waits for a disk. */
 static bool waits_for_child(int thread) {
@@ -117,16 +128,23 @@ static bool waits_for_child(int thread) {
     return number == SYS_vfork || number == SYS_clone || number == SYS_clone3;
 }
 
+static bool moves(const struct looked *thread) {
+    char text[512];
+    const char *name_end = read_text_of(thread->stat, text, sizeof text) ? strrchr(text, ')') : NULL;
+    return name_end && (name_end[2] == 'R' || (name_end[2] == 'D' && !waits_for_child(thread->number)));
+}
+
 /* Looks at a thread, and adds to `turns` how often it had a turn on a processor. Returns false if it isn't at rest. */
 static bool look(struct looked *thread, uint64_t *turns) {
     char text[512];
-    unsigned long long times = 0;
-    if (has_call(thread->number) || thread->is_restless || !read_text_of(thread->stat, text, sizeof text)) return true;
-    const char *name_end = strrchr(text, ')');
-    bool moves = name_end && (name_end[2] == 'R' || (name_end[2] == 'D' && !waits_for_child(thread->number)));
-    if (moves) unsettled = thread;
-    if (moves) return false;
-    if (read_text_of(thread->turns, text, sizeof text)) sscanf(text, "%*u %*u %llu", &times);
+    unsigned long long computed = 0, times = 0;
+    bool is_known = thread->is_restless || has_call(thread->number), went_on = thread->computes;
+    thread->computes = !is_known && moves(thread);
+    if (is_known) return true;
+    if (read_text_of(thread->turns, text, sizeof text)) sscanf(text, "%llu %*u %llu", &computed, &times);
+    if (!went_on) thread->began = computed;
+    if (thread->computes) unsettled = thread;
+    if (thread->computes) return waits_shortly && computed - thread->began > A_LONG_TIME;
     *turns = *turns * 31 + times * 131 + (unsigned)thread->number;
     return true;
 }
@@ -157,14 +175,22 @@ static void give_up(void) {
     if (unsettled) unsettled->is_restless = true;
 }
 
-bool is_settled(bool (*waits)(int thread)) {
+bool all_at_rest(bool (*waits)(int thread)) {
     has_call = waits;
+    waits_shortly = false;
+    return all_rest();
+}
+
+void forget_unsettled(void) { tries = 0; }
+
+uint64_t time_to_next_look(void) { return tries > TRIES_AT_ONCE ? A_MOMENT : 0; }
+
+bool is_settled(bool (*waits)(int thread), bool shortly) {
+    has_call = waits;
+    waits_shortly = shortly;
     if (!tries++) since = now();
     bool is_late = now() - since > LONGEST;
-    if (!is_late && !all_rest()) {
-        if (tries > TRIES_AT_ONCE) nanosleep(&(struct timespec){0, 20000}, NULL);
-        return false;
-    }
+    if (!is_late && !all_rest()) return false;
     if (is_late) give_up();
     tries = 0;
     return true;
@@ -175,9 +201,15 @@ bool is_settled(bool (*waits)(int thread)) {
 /* The age of a thread by its number. Numbers are given in turn, and begin again after the last one. */
 static int age_of(const struct call *call) { return ((int)call->told.pid - command() + MOST_PIDS) % MOST_PIDS; }
 
+/* First of all go threads that don't rest but for the order: so each has come to its next call on a file when one of these is chosen. */
+static int rank(const struct call *call) {
+    return call->turn == OF_CALL ? 2 : call->turn == GIVES_WAY;
+}
+
 /* The order of two calls. Sleeps come after all other calls. */
 static int by_turn(const void *first, const void *second) {
     const struct call *one = *(struct call *const *)first, *other = *(struct call *const *)second;
+    if (rank(one) != rank(other)) return rank(one) - rank(other);
     if (one->sleeps_until != other->sleeps_until) return one->sleeps_until < other->sleeps_until ? -1 : 1;
     return age_of(one) - age_of(other);
 }
@@ -196,12 +228,23 @@ static bool goes_first(const struct call *call) {
     return answer == GO || answer == NOT_YET;
 }
 
+/* Threads that wake one another for ever don't keep a call waiting: it goes once so many of them have gone in a row. */
+static size_t first_of(struct call *const *sorted, size_t calls_count) {
+    static int in_a_row;
+    size_t first = 0;
+    while (first < calls_count && rank(sorted[first]) < 2) first++;
+    bool both = first && first < calls_count && !sorted[first]->sleeps_until;
+    in_a_row = both && in_a_row < MOST_IN_A_ROW ? in_a_row + 1 : 0;
+    return both && !in_a_row ? first : 0;
+}
+
 size_t next_of(struct call *const *calls, size_t calls_count) {
     struct call *sorted[MOST_THREADS];
-    size_t first = 0, which = 0;
+    size_t which = 0;
     if (calls_count > MOST_THREADS) calls_count = MOST_THREADS;
     memcpy(sorted, calls, calls_count * sizeof *sorted);
     qsort(sorted, calls_count, sizeof *sorted, by_turn);
+    size_t first = first_of(sorted, calls_count);
     while (first + 1 < calls_count && is_asked(sorted[first], sorted[first + 1]) && !goes_first(sorted[first])) first++;
     while (calls[which] != sorted[first]) which++;
     return which;

@@ -5,6 +5,7 @@
 
 #include <stdbool.h>
 #include <stddef.h>
+#include <stdint.h>
 
 struct call;
 
@@ -15,8 +16,17 @@ bool is_ordered(void);
 /* Whether a call may go on now. Otherwise it waits for its turn, and is served again then. */
 bool may_go(struct call *call);
 
-/* Whether every thread of the run rests, except for those that never do. `waits` says whether a thread has a call that waits here. */
-bool is_settled(bool (*waits)(int thread));
+/* Whether every thread of the run rests, except for those that never do. `waits` says whether a thread has a call that waits here. A thread that
+   doesn't rest for two seconds isn't waited for any more; forget_unsettled says that nothing waits for rest now. With `shortly` one that computes
+   for long isn't waited for. */
+bool is_settled(bool (*waits)(int thread), bool shortly);
+void forget_unsettled(void);
+
+/* In how many nanoseconds all threads should be looked at again, if no call comes before. */
+uint64_t time_to_next_look(void);
+
+/* Whether every thread rests at this moment. */
+bool all_at_rest(bool (*waits)(int thread));
 
 /* The place of the call that goes next among these. */
 size_t next_of(struct call *const *calls, size_t count);

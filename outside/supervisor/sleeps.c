@@ -11,7 +11,20 @@
 
 static const uint64_t A_SECOND = 1000000000, LONGEST = 2000000000;
 
+/* The limit of a wait ends in a program that does something else meanwhile. There it isn't so late that the program does much more of that. */
+static const uint64_t LONGEST_OF_LIMIT = 200000000;
+
 static uint64_t slept; /* the time as it would be if only sleeps took time */
+
+void begin_sleep(struct call *call, uint64_t length) {
+    call->hit.wakes = now() + length;
+    call->sleeps_until = slept + length + 1;
+    call->waits_turn = true;
+}
+
+void note_sleep(const struct call *call) {
+    if (call->sleeps_until > slept) slept = call->sleeps_until;
+}
 
 static bool is_common(clockid_t clock) {
     return clock == CLOCK_REALTIME || clock == CLOCK_MONOTONIC || clock == CLOCK_BOOTTIME || clock == CLOCK_TAI;
@@ -44,18 +57,18 @@ void serve_sleep(struct call *call) {
     uint64_t length;
     if (call->sleeps_until) {
         if (!call->chosen) unseen("the order of a sleep, since other calls went on for two seconds:", program_of(call->thread));
-        if (call->sleeps_until > slept) slept = call->sleeps_until;
+        note_sleep(call);
         return finish(call, 0);
     }
     if (has_company(call->thread) || !read_length(call, &length)) return go_on(call);
-    call->hit.wakes = now() + length;
-    call->sleeps_until = slept + length + 1;
-    call->waits_turn = true;
+    begin_sleep(call, length);
 }
 
 bool has_slept(const struct call *call) { return call->hit.wakes <= now(); }
 
-bool is_overdue(const struct call *call) { return call->sleeps_until && call->hit.wakes + LONGEST <= now(); }
+bool is_overdue(const struct call *call) {
+    return call->sleeps_until && call->hit.wakes + (call->waits_wake ? LONGEST_OF_LIMIT : LONGEST) <= now();
+}
 
 /* Ends a sleep early, and writes how much of its time is left if the call asks for that. */
 void end_sleep(struct call *call) {

@@ -4,7 +4,7 @@
    what the scenario does there; trace.c writes the lines, and crashes.c those about processes that crashed. noting.c says what is noted, and
    notes_file.c writes it. variables.c reads the environment. ../run has what the power cut shares with it. The other files serve the calls: opens.c,
    bytes.c, copies.c, lengths.c, syncs.c, names.c, attributes.c and maps.c those on files, streams.c those on pipes and sockets, pin.c random bytes, sleeps.c sleeps,
-   and programs.c calls that are no points. */
+   futexes.c locks and what threads begin by, and programs.c calls that are no points. */
 #ifndef SUPERVISOR_H
 #define SUPERVISOR_H
 
@@ -31,6 +31,22 @@ struct hit {
 
 enum { MOST_HELD = 100 };
 
+/* Which turn a call waits for, if calls have an order. AWAKE: its thread was just begun, or what it waited for has come. GIVES_WAY: it lets those
+   go first. */
+enum turn { OF_CALL, AWAKE, GIVES_WAY };
+
+/* The word for which a futex's wait waits, as futexes.c has it. */
+struct word {
+    uint64_t at;      /* its address */
+    unsigned value;   /* what it has while the thread waits, or had when the thread was woken */
+    unsigned bits;    /* only a wake for one of these is for it */
+    bool is_private;  /* whether only wakes are for it that are private too */
+    bool has_limit;   /* whether it waits for some time at most */
+    bool has_signal;  /* whether a signal ends the wait */
+    int process;
+    uint64_t came;    /* which wait of the run it is */
+};
+
 struct call {
     struct seccomp_notif told;
     const struct row *row;
@@ -38,6 +54,9 @@ struct call {
     struct hit hit;
     bool is_answered;
     bool waits_turn, chosen; /* whether it waits for its turn, and whether it has its turn */
+    enum turn turn;
+    bool waits_wake;  /* whether it waits for a futex, and nobody has woken it yet */
+    struct word word;
     int waits_for;    /* a descriptor that must be ready before it goes on, or -1 */
     short events;
     size_t moved;     /* the bytes that were moved in a transfer that isn't over */
@@ -76,10 +95,16 @@ void interrupt(struct call *call);
 /* Or the call waits until that descriptor is ready. */
 void wait_for(struct call *call, int file, short events);
 
+/* A call sleeps for so many nanoseconds, or until something else comes. */
+void begin_sleep(struct call *call, uint64_t length);
+
 /* Whether the time of a sleep is over, and whether it was over long ago. A signal ends a sleep early. */
 bool has_slept(const struct call *call);
 bool is_overdue(const struct call *call);
 void end_sleep(struct call *call);
+
+/* Says that the time of a sleep is over. */
+void note_sleep(const struct call *call);
 
 /* ---- the run */
 
@@ -110,6 +135,7 @@ struct thread {
     int mask;        /* its umask, or -1 if it isn't known */
     bool is_elsewhere; /* its root or its mounts aren't those of the supervisor */
     bool has_company;  /* whether its process has had other threads */
+    enum { NOT_KNOWN, OF_ANOTHER, OF_GO } language; /* that of its program */
     int folder;      /* its current folder, or -1; it is known as of `moves` changes of such folders */
     struct facts of_folder;
     uint64_t moves;
@@ -140,6 +166,9 @@ void begins_program(struct thread *thread);
 
 /* The path of its program. */
 const char *program_of(const struct thread *thread);
+
+/* Whether its program is one of Go, whose runtime decides itself which of its threads does what. */
+bool is_of_go(struct thread *thread);
 
 /* Read and write the thread's memory. They return how many bytes were read or written, which may be a part. */
 size_t read_memory(const struct thread *thread, uint64_t at, void *to, size_t length);

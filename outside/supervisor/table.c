@@ -103,6 +103,9 @@ const struct row table[] = {
     {SYS_io_setup, POINTS, serve_requests, .where = ALWAYS},
     {SYS_nanosleep, POINTS, serve_sleep, ORDERED, .bytes = 1, .other_at = 2},
     {SYS_clock_nanosleep, POINTS, serve_sleep, ORDERED, .mode = 1, .flags = 2, .bytes = 3, .other_at = 4},
+    {SYS_futex, POINTS, serve_futex, FUTEXES, .at = 1, .mode = 2, .length = 3, .bytes = 4, .other_at = 5, .flags = 6},
+    {SYS_set_robust_list, POINTS, serve_begin, ORDERED, .bytes = 1, .length = 2},
+    {SYS_sched_yield, POINTS, serve_yield, .where = ORDERED},
     {SYS_getrandom, POINTS, serve_random, PINNED, .bytes = 1, .length = 2},
 };
 const size_t table_length = sizeof table / sizeof *table;

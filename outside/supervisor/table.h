@@ -19,6 +19,7 @@ enum where {
     ON_SOCKETS,    /* if sockets are points */
     PINNED,        /* if random bytes are the same in each run */
     ORDERED,       /* if calls have an order */
+    FUTEXES,       /* the same, and what it does with a futex isn't about priorities */
 };
 
 /* Numbers of arguments, counted from 1. A number is 0 if the call has no such argument. */
@@ -75,5 +76,8 @@ void serve_one_message(struct call *call);
 void serve_all_messages(struct call *call);
 void serve_random(struct call *call);
 void serve_sleep(struct call *call);
+void serve_futex(struct call *call);
+void serve_begin(struct call *call);
+void serve_yield(struct call *call);
 
 #endif

@@ -142,6 +142,7 @@ static void take_name(struct thread *thread) {
 }
 
 void begins_program(struct thread *thread) {
+    thread->language = NOT_KNOWN;
     read_status(thread);
     take_name(thread);
 }
@@ -180,6 +181,19 @@ const char *program_of(const struct thread *thread) {
     if (length > 0) return program;
     const char *name = status_of(thread, "Name:\t");
     return name ? strcpy(program, strndupa(name, strcspn(name, "\n"))) : "";
+}
+
+/* The linker of Go leaves a note of type 4 whose owner is Go, in the first page of the file. */
+bool is_of_go(struct thread *thread) {
+    static const char note[] = "\4\0\0\0Go\0";
+    char path[64], page[PAGE];
+    if (thread->language != NOT_KNOWN) return thread->language == OF_GO;
+    snprintf(path, sizeof path, "/proc/%d/exe", thread->process);
+    int file = had(open(path, O_RDONLY | O_CLOEXEC));
+    ssize_t length = file < 0 ? 0 : read(file, page, sizeof page);
+    if (file >= 0) close(file);
+    thread->language = length > 0 && memmem(page, (size_t)length, note, sizeof note) ? OF_GO : OF_ANOTHER;
+    return thread->language == OF_GO;
 }
 
 /* Ends the run if the system forbids to look into a thread, since its calls would go on unseen. */

@@ -1,13 +1,17 @@
 #define _GNU_SOURCE
 #include "waiting.h"
 
+#include "futexes.h"
 #include "order.h"
 
 #include <errno.h>
 #include <poll.h>
 #include <stdlib.h>
+#include <time.h>
 
 enum { LONGEST_WAIT = 10 }; /* milliseconds between two checks of whether the threads that wait are still there */
+
+static const uint64_t A_MILLISECOND = 1000000;
 
 static struct call *list;
 static size_t length, room;
@@ -23,6 +27,11 @@ void keep_waiting(const struct call *call) {
     list[length++] = *call;
 }
 
+struct call *next_waiting(struct call *before) {
+    size_t next = before ? (size_t)(before - list) + 1 : 0;
+    return next < length ? &list[next] : NULL;
+}
+
 void wait_for(struct call *call, int file, short events) {
     call->waits_for = file;
     call->events = events;
@@ -34,17 +43,17 @@ static void sooner(uint64_t *least, uint64_t time, uint64_t then) {
     if (then > time && then - time < *least) *least = then - time;
 }
 
-static int time_left(void) {
-    uint64_t time = now(), least = LONGEST_WAIT * 1000000ull;
+static uint64_t time_left(void) {
+    uint64_t time = now(), least = LONGEST_WAIT * A_MILLISECOND;
     for (size_t i = 0; i < length; i++) {
         sooner(&least, time, list[i].hit.wakes);
         sooner(&least, time, list[i].gives_up);
     }
-    return (int)((least + 999999) / 1000000);
+    return least;
 }
 
 static bool may_be_served(const struct call *call, short ready) {
-    if (call->waits_turn) return is_overdue(call);
+    if (call->waits_turn || call->waits_wake) return is_overdue(call);
     if (call->hit.wakes > now()) return false;
     return call->waits_for < 0 || ready || (call->gives_up && call->gives_up <= now());
 }
@@ -69,7 +78,7 @@ static void serve_again(size_t which) {
 static void interrupt_one(size_t which) {
     struct call call;
     bool may_be = list[which].waits_for >= 0 || list[which].sleeps_until;
-    if (!may_be || !has_signal(thread_of((int)list[which].told.pid))) return;
+    if (!may_be || list[which].waits_wake || !has_signal(thread_of((int)list[which].told.pid))) return;
     take(which, &call);
     call.thread = thread_of((int)call.told.pid);
     if (call.sleeps_until) end_sleep(&call);
@@ -91,37 +100,63 @@ static size_t all_turns(struct call **calls) {
     return count;
 }
 
-/* Whether a call may get its turn. If only sleeps wait, the time of the first one must be over. */
-static bool turn_may_come(void) {
+static bool comes_before(const struct call *one, const struct call *other) {
+    if ((one->turn == OF_CALL) != (other->turn == OF_CALL)) return one->turn != OF_CALL;
+    return one->sleeps_until < other->sleeps_until;
+}
+
+/* A call that may get its turn, if there is one. If only sleeps wait, the time of the first one must be over. */
+static const struct call *first_turn(void) {
     const struct call *first = NULL;
     for (size_t i = 0; i < length; i++)
-        if (list[i].waits_turn && (!first || list[i].sleeps_until < first->sleeps_until)) first = &list[i];
-    return first && (!first->sleeps_until || has_slept(first));
+        if (list[i].waits_turn && (!first || comes_before(&list[i], first))) first = &list[i];
+    return first && (!first->sleeps_until || has_slept(first)) ? first : NULL;
+}
+
+/* Whether all threads rest. A limit of a wait doesn't wait for a thread that never rests, and is over all the same some time later. */
+static bool may_take(const struct call *first) {
+    if (!first->waits_wake) return is_settled(waits_here, first->turn != OF_CALL);
+    forget_unsettled();
+    return all_at_rest(waits_here);
 }
 
 /* Gives a call its turn, once all threads rest and no call has come meanwhile. */
 static void take_turn(int listener) {
     struct call *calls[length + 1];
-    size_t count = all_turns(calls);
-    if (!count || !turn_may_come() || !is_settled(waits_here) || poll(&(struct pollfd){listener, POLLIN, 0}, 1, 0) != 0) return;
-    struct call *next = calls[next_of(calls, count)];
+    const struct call *first = first_turn();
+    if (!first) return forget_unsettled();
+    if (!may_take(first) || poll(&(struct pollfd){listener, POLLIN, 0}, 1, 0) != 0) return;
+    see_signals();
+    struct call *next = calls[next_of(calls, all_turns(calls))];
     next->waits_turn = false;
     next->chosen = true;
     serve_again((size_t)(next - list));
 }
 
+/* If nothing has happened for some time: lets those waits for futexes end that a signal ends, or whose word has changed though nobody was seen who
+   woke them. */
+static void look_at_waits(void) {
+    see_signals();
+    if (!first_turn() && sees_change() && all_at_rest(waits_here)) wake_changed();
+}
 
+/* A call that comes is received before those that wait are looked at, but they are looked at each millisecond: until it is received, a signal ends it. */
 void wait_for_any(int listener) {
+    static uint64_t looks_at;
     size_t count = length;
     struct pollfd files[count + 1];
     files[count] = (struct pollfd){listener, POLLIN, 0};
     for (size_t i = 0; i < count; i++) files[i] = (struct pollfd){list[i].waits_for, list[i].events, 0};
-    poll(files, count + 1, turn_may_come() ? 0 : time_left());
+    struct timespec most = {0, (long)(first_turn() ? time_to_next_look() : time_left())};
+    bool is_quiet = !ppoll(files, count + 1, &most, NULL) && !first_turn();
+    if (files[count].revents && now() < looks_at) return;
+    looks_at = now() + A_MILLISECOND;
     for (size_t i = count; i-- > 0;) {
         bool over = !still_waits(&list[i]);
         list[i].is_answered = false;
         if (over || may_be_served(&list[i], files[i].revents)) serve_again(i);
         else interrupt_one(i);
     }
+    if (is_quiet) look_at_waits();
     if (!files[count].revents) take_turn(listener);
 }

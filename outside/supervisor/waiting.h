@@ -10,6 +10,9 @@ void serve(struct call *call);
 void keep_waiting(const struct call *call);
 bool waits_at_all(void);
 
+/* The calls that wait, one after the other: the first is behind null, and null is behind the last. */
+struct call *next_waiting(struct call *before);
+
 /* Waits until another call comes, or until one that waits may go on, and serves the latter. */
 void wait_for_any(int listener);
 
