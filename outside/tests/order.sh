@@ -41,6 +41,44 @@ run none --order settled sh -c 'while :; do :; done & p=$!; echo x > a; echo y >
 is 'a thread that never rests is given up once, and told' '0 xy faults: not seen: the order of calls, since a thread never rests: sh' \
     "$status $(tr -d '\n' < "$here/data/a") $faults"
 
+# Threads that wait for one another, twenty times each: how many different ones there are of how it ended, of its trace and of its file, and how it ended.
+gcc -std=gnu11 -O1 -Wall -Wextra -Werror -o "$here/threads" tests/threads.c -pthread
+g++ -std=c++17 -O1 -Wall -Wextra -Werror -o "$here/futures" tests/futures.cc -pthread
+waiting() {
+    for _ in $(seq 20); do
+        new
+        run none --order settled "$@"
+        printf '%s%s %s\n' "$status" "$faults" "$({ cut -f 2,4,5,7,8 "$here/run/trace"; cat "$here/data/log"; } | cksum)"
+    done | sort -u > "$here/waited"
+    echo "$(wc -l < "$here/waited") $(cut -d ' ' -f 1 "$here/waited" | sort -u | paste -s -d ' ')"
+}
+written() { paste -s -d ' ' "$here/data/log"; }
+# Thread `one` holds the lock when the others begin. Each of them is woken once and comes too late, and from then on whoever unlocks gives way.
+is 'threads get a lock in one order' '1 0' "$(waiting "$here/threads" locks)"
+is 'and each gets it' 'one 0 one 1 one 2 two 0 three 0' "$(written | cut -d ' ' -f 1-10)"
+is 'threads begin in the order of their ages, behind the one that begins them' '1 0 main 0 one 0 two 0 three 0' \
+    "$(waiting "$here/threads" starts) $(written)"
+is 'a thread that takes a lock again and again lets others have it' '1 0' "$(waiting "$here/threads" told_to_end)"
+is 'a thread syncs for three' '1 0' "$(waiting "$here/threads" commits)"
+# However short the limit is, it is over when all three wait.
+is 'or waits for them up to a limit' "1 0 $(for i in 0 1 2 3; do printf 'one %d two %d three %d ' $i $i $i; done)" "$(waiting "$here/threads" gathers) $(written) "
+is 'limits that are not over' '1 0' "$(waiting "$here/threads" turns)"
+is 'barriers' '1 0' "$(waiting "$here/threads" barriers)"
+is 'semaphores' '1 0' "$(waiting "$here/threads" semaphores)"
+is 'locks for readers' '1 0' "$(waiting "$here/threads" readers)"
+is 'threads that wake each other for ever' '1 0' "$(waiting "$here/threads" talks)"
+is 'a thread that yields to one that begins' '1 0 main 0 begun 0' "$(waiting "$here/threads" yields) $(written)"
+is 'or waits in a loop' '1 0' "$(waiting "$here/threads" spins)"
+is 'signals for threads that wait' '1 0' "$(waiting "$here/threads" signals)"
+is 'threads that are cancelled while they wait' '1 0' "$(waiting "$here/threads" cancels)"
+is 'processes beside threads that wait' '1 0' "$(waiting "$here/threads" forks)"
+is 'a program in place of threads that wait' '1 0' "$(waiting "$here/threads" replaces)"
+is 'a process that is killed while its threads wait' '1 0' "$(waiting "$here/threads" kills)"
+is 'a lock that processes share' '1 0' "$(waiting "$here/threads" shares)"
+is "the system's own calls" '1 0' "$(waiting "$here/threads" wakes)"
+is 'a word that the system clears' '1 0' "$(waiting "$here/threads" cleared)"
+is 'threads of C++' '1 0' "$(waiting "$here/futures")"
+
 # A record that is lost only where a thread is overtaken between two calls. What is judged is what the program left.
 gcc -std=gnu11 -O1 -Wall -Wextra -Werror -o "$here/race" tests/race.c -pthread
 cat > "$here/race.sh" <<'END'
