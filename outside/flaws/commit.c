@@ -1,13 +1,15 @@
 /* commit FLAW: two threads each append a word to the file `log` of the folder in which it is started, and say `stored WORD` once it lasts. A third
-   syncs the file for both, and then the folder. No thread waits for the lock while another one makes a call, so calls come in one order. */
+   syncs the file for both, and then the folder. Whoever appends holds the lock, and the others wait for it meanwhile. */
 #include "flaw.h"
 #include <pthread.h>
+#include <stdatomic.h>
 
 enum { STORING = 2 };
 
 static pthread_mutex_t lock = PTHREAD_MUTEX_INITIALIZER;
 static pthread_cond_t changed = PTHREAD_COND_INITIALIZER;
-static int file, written, synced;
+static int file, synced;
+static atomic_int written;
 static bool failed, ended;
 
 static void said(const char *word) { dprintf(STDOUT_FILENO, "stored %s\n", word); }
@@ -16,8 +18,8 @@ static void said(const char *word) { dprintf(STDOUT_FILENO, "stored %s\n", word)
 static void *store(void *word) {
     char line[100];
     int length = snprintf(line, sizeof line, "%s\n", (char *)word);
-    must(write_all(file, line, (size_t)length), "log");
     pthread_mutex_lock(&lock);
+    must(write_all(file, line, (size_t)length), "log");
     int mine = ++written;
     if (has("acknowledged_early")) said(word);
     pthread_cond_broadcast(&changed);
@@ -38,9 +40,10 @@ static void *sync_for_all(void *none) {
         int covered = written;
         pthread_mutex_unlock(&lock);
         bool done = sync_file(file) && sync_names();
+        if (has("counted_late")) covered = written;
         pthread_mutex_lock(&lock);
         if (!done) failed = true;
-        else synced = has("counted_late") ? written : covered;
+        else synced = covered;
         pthread_cond_broadcast(&changed);
     }
     pthread_mutex_unlock(&lock);
