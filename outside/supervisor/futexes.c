@@ -87,7 +87,7 @@ static void begin_wait(struct call *call) {
     if (value != (unsigned)argument(call, call->row->length)) return finish(call, -EAGAIN);
     if (is_of_go(call->thread) || is_left(call, at, value)) return go_on(call);
     call->word = (struct word){.at = at, .value = value, .bits = bits_of(call), .is_private = is_private(call),
-        .has_limit = left, .process = call->thread->process, .came = ++waits};
+        .process = call->thread->process, .came = ++waits};
     call->waits_wake = true;
     if (left) begin_sleep(call, left);
 }
@@ -117,7 +117,7 @@ static bool was_overtaken(int thread, uint64_t at) {
 
 /* ---- how a wait ends */
 
-/* Lets a wait end in its turn. A signal doesn't count as the wake that it ends before. */
+/* Lets a wait end in its turn. A signal isn't the wake for which it waits. */
 static void awake(struct call *call, bool by_signal) {
     call->waits_wake = by_signal;
     call->word.has_signal = by_signal;
@@ -126,20 +126,17 @@ static void awake(struct call *call, bool by_signal) {
     call->sleeps_until = 0;
 }
 
+/* The system ends a wait for which a signal has come, as soon as it makes that call. If the signal is another thread's after all, the wait is kept there. */
 static void end_wait(struct call *call) {
     unsigned value = call->word.value;
-    if (!call->waits_wake) {
-        read_value(call->thread, call->word.at, &value);
-        note_overtaken(call->thread->number, call->word.at, value != call->word.value);
-        finish(call, 0);
-    } else if (!call->word.has_signal) {
+    if (call->waits_wake && call->word.has_signal) return go_on(call);
+    if (call->waits_wake) {
         note_sleep(call);
-        finish(call, -ETIMEDOUT);
-    } else if (call->word.has_limit) {
-        finish(call, -EINTR);
-    } else {
-        interrupt(call);
+        return finish(call, -ETIMEDOUT);
     }
+    read_value(call->thread, call->word.at, &value);
+    note_overtaken(call->thread->number, call->word.at, value != call->word.value);
+    finish(call, 0);
 }
 
 void see_signals(void) {

@@ -41,7 +41,6 @@ struct word {
     unsigned value;   /* what it has while the thread waits, or had when the thread was woken */
     unsigned bits;    /* only a wake for one of these is for it */
     bool is_private;  /* whether only wakes are for it that are private too */
-    bool has_limit;   /* whether it waits for some time at most */
     bool has_signal;  /* whether a signal ends the wait */
     int process;
     uint64_t came;    /* which wait of the run it is */

@@ -43,19 +43,30 @@ static const char *line_of_status(const char *line) {
     return found ? found + strlen(line) : NULL;
 }
 
-const char *status_of(const struct thread *thread, const char *line) {
-    read_status(thread);
-    return line_of_status(line);
-}
-
-static uint64_t signals_of(const struct thread *thread, const char *line) {
-    const char *text = status_of(thread, line);
+/* The signals in a line of the status that was read last. */
+static uint64_t signals_in(const char *line) {
+    const char *text = line_of_status(line);
     return text ? strtoull(text, NULL, 16) : 0;
 }
 
+/* Which of these signals the first thread of a process doesn't take. */
+static uint64_t left_by_first(int process, uint64_t signals) {
+    read_status(&(struct thread){.number = process});
+    const char *text = line_of_status("State:\t");
+    return !text || *text == 'Z' || *text == 'X' ? signals : signals & signals_in("SigBlk:");
+}
+
+/* A signal for a process goes to its first thread, unless that blocks it. */
 bool has_signal(const struct thread *thread) {
-    uint64_t come = signals_of(thread, "SigPnd:") | signals_of(thread, "ShdPnd:");
-    return come & ~signals_of(thread, "SigBlk:");
+    read_status(thread);
+    uint64_t taken = ~signals_in("SigBlk:"), own = signals_in("SigPnd:") & taken, of_all = signals_in("ShdPnd:") & taken;
+    if (own || !of_all || thread->number == thread->process) return own || of_all;
+    return left_by_first(thread->process, of_all);
+}
+
+const char *status_of(const struct thread *thread, const char *line) {
+    read_status(thread);
+    return line_of_status(line);
 }
 
 /* Whether a thread has the same root or mounts as the supervisor, whose own don't change. */

@@ -330,8 +330,10 @@ static void let_end(void) {
     pthread_mutex_unlock(&lock);
 }
 
-/* A signal comes for each of three threads that wait, once with a handler after which the system makes the call again, and once without. */
+/* A signal comes for each of three threads that wait, once with a handler after which the system makes the call again, and once without. Then one comes for
+   any of them, as the first thread blocks it. */
 static int signals(void) {
+    sigset_t blocked;
     begin(wait_for_end);
     say("main", 0);
     for (int i = 0; i < 2 * THREADS; i++) {
@@ -340,6 +342,10 @@ static int signals(void) {
         must(!pthread_kill(threads[i % THREADS], SIGUSR1), "pthread_kill");
         say("main", i + 1);
     }
+    sigemptyset(&blocked);
+    sigaddset(&blocked, SIGUSR1);
+    must(!pthread_sigmask(SIG_BLOCK, &blocked, NULL) && !kill(getpid(), SIGUSR1), "kill");
+    say("main", 2 * THREADS + 1);
     let_end();
     join();
     return 0;
