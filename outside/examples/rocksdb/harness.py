@@ -2,7 +2,7 @@
 and its judge are those of ../leveldb, with RocksDB as the store. It needs `make -C outside out/store-rocksdb`, with Debian's g++ and librocksdb-dev. Variables of the
 environment change the run:
     BATCHES     how many batches are committed. Default: 9. With SIZE, the length of each value (default: 6000), a new log replaces the old one as its table is written
-    THREADS     how many threads commit at once. Default: 1. Several threads decide in memory which of them writes for the others: with 3 each run is another one
+    THREADS     how many threads commit at once. Default: 1. Several threads decide in memory which of them writes for the others
     FAULTS_SYNC ext4 (the default here): under posix names of its files are lost if the power goes while it is opened
 
 Promised by RocksDB's options.h, WriteOptions, sync: "If true, the write will be flushed from the operating system buffer cache (by calling WritableFile::Sync())
