@@ -13,6 +13,7 @@
 #define _GNU_SOURCE
 #include "futexes.h"
 
+#include "order.h"
 #include "supervisor.h"
 #include "waiting.h"
 
@@ -79,13 +80,16 @@ static bool is_left(const struct call *call, uint64_t at, unsigned value) {
     return !access(path, F_OK) || !is_own(call->thread, at);
 }
 
+/* Whether a thread of this program waits here at all. */
+static bool is_in_order(const struct call *call) { return keeps_waits() && !is_of_go(call->thread); }
+
 static void begin_wait(struct call *call) {
     static uint64_t waits;
     uint64_t at = argument(call, call->row->at), left;
     unsigned value;
     if (!bits_of(call) || !read_limit(call, &left) || !read_value(call->thread, at, &value)) return go_on(call);
     if (value != (unsigned)argument(call, call->row->length)) return finish(call, -EAGAIN);
-    if (is_of_go(call->thread) || is_left(call, at, value)) return go_on(call);
+    if (!is_in_order(call) || is_left(call, at, value)) return go_on(call);
     call->word = (struct word){.at = at, .value = value, .bits = bits_of(call), .is_private = is_private(call),
         .process = call->thread->process, .came = ++waits};
     call->waits_wake = true;
@@ -200,7 +204,7 @@ static void wake_some(struct call *call) {
     bool gives_way = false;
     unsigned woken = wake(call, argument(call, call->row->at), most, &gives_way);
     if (woken < most) return go_on(call);
-    if (most > 1 || !gives_way) return finish(call, woken);
+    if (most > 1 || !gives_way || !is_in_order(call)) return finish(call, woken);
     call->turn = GIVES_WAY;
     call->waits_turn = true;
 }
@@ -232,7 +236,7 @@ void serve_futex(struct call *call) {
 
 /* The C library makes this call in each thread, child and program that it begins. Until its turn it doesn't run beside the one that began it. */
 void serve_begin(struct call *call) {
-    if (call->chosen || is_of_go(call->thread)) return go_on(call);
+    if (call->chosen || !is_in_order(call)) return go_on(call);
     call->turn = AWAKE;
     call->waits_turn = true;
 }
@@ -241,7 +245,7 @@ void serve_begin(struct call *call) {
 void serve_yield(struct call *call) {
     bool others = false;
     for (struct call *other = NULL; (other = next_waiting(other));) others = others || (other->waits_turn && other->turn == AWAKE);
-    if (!others || call->chosen || is_of_go(call->thread)) return go_on(call);
+    if (!others || call->chosen || !is_in_order(call)) return go_on(call);
     call->turn = GIVES_WAY;
     call->waits_turn = true;
 }

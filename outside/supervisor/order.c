@@ -19,6 +19,12 @@ static const uint64_t A_MOMENT = 20000; /* between two looks at all threads */
    time of the processor, since other work on the machine doesn't count. */
 static const uint64_t A_LONG_TIME = 50000000;
 
+/* Nor do threads that sleep again and again: after this time it is enough that each has rested once. */
+static const uint64_t A_WHILE = 100000000;
+
+/* Nor do all together for longer than this in a run. Where that is how threads work the order takes time, and has little to put into order. */
+static const uint64_t LONGEST_OF_ALL = 500000000;
+
 static enum order how;
 
 void set_order(enum order order) { how = order; }
@@ -36,7 +42,8 @@ static struct looked {
     int number, stat, turns;
     bool is_restless; /* it isn't waited for */
     bool computes;    /* it didn't rest when it was looked at last */
-    uint64_t began;   /* how long it had computed when it was first seen so */
+    uint64_t rested;  /* for which turn it rested */
+    uint64_t began, computed; /* how long it had computed when it was first seen so, and at that last look */
 } all[MOST_THREADS];
 static int count;
 
@@ -117,6 +124,7 @@ static bool tells_numbers(void) {
 /* ---- at rest */
 
 static bool (*has_call)(int thread);
+static uint64_t turn; /* how many turns were waited for */
 static struct looked *unsettled; /* one that isn't at rest */
 static bool waits_shortly;       /* whether one that computes for long doesn't count */
 
@@ -134,15 +142,35 @@ static bool moves(const struct looked *thread) {
     return name_end && (name_end[2] == 'R' || (name_end[2] == 'D' && !waits_for_child(thread->number)));
 }
 
+static void tell_of(const struct looked *thread, const char *what) {
+    char text[512] = "";
+    const char *name = thread && read_text_of(thread->stat, text, sizeof text) ? strchr(text, '(') : NULL;
+    if (name) text[strcspn(text, ")")] = 0;
+    unseen(what, name ? name + 1 : "");
+}
+
+static uint64_t kept_waiting; /* how long threads have computed while woken ones waited for them */
+
+bool keeps_waits(void) { return kept_waiting < LONGEST_OF_ALL; }
+
+static void add_to_waits(const struct looked *thread, uint64_t time) {
+    bool kept_before = keeps_waits();
+    kept_waiting += time;
+    if (kept_before && !keeps_waits()) tell_of(thread, "the order of threads that wait for one another, since some compute for long:");
+}
+
 /* Looks at a thread, and adds to `turns` how often it had a turn on a processor. Returns false if it isn't at rest. */
 static bool look(struct looked *thread, uint64_t *turns) {
     char text[512];
     unsigned long long computed = 0, times = 0;
     bool is_known = thread->is_restless || has_call(thread->number), went_on = thread->computes;
     thread->computes = !is_known && moves(thread);
+    if (!thread->computes) thread->rested = turn;
     if (is_known) return true;
     if (read_text_of(thread->turns, text, sizeof text)) sscanf(text, "%llu %*u %llu", &computed, &times);
     if (!went_on) thread->began = computed;
+    else if (waits_shortly && computed > thread->computed) add_to_waits(thread, computed - thread->computed);
+    thread->computed = computed;
     if (thread->computes) unsettled = thread;
     if (thread->computes) return waits_shortly && computed - thread->began > A_LONG_TIME;
     *turns = *turns * 31 + times * 131 + (unsigned)thread->number;
@@ -168,10 +196,7 @@ static uint64_t since;
 static int tries;
 
 static void give_up(void) {
-    char text[512] = "";
-    const char *name = unsettled && read_text_of(unsettled->stat, text, sizeof text) ? strchr(text, '(') : NULL;
-    if (name) text[strcspn(text, ")")] = 0;
-    unseen("the order of calls, since a thread never rests:", name ? name + 1 : "");
+    tell_of(unsettled, "the order of calls, since a thread never rests:");
     if (unsettled) unsettled->is_restless = true;
 }
 
@@ -185,13 +210,26 @@ void forget_unsettled(void) { tries = 0; }
 
 uint64_t time_to_next_look(void) { return tries > TRIES_AT_ONCE ? A_MOMENT : 0; }
 
+static bool each_has_rested(void) {
+    int rested = 0;
+    while (rested < count && all[rested].rested == turn) rested++;
+    return rested == count;
+}
+
+static bool rest_by_now(uint64_t time) {
+    if (all_rest()) return true;
+    if (!waits_shortly || time < A_WHILE || !each_has_rested()) return false;
+    add_to_waits(unsettled, time);
+    return true;
+}
+
 bool is_settled(bool (*waits)(int thread), bool shortly) {
     has_call = waits;
     waits_shortly = shortly;
-    if (!tries++) since = now();
-    bool is_late = now() - since > LONGEST;
-    if (!is_late && !all_rest()) return false;
-    if (is_late) give_up();
+    if (!tries++) since = now(), turn++;
+    uint64_t time = now() - since;
+    if (time <= LONGEST && !rest_by_now(time)) return false;
+    if (time > LONGEST) give_up();
     tries = 0;
     return true;
 }

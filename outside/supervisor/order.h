@@ -22,6 +22,9 @@ bool may_go(struct call *call);
 bool is_settled(bool (*waits)(int thread), bool shortly);
 void forget_unsettled(void);
 
+/* Whether threads that wait for one another are kept until their turn. */
+bool keeps_waits(void);
+
 /* In how many nanoseconds all threads should be looked at again, if no call comes before. */
 uint64_t time_to_next_look(void);
 

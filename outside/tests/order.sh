@@ -69,6 +69,10 @@ is 'locks for readers' '1 0' "$(waiting "$here/threads" readers)"
 is 'threads that wake each other for ever' '1 0' "$(waiting "$here/threads" talks)"
 is 'a thread that yields to one that begins' '1 0 main 0 begun 0' "$(waiting "$here/threads" yields) $(written)"
 is 'or waits in a loop' '1 0' "$(waiting "$here/threads" spins)"
+new
+run none --order settled "$here/threads" computes
+is 'where they do that again and again no order is kept, which is told' \
+    '0 faults: not seen: the order of threads that wait for one another, since some compute for long: threads' "$status $faults"
 is 'signals for threads that wait' '1 0' "$(waiting "$here/threads" signals)"
 is 'threads that are cancelled while they wait' '1 0' "$(waiting "$here/threads" cancels)"
 is 'processes beside threads that wait' '1 0' "$(waiting "$here/threads" forks)"

@@ -296,6 +296,7 @@ static void *set_begun(void *name) {
 
 /* Waits in a loop until another thread has begun, and lets it go first, or doesn't. */
 static int wait_for_begun(bool yields) {
+    has_begun = false;
     must(!pthread_create(&threads[0], NULL, set_begun, "begun"), "pthread_create");
     while (!has_begun)
         if (yields) sched_yield();
@@ -305,6 +306,12 @@ static int wait_for_begun(bool yields) {
 
 static int yields(void) { return wait_for_begun(true); }
 static int spins(void) { return wait_for_begun(false); }
+
+static int computes(void) {
+    int failed = 0;
+    for (int i = 0; i < 15; i++) failed += spins();
+    return failed;
+}
 
 /* ---- signals, and threads that are cancelled */
 
@@ -547,7 +554,7 @@ static int cleared(void) {
 int main(int count, char **words) {
     static const struct { const char *name; int (*act)(void); } cases[] = {
         {"locks", locks}, {"starts", starts}, {"told_to_end", told_to_end}, {"commits", commits}, {"gathers", gathers}, {"turns", turns},
-        {"barriers", barriers}, {"semaphores", semaphores}, {"readers", readers}, {"talks", talks}, {"yields", yields}, {"spins", spins},
+        {"barriers", barriers}, {"semaphores", semaphores}, {"readers", readers}, {"talks", talks}, {"yields", yields}, {"spins", spins}, {"computes", computes},
         {"signals", signals}, {"cancels", cancels}, {"forks", forks}, {"replaces", replaces}, {"kills", kills}, {"shares", shares},
         {"wakes", wakes}, {"cleared", cleared},
     };
