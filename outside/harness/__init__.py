@@ -6,4 +6,4 @@ threads that decide scenarios, deciding.py makes a run for a scenario or derives
 a run in a folder of work.py with the programs of programs.py, and judging.py judges what is left (tree.py, served.py, step.py). room.py limits what
 runs may take (bounds.py, disk.py). telling.py and watching.py print results for a person. appendix.py adds to the page, and to
 JUnit's XML, what only the loop knows: the program (under_test.py), and for each finding a story (story.py) with the files before and after it
-(compared.py). shard.py divides a campaign among machines. processes.py ends all that was started. making.py writes a harness."""
+(compared.py). shard.py divides a campaign among machines. processes.py ends all that was started. making.py writes a harness, which trial.py tries."""

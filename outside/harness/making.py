@@ -1,34 +1,24 @@
 """The command `paklour-new`, which writes a harness for a program that exists."""
 
 import os
-import re
 import shlex
 import shutil
-import subprocess
 import sys
-import tempfile
-import time
 from dataclasses import dataclass
 from pathlib import Path
-from typing import NoReturn
 
 from . import tree
 from .answers import WRITE_FAILED, Stopped, stopped_by
 from .identity import WRITTEN, is_passed_over
-from .processes import WITHIN
 from .programs import check_built
-from .run import TIME_IS_UP
 from .shown import ERRORS, show, until_nobody_reads, write_out
+from .trial import CANNOT, expect, try_alone
 from .words import ASK_HELP, Usage, as_called, refused, write_help
 
-CANNOT = 1  # the exit status if the folder can't be made, or the command can't be run
-SECONDS = 60  # that a run without faults may take, as in a campaign without --seconds
 NAMES = {"prepare", "run", "again", "judge", "unjudged", "allowed", "harness.py", "settings.toml", "expected", "message",  # that mean something in a harness
     *WRITTEN}
 FORMS = {"--server": "server", "--mail": "mail"}
 FLAGS = {"--mail", "--expect"}
-UNLIKE = re.compile(r"[\s*?\[\]]")  # what a pattern can't have as it is; ? stands for any character
-LATER = 1.1  # seconds between two runs, so that times in whole seconds differ
 STANDARD_INPUT = 0
 ASKED = {  # the options that a terminal is asked for if they lack, with the question and the answers, of which the first is the default
     "--promises": ("Does the program promise that what it acknowledged is on the disk, or only that a kill loses nothing?", ("sync", "kill")),
@@ -175,75 +165,11 @@ def write(path: Path, text: str) -> None:
     path.chmod(0o755)
 
 
-def try_out(folder: Path, place: Path) -> None:
-    """Makes a run without faults there, from what `prepare` leaves. Refuses a harness whose `prepare` or `run` fails."""
-    data, temporary = place / "data", place / "tmp"
-    data.mkdir(parents=True)
-    temporary.mkdir()
-    environment = os.environ | {"HARNESS": str(folder), "TMPDIR": str(temporary)}
-    for step in ("prepare", "run"):
-        status = subprocess.run([WITHIN, str(SECONDS), "-", folder / step], cwd=data, env=environment, stdin=subprocess.DEVNULL,
-            stdout=subprocess.DEVNULL, check=False).returncode
-        if status:
-            refuse_failed(folder, step, status)
-
-
-def refuse_failed(folder: Path, step: str, status: int) -> NoReturn:
-    """The folder stays, since a program that needs files can be tried only once `prepare` makes them."""
-    why = f"was ended after {SECONDS} seconds" if status == TIME_IS_UP else f"ended with {status}"
-    raise Stopped(f"{folder}/{step} {why}. If it needs files, let {folder}/prepare make them, and then call paklour-new --expect {folder}. "
-        f"If the command was wrong, delete {folder}", CANNOT)
-
-
-def files_of(data: Path) -> dict[str, bytes]:
-    """What each file below a folder has, and each link; folders have nothing."""
-    return {name: tree.contents_of(f"{data}/{name}", told) for name, told in tree.entries(str(data))}
-
-
-def expect(folder: Path) -> None:
-    """Makes two runs, and puts what both have left into `expected`. What differs between them counts by its name alone, or if that differs, not at all."""
-    place = Path(tempfile.mkdtemp())
-    try:
-        try_out(folder, place / "first")
-        time.sleep(LATER)
-        try_out(folder, place / "second")
-        first, second = files_of(place / "first" / "data"), files_of(place / "second" / "data")
-        (folder / "unjudged").unlink(missing_ok=True)
-        if (folder / "expected").exists():
-            tree.remove(folder / "expected")
-        for name in sorted(first.keys() - second.keys(), reverse=True):
-            path = place / "first" / "data" / name
-            path.rmdir() if path.is_dir() and not path.is_symlink() else path.unlink()
-        tree.copy(str(place / "first" / "data"), str(folder / "expected"))
-        tell_differing(folder, sorted(name for name in first.keys() & second.keys() if first[name] != second[name]), sorted(first.keys() ^ second.keys()))
-    finally:
-        tree.remove(place)
-
-
 def expect_anew(folder: Path) -> None:
     judge = folder / "judge"
     if not judge.exists() or b"$HARNESS/expected" not in judge.read_bytes():
         raise Stopped(f"{judge} doesn't look at `expected`: --expect is for a harness that paklour-new wrote for a command", CANNOT)
     expect(folder)
-
-
-def try_whole(folder: Path, form: str) -> None:
-    """Makes a run without faults, or as many as it takes to know what the judge of a command is to expect."""
-    if form == "command":
-        return expect(folder)
-    place = Path(tempfile.mkdtemp())
-    try:
-        try_out(folder, place / "first")
-    finally:
-        tree.remove(place)
-
-
-def tell_differing(folder: Path, contents: list[str], names: list[str]) -> None:
-    if contents:
-        tree.write(folder / "unjudged", "".join(f"{UNLIKE.sub('?', name)}\n" for name in contents).encode("utf-8", "surrogateescape"))
-        show(f"new: in a second run these had other contents, so the judge only looks whether they are there ({folder}/unjudged): {', '.join(contents)}")
-    if names:
-        show(f"new: in a second run these had other names, so the judge doesn't look for them: {', '.join(names)}")
 
 
 def in_shell(words: list[str], folder: Path) -> str:
@@ -325,7 +251,7 @@ def make(wanted: Wanted) -> None:
         raise Stopped(f"{folder}: {error.strerror}", CANNOT) from error
     try:
         fill(wanted, answers)
-        try_whole(folder, wanted.form)
+        expect(folder) if wanted.form == "command" else try_alone(folder)
     except Stopped:
         raise
     except BaseException:  # also if a key ends this program

@@ -98,11 +98,25 @@ class New(Campaigns):
         self.made('#!/bin/sh\necho same > note && : > "$(date +%s).log" && sync note .\n')
         self.assertEqual(os.listdir(self.here / "made" / "expected"), ["note"])
 
+    def test_threads_go_in_the_order_of_a_campaign(self):
+        """The shell was started first, so its line comes first there, though by itself its child's does. Contents that only the order decides are
+        judged."""
+        program = "#!/bin/sh\nfor word in child shell; do {turn}; done\nwait; sync log .\n".format(
+            turn='if [ $word = child ]; then echo child >> log & else i=0; while [ $i -lt 30000 ]; do i=$((i+1)); done; echo shell >> log; fi')
+        done = self.made(program)
+        self.assertNotIn("without any fault", done.told)
+        self.assertEqual(((self.here / "made" / "expected" / "log").read_text(), (self.here / "made" / "unjudged").exists()), ("shell\nchild\n", False))
+
+    def test_random_contents_are_those_of_a_campaign(self):
+        """They are the same in each run there, so the judge looks into them."""
+        done = self.made("#!/bin/sh\nhead -c 16 /dev/urandom > new && sync new && mv new note && sync .\n")
+        self.assertEqual((done.status, (self.here / "made" / "unjudged").exists()), (0, False), done.told)
+
     def answers(self, typed, *options):
         """What `new` asks on a terminal, and the harness that it writes after these answers."""
         person, terminal = pty.openpty()
         os.write(person, typed.encode())
-        with subprocess.Popen([OUTSIDE / "new", *options, self.here / "made", "true"], stdin=terminal, stdout=subprocess.DEVNULL, stderr=terminal) as process:
+        with subprocess.Popen([OUTSIDE / "new", *options, self.here / "made", "touch", "note"], stdin=terminal, stdout=subprocess.DEVNULL, stderr=terminal) as process:
             os.close(terminal)
             told = b""
             with contextlib.suppress(OSError):  # as the end of a terminal is told
@@ -160,13 +174,19 @@ class New(Campaigns):
         self.assertEqual(sorted(os.listdir(made / "expected")), ["input", "note"])
         self.assertEqual(self.loop("-j", 2, "--no-kinds", made).status, 0)
 
+    def test_a_command_that_stores_elsewhere(self):
+        """A campaign of it would try nothing."""
+        told = self.failed(f"#!/bin/sh\necho not here >&2\necho new > {self.here}/elsewhere\n")
+        self.assertTrue(told.startswith(f"not here\nnew: {self.here}/made/run made no call on files in the folder in which it starts. If it needs "), told)
+
     def test_a_delivery_that_fails(self):
         told = self.failed("#!/bin/sh\ncat > spool\nexit 75\n", "--mail")
         self.assertTrue(told.startswith(f"new: {self.here}/made/run ended with 75. "), told)
 
     def test_a_server_that_fails(self):
-        told = self.failed("#!/bin/sh\necho not so\necho no socket >&2\nexit 3\n", "--server", "ready")
-        self.assertTrue(told.startswith(f"the server ended with 3\nnot so\nno socket\nnew: {self.here}/made/run ended with 1. "), told)
+        told = self.failed("#!/bin/sh\ncat socket\necho not so\necho no socket >&2\nexit 3\n", "--server", "ready")
+        self.assertTrue(told.startswith(f"the server ended with 3\ncat: socket: No such file or directory\nnot so\nno socket\nnew: {self.here}/made/run "
+            "ended with 1. "), told)
 
     def test_a_server_that_is_not_ready_in_time(self):
         """Ended by its time, `run` shows what the server said."""
