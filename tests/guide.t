@@ -26,7 +26,7 @@ a `sync` whose open fails tries it once more, twice, and the first fsync goes on
 README's two commands, with all that they need.
 
   $ "$TESTDIR/outside_page.py" "$TESTDIR/../README.md#Two commands"
-  3 compared, 0 differ
+  2 compared, 0 differ
 
 From here on the program itself is needed.
 

@@ -11,11 +11,11 @@ from . import tree
 from .answers import WRITE_FAILED, Stopped, stopped_by
 from .identity import WRITTEN, is_passed_over
 from .programs import check_built
-from .shown import ERRORS, show, until_nobody_reads, write_out
-from .trial import CANNOT, expect, try_alone
+from .shown import ERRORS, from_here, show, until_nobody_reads, write_out
+from .trial import CANNOT, expect, leave, try_alone, try_server
 from .words import ASK_HELP, Usage, as_called, refused, write_help
 
-NAMES = {"prepare", "run", "again", "judge", "unjudged", "allowed", "harness.py", "settings.toml", "expected", "message",  # that mean something in a harness
+NAMES = {"prepare", "run", "again", "judge", "unjudged", "allowed", "harness.py", "settings.toml", "expected", "left", "journaled", "message",  # that mean something in a harness
     *WRITTEN}
 FORMS = {"--server": "server", "--mail": "mail"}
 FLAGS = {"--mail", "--expect"}
@@ -25,6 +25,7 @@ ASKED = {  # the options that a terminal is asked for if they lack, with the que
     "--file-system": ("Does it rely on what ext4, XFS and Btrfs all keep (linux), on one of them, or on the letter of the standard alone (posix)?",
         ("linux", "ext4", "xfs", "btrfs", "posix")),
     "--abort": ("May an error end it by a signal, such as an abort?", ("no", "yes")),
+    "--begins": ("Does a run begin with nothing, or again with what a run before it has left?", ("empty", "again")),
 }
 SAYS = {  # what an answer other than the default puts into a file of the harness
     ("--promises", "kill"): ("harness.py", 'states = ["live"]  # each run is judged as a kill leaves it: no power cut comes\n'),
@@ -43,6 +44,12 @@ PREPARE = """#!/bin/sh
 # lost. So have one of each.
 """
 
+PREPARE_AGAIN = """#!/bin/sh
+# Fills the folder of the data, in which this script starts. What is there when it ends is on the disk, and each run begins with a copy of it: here with
+# what one run without faults has left.
+cp -a "$HARNESS/left/." .
+"""
+
 RUN = """#!/bin/sh
 # Runs the program under faults, in the folder of the data. Each line that is printed here, by the program too, is a promise: from then on it must be
 # true, whatever happens. A program that stores several things should print a line for each as soon as it is stored, for example: stored key
@@ -54,14 +61,16 @@ JUDGE = """#!/bin/sh
 # Checks the promises, in the folder as a power cut left it. The file "$SAID" has the lines that `run` printed until then. Exit with 0 if the promises
 # were kept. If one was broken, print a code that names it, such as lost, and exit with 1. With any other exit status the run has no verdict.
 # Once `run` has printed done, each file has to be as a run without faults leaves it, in the folder `expected`. Until then a file that was there before,
-# in "$PREPARED", has its old contents or its new ones. Files that `unjudged` names have other contents in each run, so they only have to be there. If
-# you change `prepare` or `run`, `paklour-new --expect` with this harness makes `expected` and `unjudged` anew.
+# in "$PREPARED", has its old contents or its new ones, and one that is appended to begins with its old ones. If a journal has what a file lacks for a
+# moment, write its name into `journaled`: until then it only has to be there. Files that `unjudged` names have other contents in each run, so they only
+# have to be there too. If you change `prepare` or `run`, `paklour-new --expect` with this harness makes `expected` and `unjudged` anew.
 there() { [ -e "$1" ] || [ -L "$1" ]; }
-is_unjudged() { for pattern in $(cat "$HARNESS/unjudged" 2> "$TMPDIR/none"); do case $1 in $pattern) return 0 ;; esac; done; return 1; }
+is_in() { for pattern in $(cat "$HARNESS/$1" 2> "$TMPDIR/none"); do case $2 in $pattern) return 0 ;; esac; done; return 1; } # LIST FILE
 alike() { # FILE FOLDER: whether FOLDER has the same file, or neither has it
     there "$1" && there "$2/$1" || { ! there "$1" && ! there "$2/$1"; return; }
-    [ -d "$1" ] && [ -d "$2/$1" ] || is_unjudged "$1" || diff -q --no-dereference "$1" "$2/$1" > "$TMPDIR/differs"
+    [ -d "$1" ] && [ -d "$2/$1" ] || is_in unjudged "$1" || diff -q --no-dereference "$1" "$2/$1" > "$TMPDIR/differs"
 }
+begins() { [ -f "$1" ] && [ -f "$2" ] && cmp -s -n "$(stat -c %s "$2")" "$1" "$2"; } # FILE OLD: whether FILE begins with all that OLD has
 broken() { echo "$file: $2" >&2; echo "$1"; exit 1; }
 
 set -f # patterns aren't for names here
@@ -73,6 +82,8 @@ while IFS= read -r file; do
     if [ -z "$promised" ]; then
         there "$PREPARED/$file" || continue # it is new
         alike "$file" "$PREPARED" && continue
+        begins "$HARNESS/expected/$file" "$PREPARED/$file" && begins "$file" "$PREPARED/$file" && continue
+        there "$file" && is_in journaled "$file" && continue
     fi
     there "$file" || broken lost "it isn't there"
     alike "$file" "$PREPARED" && broken lost 'it is as it was before'
@@ -93,7 +104,7 @@ fail() {{
 trap fail TERM # comes if it isn't ready in time
 setsid {command} > "$TMPDIR/output" 2>&1 &
 server=$!
-while kill -0 "$server" 2> "$TMPDIR/ended" && ! grep -sqwF -e {line} "$TMPDIR/output"; do sleep 0.05; done
+while kill -0 "$server" 2> "$TMPDIR/ended" && ! {ready}; do sleep 0.05; done
 kill -0 "$server" 2> "$TMPDIR/ended" || fail
 # Send requests here, and print a line for each that the server acknowledged, for example:
 #     redis-cli -s socket set key value && echo 'set key'
@@ -109,7 +120,7 @@ SERVER_JUDGE = """#!/bin/sh
 # This judge only checks that the server starts again.
 setsid {command} > "$TMPDIR/output" 2>&1 &
 server=$!
-while kill -0 "$server" 2> "$TMPDIR/ended" && ! grep -sqwF -e {line} "$TMPDIR/output"; do sleep 0.05; done
+while kill -0 "$server" 2> "$TMPDIR/ended" && ! {ready}; do sleep 0.05; done
 kill -0 "$server" 2> "$TMPDIR/ended" || {{
     wait "$server"
     echo "the server ended with $?" >&2
@@ -152,8 +163,14 @@ This line is the last.
 @dataclass(frozen=True)
 class Wanted:
     folder: Path
-    command: list[str]
+    typed: list[str]  # the command
     options: dict[str, str]
+
+    @property
+    def command(self) -> list[str]:
+        """With the whole path of a program that was named by its path."""
+        program, *rest = self.typed
+        return [os.path.abspath(program) if "/" in program else program, *rest]
 
     @property
     def form(self) -> str:
@@ -215,9 +232,9 @@ def wanted_of(words: list[str]) -> Wanted:
         return Wanted(Path(rest[0]).resolve(), [], options)
     if len(rest) < 2 or "--server" in options and "--mail" in options:
         raise Usage
-    if not (program := shutil.which(rest[1])):
+    if not shutil.which(rest[1]):
         raise Stopped(f"there is no such program: {rest[1]}", CANNOT)
-    return Wanted(Path(rest[0]).resolve(), [os.path.abspath(program) if "/" in rest[1] else rest[1], *rest[2:]], options)
+    return Wanted(Path(rest[0]).resolve(), rest[1:], options)
 
 
 def ask(question: str, answers: tuple[str, ...]) -> str:
@@ -240,9 +257,8 @@ def loop_beside(new: str) -> str:
     return as_called(os.path.join(os.path.dirname(new), os.path.basename(new).removesuffix("new") + "loop"))
 
 
-def make(wanted: Wanted) -> None:
+def make(wanted: Wanted, answers: dict[str, str]) -> None:
     folder = wanted.folder
-    answers = answered(wanted.options)
     try:
         folder.mkdir()
     except FileExistsError as error:
@@ -251,7 +267,7 @@ def make(wanted: Wanted) -> None:
         raise Stopped(f"{folder}: {error.strerror}", CANNOT) from error
     try:
         fill(wanted, answers)
-        expect(folder) if wanted.form == "command" else try_alone(folder)
+        try_harness(wanted, answers["--begins"] == "again")
     except Stopped:
         raise
     except BaseException:  # also if a key ends this program
@@ -259,16 +275,37 @@ def make(wanted: Wanted) -> None:
         raise
 
 
+def try_harness(wanted: Wanted, begins_again: bool) -> None:
+    folder = wanted.folder
+    if wanted.form == "server":
+        try_server(folder, wanted.options["--server"], lambda ready: write_server(wanted, ready))
+    if begins_again:
+        leave(folder)
+        write(folder / "prepare", PREPARE_AGAIN)
+    if wanted.form == "command":
+        expect(folder)
+    elif begins_again or wanted.form == "mail":
+        try_alone(folder)
+
+
+def write_server(wanted: Wanted, ready: str) -> None:
+    """The scripts of a server, with the command that finds out whether it is ready."""
+    for name, text in (("run", SERVER_RUN), ("judge", SERVER_JUDGE)):
+        write(wanted.folder / name, text.format(command=in_shell(wanted.command, wanted.folder), ready=ready))
+
+
 def fill(wanted: Wanted, answers: dict[str, str]) -> None:
-    folder, form = wanted.folder, wanted.form
-    command, line = in_shell(wanted.command, folder), shlex.quote(wanted.options.get("--server", ""))
-    run, judge = {"command": (RUN, JUDGE), "server": (SERVER_RUN, SERVER_JUDGE), "mail": (MAIL_RUN, MAIL_JUDGE)}[form]
+    """Writes all but the scripts of a server, which depend on what it prints."""
+    folder = wanted.folder
     write(folder / "prepare", PREPARE)
-    write(folder / "run", run.format(command=command, line=line))
-    write(folder / "judge", judge.format(command=command, line=line) if form == "server" else judge)
-    link(wanted.command[0], folder)
-    if form == "mail":
+    if wanted.form == "command":
+        write(folder / "run", RUN.format(command=in_shell(wanted.command, folder)))
+        write(folder / "judge", JUDGE)
+    elif wanted.form == "mail":
+        write(folder / "run", MAIL_RUN.format(command=in_shell(wanted.command, folder)))
+        write(folder / "judge", MAIL_JUDGE)
         tree.write(folder / "message", MESSAGE.encode())
+    link(wanted.command[0], folder)
     said: dict[str, str] = {}
     for answer in answers.items():
         if answer in SAYS:
@@ -278,9 +315,14 @@ def fill(wanted: Wanted, answers: dict[str, str]) -> None:
         tree.write(folder / name, text.encode())
 
 
-def tell_next(folder: Path) -> None:
-    """Says what is still to be written by a person."""
+def tell_next(wanted: Wanted, answers: dict[str, str], new: str) -> None:
+    """Says what is still to be written by a person, and which other harness finds more."""
+    folder = wanted.folder
     show(f"new: now let {folder}/prepare make what is there before, {folder}/run print a line for each promise, and {folder}/judge check these lines")
+    if wanted.form == "command" and answers["--begins"] != "again":
+        said = [word for option, answer in answers.items() if answer != ASKED[option][1][0] for word in (option, answer)]
+        words = [as_called(new), *said, "--begins", "again", f"{from_here(folder)}-again", *wanted.typed]
+        show(f"new: a harness that begins with what a run has left also finds old data that are lost: {shlex.join(words)}")
 
 
 def main(new: str, words: list[str]) -> int:
@@ -296,8 +338,9 @@ def perform(new: str, words: list[str]) -> int:
         if "--expect" in wanted.options:
             expect_anew(wanted.folder)
         else:
-            make(wanted)
-            tell_next(wanted.folder)
+            answers = answered(wanted.options)
+            make(wanted, answers)
+            tell_next(wanted, answers, new)
         write_out(f"{shlex.join([loop_beside(new), str(wanted.folder)])}\n".encode("utf-8", "surrogateescape"))
     except Usage as usage:
         return refused(new, usage)

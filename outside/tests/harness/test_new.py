@@ -57,6 +57,29 @@ class New(Campaigns):
         done = self.loop("--try", "none", self.here / "made")
         self.assertEqual(done.told, "the server ended with 1\nalready here\n")
 
+    def taken(self, says):
+        """How the harness of a server that prints these words looks for the line `ready`, and what `new` says of it."""
+        program = self.here / "program"
+        program.write_text(SERVER.format(write="echo whole > new && sync new && mv new state && sync .").replace("echo ready\n", says))
+        program.chmod(0o755)
+        made = subprocess.run([OUTSIDE / "new", "--server", "ready", self.here / "made", program], capture_output=True, text=True, check=True)
+        scripts = [(self.here / "made" / name).read_text() for name in ("run", "judge")]
+        shutil.rmtree(self.here / "made")
+        grep = {line.partition("! grep -sq ")[2].partition(' "$TMPDIR')[0] for script in scripts for line in script.splitlines() if "grep -sq" in line}
+        return grep, [line for line in made.stderr.splitlines() if " as a whole" in line]
+
+    def test_which_line_says_that_a_server_is_ready(self):
+        """The one that is found by the strictest of three ways, and no other that is found by it alone."""
+        no_line = "new: no line is ready as a whole, so the server is ready at the first line that"
+        self.assertEqual(self.taken("echo not ready yet\nsleep 0.5\necho ready\n"), ({"-xF -e ready"}, []))
+        self.assertEqual(self.taken("echo ready soon\nsleep 0.5\necho 12:01 ready\n"), ({"-w -e 'ready$'"}, [f"{no_line} ends with it: 12:01 ready"]))
+        self.assertEqual(self.taken("echo already\nsleep 0.5\necho 1 ready, on 8080\n"), ({"-wF -e ready"}, [f"{no_line} has its words: 1 ready, on 8080"]))
+
+    def test_a_server_that_is_not_ready_yet(self):
+        """It says so before it has opened its store, which it never does."""
+        told = self.failed("#!/bin/sh\ncat state\necho not ready yet\nsleep 1\nexit 3\n", "--server", "ready")
+        self.assertTrue(told.startswith("the server ended with 3\ncat: state: No such file or directory\nnot ready yet\nnew: "), told)
+
     def again(self, made):
         """Makes anew what the judge expects."""
         return subprocess.run([OUTSIDE / "new", "--expect", made], capture_output=True, text=True, check=False)
@@ -76,6 +99,64 @@ class New(Campaigns):
                 self.assertIn("\nfail torn: the 1st sys::fsync (note) fails, the pending changes of names are kept\n", done.told)
                 self.assertIn("note: it has neither its old nor its new contents\n", self.loop(made, "--try", "sys::fsync=1*return").told)
             shutil.rmtree(made)
+
+    def begins_again(self, text, journaled=""):
+        """The campaign of a harness that begins with what a run has left, and what `new` said."""
+        program = self.here / "program"
+        program.write_text(text)
+        program.chmod(0o755)
+        made = subprocess.run([OUTSIDE / "new", "--begins", "again", self.here / "again", program], capture_output=True, text=True, check=True)
+        if journaled:
+            (self.here / "again" / "journaled").write_text(journaled)
+        done = self.loop("-j", 2, self.here / "again")
+        shutil.rmtree(self.here / "again")
+        return done, made.stderr
+
+    def test_what_a_run_before_left(self):
+        """Old data can be lost only if there are some. With an empty folder a rename before the sync passes."""
+        renames_first = "#!/bin/sh\necho new > new && mv new note && sync note && sync .\n"
+        self.assertEqual(self.made(renames_first).status, 0)
+        done, _ = self.begins_again(renames_first)
+        self.assertEqual((done.status, "\nfail torn: the 1st sys::fsync (note) fails, the pending changes of names are kept\n" in done.told), (1, True), done.told)
+        done, told = self.begins_again(SAFE)
+        self.assertEqual((done.status, "in place" in told), (0, False), done.told)
+
+    def test_a_file_that_is_appended_to(self):
+        """It begins with its old contents at each moment, and needs no more until `done` is printed."""
+        appends = "#!/bin/sh\necho one >> log && sync log && echo two >> log && sync log .\n"
+        done, told = self.begins_again(appends)
+        self.assertEqual((done.status, "in place" in told), (0, False), done.told)
+        done, told = self.begins_again("#!/bin/sh\n[ -e log ] || : > log\nold=$(cat log; echo one)\necho \"$old\" > log && sync log .\n")
+        self.assertEqual((done.status, "fail torn: " in done.told), (1, True), done.told)
+
+    def test_a_file_that_is_written_over(self):
+        """`new` names it, since the judge can't know whether a journal has what is missing meanwhile. A person may say that one has."""
+        writes = "#!/bin/sh\nset -e\ndate +%s%N > time\nif [ -e store ]; then echo two > store; else echo one > store; fi\nsync store time .\n"
+        done, told = self.begins_again(writes)
+        self.assertEqual((done.status, "fail torn: " in done.told), (1, True), done.told)
+        self.assertIn(" only the old contents or the new ones of what is written over in place: store, time. If a journal ", told)
+        done, _ = self.begins_again(writes, "store\n")
+        self.assertEqual(done.status, 0, done.told)
+
+    def test_a_server_that_begins_again(self):
+        """With nothing there it may be killed before its state is whole. With a whole one it only adds to its log."""
+        server = SERVER.format(write="[ -e state ] || { : > state; echo whole > state; sync state .; }; echo started >> log; sync log .")
+        self.assertEqual(self.made(server, "--server", "ready").status, 1)
+        shutil.rmtree(self.here / "made")
+        done = self.made(server, "--begins", "again", "--server", "ready")
+        self.assertEqual((done.status, sorted(os.listdir(self.here / "made" / "left"))), (0, ["log", "state"]), done.told)
+
+    def test_threads_that_left_something_before(self):
+        """What a run began with is the same in the campaign as in the first runs."""
+        appends = "#!/bin/sh\nfor word in one two three four; do echo $word >> log & done\nwait; sync log .\n"
+        done, _ = self.begins_again(appends)
+        self.assertNotIn("without any fault", done.told)
+
+    def test_a_command_that_does_not_run_twice(self):
+        told = self.failed("#!/bin/sh\nmkdir one && sync .\n", "--begins", "again")
+        made = self.here / "made"
+        self.assertRegex(told, rf"\Amkdir: .*one.*: File exists\nnew: {made}/run ended with 1 on what a run before it has left\. If the command can't be run "
+            rf"twice, delete {made}\n\Z")
 
     def test_a_file_that_is_removed(self):
         """Once that is promised, it doesn't come back."""
@@ -128,14 +209,16 @@ class New(Campaigns):
 
     def test_what_a_person_is_asked(self):
         """An answer that is none of those is asked for again, and an empty one is the default."""
-        told = self.answers("never\nkill\nposix\n\n")
-        self.assertEqual([told.count(question) for question in ("sync or kill [sync]", "linux or ext4 or xfs or btrfs or posix [linux]", "no or yes [no]")], [2, 1, 1])
+        told = self.answers("never\nkill\nposix\n\nagain\n")
+        asked = ("sync or kill [sync]", "linux or ext4 or xfs or btrfs or posix [linux]", "no or yes [no]", "empty or again [empty]")
+        self.assertEqual([told.count(question) for question in asked], [2, 1, 1, 1])
+        self.assertEqual(os.listdir(self.here / "made" / "left"), ["note"])
         said = (self.here / "made" / "harness.py").read_text()
         self.assertTrue("\nenvironment = {\"FAULTS_SYNC\": \"posix\"}" in said and said.startswith('states = ["live"]'), said)
         self.assertFalse((self.here / "made" / "allowed").exists())
 
     def test_what_options_answer_is_not_asked(self):
-        told = self.answers("yes\n", "--promises", "sync", "--file-system", "linux")
+        told = self.answers("yes\n", "--promises", "sync", "--file-system", "linux", "--begins", "empty")
         self.assertNotIn("sync or kill", told)
         self.assertEqual((self.here / "made" / "allowed").read_text(), "crashed\n")
         self.assertFalse((self.here / "made" / "harness.py").exists())
