@@ -82,7 +82,8 @@ def side(told: os.stat_result | None, contents: bytes, parts: int) -> Side | Non
     if kind in ("folder", "other"):
         return Side(kind, mode, 0)
     length = told.st_size
-    begin = 0 if length <= MOST_BYTES else max(0, parts - BEFORE)
+    is_shown_whole = length <= (MOST_BYTES if is_text(contents) else MOST_OF_BINARY)
+    begin = 0 if is_shown_whole else max(0, parts - BEFORE)
     part = contents[begin:begin + MOST_BYTES]
     part = part if is_text(part) else part[:MOST_OF_BINARY]
     return Side(kind, mode, length, begin, readable(part), length - begin - len(part))

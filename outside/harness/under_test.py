@@ -66,6 +66,8 @@ def files_of(harness: Harness) -> list[Path]:
 
 
 def program_of(harness: Harness) -> Program:
-    files = [File(text_of(path.name), digest_of(path)[:TOLD_OF_DIGEST], date_of(path.stat().st_mtime)) for path in files_of(harness)]
-    name = ", ".join(file.name for file in files) or text_of(harness.name)
+    """A file that can't be run by itself, such as a script that `run` reads, has a part in it and doesn't give it its name."""
+    paths = files_of(harness)
+    files = [File(text_of(path.name), digest_of(path)[:TOLD_OF_DIGEST], date_of(path.stat().st_mtime)) for path in paths]
+    name = ", ".join(text_of(path.name) for path in paths if os.access(path, os.X_OK)) or text_of(harness.name)
     return Program(name, run_lines(harness), text_of(harness.version), files)

@@ -211,6 +211,18 @@ class Added(Campaigns):
         digest = subprocess.run(["sha256sum", self.here / "save"], capture_output=True, text=True, check=True).stdout[:12]
         self.assertEqual(program, {"name": "save", "run": ["./save"], "version": "save 1.2", "files": [{"name": "save", "digest": digest, "changed": "2001-09-09"}]})
 
+    def test_a_part_of_the_program_does_not_name_it(self):
+        """A script that `run` reads is linked into the harness, since answers belong to it, and can't be run by itself."""
+        (self.here / "part.sh").write_text(RENAMES_FIRST)
+        folder = self.harness(run='#!/bin/sh\n. "$HARNESS/part.sh"\n', judge="#!/bin/sh\nexit 0\n")
+        (folder / "part.sh").symlink_to("../part.sh")
+        self.assertEqual(self.loop("-j", 2, folder).status, 0)
+        told = appendix_in(folder / "page.html")
+        self.assertEqual((told["title"], [file["name"] for file in told["program"]["files"]]), (folder.name, ["part.sh"]))
+        (self.here / "part.sh").chmod(0o755)
+        self.assertEqual(self.loop("-j", 2, folder).status, 0)
+        self.assertEqual(appendix_in(folder / "page.html")["title"], "part.sh")
+
 
 class Without(unittest.TestCase):
     """What is added, without a campaign."""
@@ -316,6 +328,12 @@ class Compared(unittest.TestCase):
         self.fill(db=(None, bytes(range(128, 228))))
         after = self.sides()["db"][1]
         self.assertEqual((after.text, after.more), ("".join(f"\\x{byte:02x}" for byte in range(128, 160)), 68))
+
+    def test_a_difference_deep_in_a_small_file_that_is_no_text(self):
+        """Less is shown of such a file than of a text, so the difference may lie behind that."""
+        same = bytes(range(128, 228))
+        self.fill(db=(same + b"old", same + b"new"))
+        self.assertEqual([(side.begin, side.text[-3:], side.more) for side in self.sides()["db"]], [(84, "old", 0), (84, "new", 0)])
 
     def test_a_large_file_has_its_length_alone(self):
         self.fill(large=(b"a" * (SMALL + 1), b"b" * (SMALL + 1)))
