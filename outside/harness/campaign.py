@@ -9,7 +9,7 @@ from typing import Protocol
 from .answers import Answers, Stopped
 from .following import Batch, Following
 from .paklour import Paklour
-from .shown import is_terminal, show, status
+from .shown import is_terminal, show, so_many, status
 
 TELLS_EVERY, WRITES_EVERY = 10, 0.1  # seconds between two lines, or until a line is written over
 AHEAD = 2  # so many scenarios for each worker are to wait
@@ -53,7 +53,8 @@ class Campaign:
         left = "unknown" if apart is None else str(timedelta(seconds=int(apart * self.waiting)))
         if self.writes_over:
             answered, taken = self.answers.count, int(time.monotonic() - self.begun)
-            status.show(f"{answered} of {answered + self.waiting} plans answered by {self.engine.runs} runs, {self.answers.failing} failing; "
+            plans, runs = so_many(answered + self.waiting, "plan"), so_many(self.engine.runs, "run")
+            status.show(f"{answered} of {plans} answered by {runs}, {self.answers.failing} failing; "
                 f"{taken} s, time left {left}")
         elif self.shows_progress:
             pace = f" ({1 / apart:.1f} a second)" if apart else ""

@@ -139,9 +139,7 @@ def run_harness(loop: str, options: dict[str, str], path: str, processes: Proces
         join(Path(options["--join"]), own, answers)
     settings = Settings(harness, folder, answers, options.get("--settings"), number_of(options, "--depth"), "--no-kinds" not in options,
         keeps="--try" in options)
-    if "--kill" in options and not settings.is_made:
-        raise Stopped(f"{settings.path} has settings of your own: leave out power::keep there, and let a harness.py define states = ['live'], "
-            "in place of --kill")
+    refuse_settings(settings, harness, options)
     harness.order = "next" if NEXT in settings.points else harness.order
     work = Work(note, note.needs_disk if note else noted(Path(answers.path)).get("needs_disk"))
     try:
@@ -157,6 +155,15 @@ def run_harness(loop: str, options: dict[str, str], path: str, processes: Proces
     finally:
         processes.end()
         work.end()
+
+
+def refuse_settings(settings: Settings, harness: Harness, options: dict[str, str]) -> None:
+    if "--kill" in options and not settings.is_made:
+        raise Stopped(f"{settings.path} has settings of your own: leave out power::keep there, and let a harness.py define states = ['live'], "
+            "in place of --kill")
+    if settings.is_made and "--try" not in options and (os.environ | harness.variables).get("FAULTS_POINTS") == "file":
+        raise Stopped("FAULTS_POINTS=file gives points the names of files, which settings of your own have to list (--settings); `--try none` shows them. "
+            "What the loop prints, and its page, name the files without it")
 
 
 def certified_of(options: dict[str, str]) -> Wanted:

@@ -59,6 +59,11 @@ def plain(text: bytes, most: int) -> str:
     return "".join(letter if letter.isprintable() else "?" for letter in letters)
 
 
+def so_many(count: int, what: str) -> str:
+    """So many of them, in words."""
+    return f"{count} {what}{'s' * (count != 1)}"
+
+
 def last_lines(path: Path, begin: int = 0, end: int | None = None) -> str:
     """The last lines that were written to a file between two places."""
     if not path.exists():

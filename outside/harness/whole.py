@@ -25,7 +25,7 @@ from .run import NOT_FOUND, Runner
 from .settings import Settings
 from .shard import Shard, places_in, scenario_in
 from .scenario import scenario_of
-from .shown import GREEN, RED, YELLOW, from_here, show, show_once, write_out
+from .shown import GREEN, RED, YELLOW, from_here, show, show_once, so_many, write_out
 from .story import Story, again, hits_of, story_of, text_of
 from .telling import failure, group_of, in_order
 from .under_test import program_of, today
@@ -113,7 +113,7 @@ class Whole:
         hits = len(asked) // 2
         more = sum(2 * math.comb(hits, faults) for faults in range(2, self.settings.depth + 1))
         rest = f", and perhaps {more} more up to depth {self.settings.depth}" if more else ""
-        show(f"loop: {len(asked)} plans" + " with one fault" * (self.settings.depth > 0) + rest)
+        show(f"loop: {so_many(len(asked), 'plan')}" + " with one fault" * (self.settings.depth > 0) + rest)
         if more + len(asked) >= MOST_PLANS:
             show(f"loop: a campaign may have {MOST_PLANS} plans. If there are more, the report is of a lower depth: so take one, or fewer points or kinds")
 
@@ -334,8 +334,9 @@ class Whole:
         for code in self.harness.known:
             count = decider.losses[code]
             show(f"loop: known: {code}: {f'{count} judgements came to it, and count as passed' if count else 'no judgement came to it'}")
-        derived = f"{decider.followed} plans were derived from other runs, {decider.tried} of them were run as a check"
-        show(f"loop: {decider.runner.count} runs and {decider.judge.count} judgements; {derived}")
+        derived = "1 plan was" if decider.followed == 1 else f"{decider.followed} plans were"
+        tried = "1 of them was" if decider.tried == 1 else f"{decider.tried} of them were"
+        show(f"loop: {so_many(decider.runner.count, 'run')} and {so_many(decider.judge.count, 'judgement')}; {derived} derived from other runs, {tried} run as a check")
 
     def tell_end(self, came_to: str, scenario: str = "", page: str = "") -> None:
         """Prints what one looks for: what the campaign came to, and how that run is made again."""
@@ -404,7 +405,7 @@ def counts_of(report: bytes) -> tuple[int, int, int]:
 
 
 def came_to(count: int, plans: str, unresolved: int, ways: int) -> str:
-    fails = f"{count} of {plans} fail{'s' * (count == 1)}, in {ways} way{'s' * (ways != 1)}" if count else f"none of {plans} fails"
+    fails = f"{count} of {plans} fail{'s' * (count == 1)}, in {so_many(ways, 'way')}" if count else f"none of {plans} fails"
     return fails + (f", and {unresolved} {'is' if unresolved == 1 else 'are'} unresolved" if unresolved else "")
 
 

@@ -92,10 +92,13 @@ class Installed(unittest.TestCase):
     def test_all_is_taken_away(self):
         self.run_in(self.here, "paklour-new --help")
         self.assertTrue((self.prefix / "lib" / "paklour" / "harness" / "__pycache__").exists(), "Python keeps what it has compiled")
+        other = self.prefix / "share" / "man" / "man7"
+        other.mkdir()
         self.make("uninstall")
-        left = self.files(self.there)
+        left = {str(path.relative_to(self.prefix)) for path in self.prefix.rglob("*")}
+        other.rmdir()
         self.make("install", f"PROGRAM={PROGRAM}")
-        self.assertEqual(left, set())
+        self.assertEqual(left, {"share", "share/man", "share/man/man7"}, "what is empty and not of others is gone too")
 
 
 class Pages(unittest.TestCase):

@@ -49,6 +49,7 @@ class Fails(Campaigns):
         self.assertEqual((done.status, self.answers(folder)), (1, []), done.told)
         self.assertIn("\nfail lost: without any fault\njudge: looked at d\njudge: the time differs\n"
             "loop: no change is pending, so no power cut did this: look at the judge and at the program\n", done.told)
+        self.assertIn("\nloop: 1 run and 1 judgement; 0 plans were derived from other runs, 0 of them were run as a check\n", done.told)
         self.assertNotIn("FAULTS_SYNC", done.told)
 
     def test_what_the_judge_wrote_is_told_beside_what_is_pending(self):
@@ -106,6 +107,14 @@ class GoesOn(Campaigns):
         (folder / "again").unlink()
         (folder / "settings.toml").write_text('target = "outside"\ndepth = 1\n[outside]\nlabel = "x"\ncodes = ["lost"]\npoints = ["sys::open"]\n')
         self.assertIn("settings.toml has settings of your own: leave out power::keep there", self.loop("--kill", folder).told)
+
+    def test_points_by_file_need_settings_that_list_them(self):
+        """Settings that the loop makes can't, since a fault may lead to any file. A single run shows them."""
+        folder = self.harness(run=SAVES, judge=JUDGES)
+        done = self.loop(folder, FAULTS_POINTS="file")
+        self.assertEqual((done.status, self.answers(folder) if (folder / "answers").exists() else []), (2, []))
+        self.assertIn("loop: FAULTS_POINTS=file gives points the names of files, which settings of your own have to list (--settings); ", done.told)
+        self.assertIn(" sys::rename@note 1", self.loop(folder, "--try", "none", FAULTS_POINTS="file").out)
 
     def test_a_crash_that_is_known(self):
         folder = self.harness(run=SAVES.replace("&& sync .", "&& { sync . || { sh -c 'kill -ABRT $$'; exit 1; }; }"), judge=JUDGES)
