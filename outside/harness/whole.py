@@ -276,6 +276,8 @@ class Whole:
         self.keep_failing(found)
         self.tell_counts()
         plans, unresolved, fails = counts_of(report)
+        if not (fails or unresolved):
+            self.tell_untried()
         before = f", and {len(self.fails_again)} that failed once fail again" if self.fails_again else ""
         self.tell_end(came_to(fails, f"{plans} plans", unresolved, ways) + before, *[*found, *self.fails_again][:1],
             page=f"; page {from_here(self.folder / FORMS[ALWAYS])}")
@@ -337,6 +339,12 @@ class Whole:
         derived = "1 plan was" if decider.followed == 1 else f"{decider.followed} plans were"
         tried = "1 of them was" if decider.tried == 1 else f"{decider.tried} of them were"
         show(f"loop: {so_many(decider.runner.count, 'run')} and {so_many(decider.judge.count, 'judgement')}; {derived} derived from other runs, {tried} run as a check")
+
+    def tell_untried(self) -> None:
+        """If all plans pass, a person takes the program for sound. A run that begins with nothing has no old data, which are what most programs lose."""
+        if "again" not in self.harness.steps and not any(self.decider.runner.prepared.iterdir()):
+            show("loop: each run began with an empty folder, so nothing that was there before could be lost: have a second harness whose `prepare` makes "
+                "some, as paklour-new --begins again writes one")
 
     def tell_end(self, came_to: str, scenario: str = "", page: str = "") -> None:
         """Prints what one looks for: what the campaign came to, and how that run is made again."""

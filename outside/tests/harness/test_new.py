@@ -115,11 +115,12 @@ class New(Campaigns):
     def test_what_a_run_before_left(self):
         """Old data can be lost only if there are some. With an empty folder a rename before the sync passes."""
         renames_first = "#!/bin/sh\necho new > new && mv new note && sync note && sync .\n"
-        self.assertEqual(self.made(renames_first).status, 0)
+        done = self.made(renames_first)
+        self.assertEqual((done.status, "\nloop: each run began with an empty folder, so nothing that was there before could be lost: " in done.told), (0, True), done.told)
         done, _ = self.begins_again(renames_first)
         self.assertEqual((done.status, "\nfail torn: the 1st sys::fsync (note) fails, the pending changes of names are kept\n" in done.told), (1, True), done.told)
         done, told = self.begins_again(SAFE)
-        self.assertEqual((done.status, "in place" in told), (0, False), done.told)
+        self.assertEqual((done.status, "in place" in told, "empty folder" in done.told), (0, False, False), done.told)
 
     def test_a_file_that_is_appended_to(self):
         """It begins with its old contents at each moment, and needs no more until `done` is printed."""
