@@ -62,8 +62,8 @@ JUDGE = """#!/bin/sh
 # were kept. If one was broken, print a code that names it, such as lost, and exit with 1. With any other exit status the run has no verdict.
 # Once `run` has printed done, each file has to be as a run without faults leaves it, in the folder `expected`. Until then a file that was there before,
 # in "$PREPARED", has its old contents or its new ones, and one that is appended to begins with its old ones. If a journal has what a file lacks for a
-# moment, write its name into `journaled`: until then it only has to be there. Files that `unjudged` names have other contents in each run, so they only
-# have to be there too. If you change `prepare` or `run`, `paklour-new --expect` with this harness makes `expected` and `unjudged` anew.
+# moment, write its name into `journaled`: until then it isn't looked at. Files that `unjudged` names have other contents in each run, so they only have
+# to be there. If you change `prepare` or `run`, `paklour-new --expect` with this harness makes `expected` and `unjudged` anew.
 there() { [ -e "$1" ] || [ -L "$1" ]; }
 is_in() { for pattern in $(cat "$HARNESS/$1" 2> "$TMPDIR/none"); do case $2 in $pattern) return 0 ;; esac; done; return 1; } # LIST FILE
 alike() { # FILE FOLDER: whether FOLDER has the same file, or neither has it
@@ -83,7 +83,7 @@ while IFS= read -r file; do
         there "$PREPARED/$file" || continue # it is new
         alike "$file" "$PREPARED" && continue
         begins "$HARNESS/expected/$file" "$PREPARED/$file" && begins "$file" "$PREPARED/$file" && continue
-        there "$file" && is_in journaled "$file" && continue
+        is_in journaled "$file" && continue
     fi
     there "$file" || broken lost "it isn't there"
     alike "$file" "$PREPARED" && broken lost 'it is as it was before'
