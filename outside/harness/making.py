@@ -167,10 +167,18 @@ class Wanted:
     options: dict[str, str]
 
     @property
-    def command(self) -> list[str]:
-        """With the whole path of a program that was named by its path."""
-        program, *rest = self.typed
-        return [os.path.abspath(program) if "/" in program else program, *rest]
+    def paths(self) -> list[str]:
+        """For each word of the command the whole path, if it names the program by a path, or so a file beside the harness, and otherwise an empty text."""
+        whole = [os.path.abspath(word) if "/" in word else "" for word in self.typed]
+        beside = self.folder.parent
+        return [path if not number or Path(path).is_relative_to(beside) and os.path.isfile(path) else "" for number, path in enumerate(whole)]
+
+    @property
+    def command(self) -> str:
+        """As a script of the harness has it. What has a path is found from the harness's folder, so that a harness that is copied together with its program
+        runs the copy."""
+        return " ".join('"$HARNESS"/' + shlex.quote(os.path.relpath(path, self.folder)) if path else shlex.quote(word)
+            for word, path in zip(self.typed, self.paths))
 
     @property
     def form(self) -> str:
@@ -189,19 +197,10 @@ def expect_anew(folder: Path) -> None:
     expect(folder)
 
 
-def in_shell(words: list[str], folder: Path) -> str:
-    """The command as a script of the harness has it. A program that was named by its path is found from the harness's folder, so that a harness that
-    is copied together with its program runs the copy."""
-    program, *rest = words
-    if "/" not in program:
-        return shlex.join(words)
-    return " ".join(['"$HARNESS"/' + shlex.quote(os.path.relpath(program, folder)), *map(shlex.quote, rest)])
-
-
 def link(program: str, folder: Path) -> None:
     """Links a program that was named by its path into the harness, so that answers belong to it too."""
     name = os.path.basename(program)
-    if "/" in program and name not in NAMES and not is_passed_over(name) and os.access(program, os.R_OK):
+    if name not in NAMES and not is_passed_over(name) and os.access(program, os.R_OK) and not os.path.lexists(folder / name):
         (folder / name).symlink_to(os.path.relpath(program, folder))
 
 
@@ -268,11 +267,17 @@ def make(wanted: Wanted, answers: dict[str, str]) -> None:
     try:
         fill(wanted, answers)
         try_harness(wanted, answers["--begins"] == "again")
-    except Stopped:
-        raise
+    except Stopped as stopped:
+        raise Stopped(stopped.line + of_files_here(wanted), stopped.status) from stopped
     except BaseException:  # also if a key ends this program
         tree.remove(folder)
         raise
+
+
+def of_files_here(wanted: Wanted) -> str:
+    """What is said of a failed command that names a file of the current folder: it is run elsewhere, a slip that is easily made."""
+    names = [word for word in wanted.typed[1:] if "/" not in word and os.path.isfile(word)]
+    return f". The command is run in the folder of its data: name {', '.join(names)} by its path, such as ./{names[0]}" if names else ""
 
 
 def try_harness(wanted: Wanted, begins_again: bool) -> None:
@@ -291,7 +296,7 @@ def try_harness(wanted: Wanted, begins_again: bool) -> None:
 def write_server(wanted: Wanted, ready: str) -> None:
     """The scripts of a server, with the command that finds out whether it is ready."""
     for name, text in (("run", SERVER_RUN), ("judge", SERVER_JUDGE)):
-        write(wanted.folder / name, text.format(command=in_shell(wanted.command, wanted.folder), ready=ready))
+        write(wanted.folder / name, text.format(command=wanted.command, ready=ready))
 
 
 def fill(wanted: Wanted, answers: dict[str, str]) -> None:
@@ -299,13 +304,14 @@ def fill(wanted: Wanted, answers: dict[str, str]) -> None:
     folder = wanted.folder
     write(folder / "prepare", PREPARE)
     if wanted.form == "command":
-        write(folder / "run", RUN.format(command=in_shell(wanted.command, folder)))
+        write(folder / "run", RUN.format(command=wanted.command))
         write(folder / "judge", JUDGE)
     elif wanted.form == "mail":
-        write(folder / "run", MAIL_RUN.format(command=in_shell(wanted.command, folder)))
+        write(folder / "run", MAIL_RUN.format(command=wanted.command))
         write(folder / "judge", MAIL_JUDGE)
         tree.write(folder / "message", MESSAGE.encode())
-    link(wanted.command[0], folder)
+    for path in filter(None, wanted.paths):
+        link(path, folder)
     said: dict[str, str] = {}
     for answer in answers.items():
         if answer in SAYS:
@@ -317,11 +323,11 @@ def fill(wanted: Wanted, answers: dict[str, str]) -> None:
 
 def tell_next(wanted: Wanted, answers: dict[str, str], new: str) -> None:
     """Says what is still to be written by a person, and which other harness finds more."""
-    folder = wanted.folder
+    folder = from_here(wanted.folder)
     show(f"new: now let {folder}/prepare make what is there before, {folder}/run print a line for each promise, and {folder}/judge check these lines")
     if wanted.form == "command" and answers["--begins"] != "again":
         said = [word for option, answer in answers.items() if answer != ASKED[option][1][0] for word in (option, answer)]
-        words = [as_called(new), *said, "--begins", "again", f"{from_here(folder)}-again", *wanted.typed]
+        words = [as_called(new), *said, "--begins", "again", f"{folder}-again", *wanted.typed]
         show(f"new: a harness that begins with what a run has left also finds old data that are lost: {shlex.join(words)}")
 
 

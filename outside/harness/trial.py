@@ -20,7 +20,7 @@ from .processes import WITHIN
 from .programs import FAULTS, POWERCUT, REFUSED
 from .ready import at_first, ways_for
 from .run import NO_CALL, TIME_IS_UP
-from .shown import last_lines, show
+from .shown import from_here, last_lines, show
 from .trace import POINTS
 from .work import places
 
@@ -78,10 +78,11 @@ def refuse_failed(folder: Path, step: str, status: int, errors: str) -> NoReturn
     show(errors.rpartition("\n")[0] if makes_no_call else errors)
     why = ("made no call on files in the folder in which it starts" if makes_no_call else "can't be followed" if status == REFUSED
         else f"was ended after {SECONDS} seconds" if status == TIME_IS_UP else f"ended with {status}")
+    named = from_here(folder)
     if step == "run" and (folder / LEFT).exists():
-        raise Stopped(f"{folder}/run {why} on what a run before it has left. If the command can't be run twice, delete {folder}", CANNOT)
-    raise Stopped(f"{folder}/{step} {why}. If it needs files, let {folder}/prepare make them, and then call paklour-new --expect {folder}. "
-        f"If the command was wrong, delete {folder}", CANNOT)
+        raise Stopped(f"{named}/run {why} on what a run before it has left. If the command can't be run twice, delete {named}", CANNOT)
+    raise Stopped(f"{named}/{step} {why}. If it needs files, let {named}/prepare make them, and then call paklour-new --expect {named}. "
+        f"If the command was wrong, delete {named}", CANNOT)
 
 
 def try_alone(folder: Path) -> None:
@@ -150,12 +151,12 @@ def expect(folder: Path) -> None:
     tell_differing(folder, differing(first, second), sorted(first.keys() ^ second.keys()))
     if over:
         show(f"new: until `done` is printed, the judge accepts only the old contents or the new ones of what is written over in place: {', '.join(over)}. "
-            f"If a journal has what is missing meanwhile, write the name into {folder}/journaled")
+            f"If a journal has what is missing meanwhile, write the name into {from_here(folder)}/journaled")
 
 
 def tell_differing(folder: Path, contents: list[str], names: list[str]) -> None:
     if contents:
         tree.write(folder / "unjudged", "".join(f"{UNLIKE.sub('?', name)}\n" for name in contents).encode("utf-8", "surrogateescape"))
-        show(f"new: in a second run these had other contents, so the judge only looks whether they are there ({folder}/unjudged): {', '.join(contents)}")
+        show(f"new: in a second run these had other contents, so the judge only looks whether they are there ({from_here(folder)}/unjudged): {', '.join(contents)}")
     if names:
         show(f"new: in a second run these had other names, so the judge doesn't look for them: {', '.join(names)}")

@@ -258,6 +258,27 @@ class New(Campaigns):
         self.assertEqual(sorted(os.listdir(made / "expected")), ["input", "note"])
         self.assertEqual(self.loop("-j", 2, "--no-kinds", made).status, 0)
 
+    def made_here(self, *words):
+        """What `new` says of a command that is typed in the folder of the program."""
+        return subprocess.run([OUTSIDE / "new", "made", *words], cwd=self.here, capture_output=True, text=True, check=False)
+
+    def test_a_command_that_names_a_file_here(self):
+        """It is run elsewhere, where that file isn't."""
+        (self.here / "save.sh").write_text(SAFE)
+        made = self.made_here("sh", "save.sh")
+        self.assertEqual(made.returncode, 1, made.stderr)
+        self.assertIn(". The command is run in the folder of its data: name save.sh by its path, such as ./save.sh\n", made.stderr)
+
+    def test_a_script_that_another_program_runs(self):
+        """Named by its path, it is found from the harness, and answers belong to it."""
+        (self.here / "save.sh").write_text(SAFE)
+        for word in ("./save.sh", str(self.here / "save.sh")):
+            self.assertEqual(self.made_here("sh", word, "/dev/null").returncode, 0)
+            made = self.here / "made"
+            self.assertIn('\nsh "$HARNESS"/../save.sh /dev/null || exit\n', (made / "run").read_text())
+            self.assertEqual(os.readlink(made / "save.sh"), "../save.sh")
+            shutil.rmtree(made)
+
     def test_a_command_that_stores_elsewhere(self):
         """A campaign of it would try nothing."""
         told = self.failed(f"#!/bin/sh\necho not here >&2\necho new > {self.here}/elsewhere\n")
