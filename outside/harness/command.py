@@ -22,7 +22,7 @@ from .room import Room
 from .run import Runner
 from .settings import NEXT, Settings
 from .shard import join, shard_of
-from .shown import show, until_nobody_reads, write_out
+from .shown import from_here, show, until_nobody_reads, write_out
 from .watching import watched
 from .whole import ALWAYS, FORMS, Asked, Whole, decider_of
 from .words import ASK_HELP, Usage, as_called, bytes_of, refused, shows_progress, split, whole_number, write_help
@@ -52,7 +52,8 @@ def tells_what_is_kept(answers: Answers) -> Iterator[None]:
     try:
         yield
     except Interrupted as stopped:
-        stopped.line += f": {answers.count} answers are kept in {answers.path}, of which {answers.failing} fail; the same command goes on from there"
+        kept = f"{answers.count} answers are kept in {from_here(Path(answers.path))}, of which {answers.failing} fail"
+        stopped.line += f": {kept}; the same command goes on from there"
         raise
 
 

@@ -9,7 +9,7 @@ from pathlib import Path
 from . import tree
 from .answers import Answers, Stopped
 from .definition import FAILURES, Harness
-from .shown import plain, show
+from .shown import from_here, plain, show
 
 MADE_BY = "# Made by paklour-loop."
 MADE = f"{MADE_BY} It writes this file again for each campaign. If you delete this line, the settings are your own and stay as they are."
@@ -88,7 +88,7 @@ class Settings:
         kinds = ", full disks and half writes" if self.has_kinds else ""
         cuts = ", what a power cut keeps" if self.has_cuts else ", without power cuts"
         tried = f"depth {self.depth}, all points of files{cuts}{kinds}"
-        show(f"loop: wrote the settings {self.path}: {tried}; codes are added as the judge prints them")
+        show(f"loop: wrote the settings {from_here(self.path)}: {tried}; codes are added as the judge prints them")
 
     def write(self) -> None:
         tree.write(self.path, made_text(self.label, self.codes or ["lost"], self.depth, self.has_kinds, self.has_cuts).encode())

@@ -16,7 +16,7 @@ from . import tree
 from .answers import Answers
 from .disk import IN_MEMORY, disk_of, kind_of
 from .identity import NOTE, Identity, noted, other_in
-from .shown import show
+from .shown import from_here, show
 
 PREFIX = "paklour-"
 NAME = re.compile(PREFIX + "[0-9a-f]{8}")
@@ -76,7 +76,7 @@ class Note:
         self.said = {"harness": own, "every_run": every_run}
         self.folders: list[str] = []  # where runs lie now
         if answers.count and (why := why_not(place, own, every_run)):
-            show(f"loop: {place} {why}, so it is now {answers.set_aside()}, and this campaign begins anew")
+            show(f"loop: {from_here(place)} {why}, so it is now {from_here(Path(answers.set_aside()))}, and this campaign begins anew")
         self.needs_disk: bool | None = known.get("needs_disk") if answers.count else None
         for left in folders_in(known):
             if is_of_loop(left) and not is_taken_away(left):

@@ -284,6 +284,17 @@ class Shown(Campaigns):
         done = self.loop("-j", 1, self.harness(run=SAVES, judge="#!/bin/sh\nprintf 'why\\033[2J' >&2\nexit 3\n"))
         self.assertIn("unresolved: judge ended with 3: why\\x1b[2J: none\n", done.told)
 
+    def told_here(self):
+        """What the loop says of a harness in the current folder."""
+        return subprocess.run([OUTSIDE / "loop", "-j", "2", "harness"], cwd=self.here, env=self.environment, capture_output=True, text=True, check=True).stderr
+
+    def test_files_are_named_as_from_the_current_folder(self):
+        folder = self.harness(run=SAVES, judge=JUDGES)
+        self.assertTrue(self.told_here().startswith("loop: wrote the settings harness/settings.toml: "))
+        (folder / "judge").write_text(JUDGES + "# changed\n")
+        self.assertIn("loop: harness/answers belongs to a harness with another judge, so it is now harness/answers.1, and this campaign begins anew\n",
+            self.told_here())
+
     def test_what_a_person_reads(self):
         done = self.loop("-j", 2, "--into", self.here, NOTE, FLAW="unchecked_sync")
         lines = done.told.splitlines()
