@@ -169,6 +169,21 @@ class Decider:
         with self.runner.on_disk() as runner:
             return self.works(runner)
 
+    def sees_nothing(self, said: bytes) -> bool:
+        """Whether the judge passes what lay there before the run without faults, though that run changes it, and everything was promised."""
+        return self.room.within(lambda: self.passes_what_was_before(said))
+
+    def passes_what_was_before(self, said: bytes) -> bool:
+        record = self.runner.make("none")
+        data = record.folder / "data"
+        is_changed = tree.digest(data) != tree.digest(self.runner.prepared)
+        tree.remove(data)
+        tree.copy(str(self.runner.prepared), str(data))
+        passes = is_changed and self.judge.ask(record.folder, said).verdict == PASS
+        tree.remove(record.folder)
+        self.room.end(record.folder, 0)
+        return passes
+
     def run(self, text: str, looks_up: LooksUp) -> Outcome:
         record = self.runner.make(text)
         outcome = self.finish(record, len(record.points) + 1, text, looks_up)

@@ -341,10 +341,14 @@ class Whole:
         show(f"loop: {so_many(decider.runner.count, 'run')} and {so_many(decider.judge.count, 'judgement')}; {derived} derived from other runs, {tried} run as a check")
 
     def tell_untried(self) -> None:
-        """If all plans pass, a person takes the program for sound. A run that begins with nothing has no old data, which are what most programs lose."""
+        """If all plans pass, a person takes the program for sound. A run that begins with nothing has no old data, which are what most programs lose, and a
+        judge may not look at the data."""
         if "again" not in self.harness.steps and not any(self.decider.runner.prepared.iterdir()):
             show("loop: each run began with an empty folder, so nothing that was there before could be lost: have a second harness whose `prepare` makes "
                 "some, as paklour-new --begins again writes one")
+        if self.decider.sees_nothing(self.confirmed["none"].said):
+            show("loop: the judge also passes what lay there before the run, though everything was promised: if all that the run stored were lost, it "
+                "wouldn't say so")
 
     def tell_end(self, came_to: str, scenario: str = "", page: str = "") -> None:
         """Prints what one looks for: what the campaign came to, and how that run is made again."""

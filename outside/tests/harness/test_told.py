@@ -284,6 +284,16 @@ class Shown(Campaigns):
         done = self.loop("-j", 1, self.harness(run=SAVES, judge="#!/bin/sh\nprintf 'why\\033[2J' >&2\nexit 3\n"))
         self.assertIn("unresolved: judge ended with 3: why\\x1b[2J: none\n", done.told)
 
+    def test_a_judge_that_does_not_look_at_the_data(self):
+        """It is told once all plans pass. A run that changes nothing says nothing of its judge."""
+        told = "loop: the judge also passes what lay there before the run, though everything was promised: "
+        blind = "#!/bin/sh\nexit 0\n"
+        for run, judge, is_told in ((SAVES, JUDGES, False), (SAVES, blind, True), ("#!/bin/sh\ncat note\n", blind, False)):
+            folder = self.harness(prepare="#!/bin/sh\necho old > note\n", run=run, judge=judge)
+            done = self.loop("-j", 2, folder)
+            self.assertEqual((done.status, told in done.told), (0, is_told), done.told)
+            shutil.rmtree(folder)
+
     def told_here(self):
         """What the loop says of a harness in the current folder."""
         return subprocess.run([OUTSIDE / "loop", "-j", "2", "harness"], cwd=self.here, env=self.environment, capture_output=True, text=True, check=True).stderr
