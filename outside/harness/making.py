@@ -15,8 +15,8 @@ from .shown import ERRORS, from_here, show, until_nobody_reads, write_out
 from .trial import CANNOT, expect, leave, try_alone, try_server
 from .words import ASK_HELP, Usage, as_called, refused, write_help
 
-NAMES = {"prepare", "run", "again", "judge", "unjudged", "allowed", "harness.py", "settings.toml", "expected", "left", "journaled", "message",  # that mean something in a harness
-    *WRITTEN}
+NAMES = {"prepare", "run", "again", "judge", "unjudged", "allowed", "harness.py", "settings.toml", "message",  # that mean something in a harness
+    "expected", "left", "journaled", *WRITTEN}
 FORMS = {"--server": "server", "--mail": "mail"}
 FLAGS = {"--mail", "--expect"}
 STANDARD_INPUT = 0

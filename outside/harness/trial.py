@@ -157,6 +157,7 @@ def expect(folder: Path) -> None:
 def tell_differing(folder: Path, contents: list[str], names: list[str]) -> None:
     if contents:
         tree.write(folder / "unjudged", "".join(f"{UNLIKE.sub('?', name)}\n" for name in contents).encode("utf-8", "surrogateescape"))
-        show(f"new: in a second run these had other contents, so the judge only looks whether they are there ({from_here(folder)}/unjudged): {', '.join(contents)}")
+        show(f"new: in a second run these had other contents, so the judge only looks whether they are there ({from_here(folder)}/unjudged): "
+            f"{', '.join(contents)}")
     if names:
         show(f"new: in a second run these had other names, so the judge doesn't look for them: {', '.join(names)}")

@@ -18,6 +18,7 @@ from .campaign import Campaign
 from .certify import Certifier
 from .deciding import OTHERWISE, Decider
 from .definition import Harness
+from .guess import guesses
 from .judging import CRASHED, UNRESOLVED
 from .outcome import Outcome
 from .paklour import MOST_PLANS, Paklour, TooManyPlans
@@ -165,6 +166,7 @@ class Whole:
         for change in outcome.pending:
             show(f"pending: {' '.join(change)}")
         show("\n".join(f"judge: {line}" for line in outcome.errors.splitlines()))
+        show("\n".join(f"loop: {line}" for line in guesses(outcome, "again" in self.harness.steps)))
         if outcome.verdict != CRASHED and not on_disk:
             self.tell_trust(is_pending=bool(outcome.pending))
         show(f"loop: if this is known, {shlex.join(['--known', outcome.verdict.removeprefix('fail ')])} goes on, and counts what else fails")
@@ -309,7 +311,7 @@ class Whole:
             for sentence in told:
                 show(f"  {sentence}")
             if outcome.scenario in self.stories:
-                self.stories[outcome.scenario].further += map(text_of, told)
+                self.stories[outcome.scenario].further[:0] = map(text_of, told)  # what is known comes before what is guessed
 
     def status(self, of_report: int) -> int:
         """The exit status: that of the report, unless a run of this call didn't do the same each time, and so nobody knows what it came to."""
@@ -338,7 +340,8 @@ class Whole:
             show(f"loop: known: {code}: {f'{count} judgements came to it, and count as passed' if count else 'no judgement came to it'}")
         derived = "1 plan was" if decider.followed == 1 else f"{decider.followed} plans were"
         tried = "1 of them was" if decider.tried == 1 else f"{decider.tried} of them were"
-        show(f"loop: {so_many(decider.runner.count, 'run')} and {so_many(decider.judge.count, 'judgement')}; {derived} derived from other runs, {tried} run as a check")
+        made = f"{so_many(decider.runner.count, 'run')} and {so_many(decider.judge.count, 'judgement')}"
+        show(f"loop: {made}; {derived} derived from other runs, {tried} run as a check")
 
     def tell_untried(self) -> None:
         """If all plans pass, a person takes the program for sound. A run that begins with nothing has no old data, which are what most programs lose, and a
@@ -362,6 +365,7 @@ class Whole:
         program fails."""
         lines = {scenario_in(line): line for line in self.answers.lines()}
         groups: Counter[tuple[str, str]] = Counter()
+        perhaps: dict[tuple[str, str], list[str]] = {}
         told = set(scenarios[:MOST_STORIES])
         self.decider.judge.keeps_evidence = True
         for outcome in self.workers.run_again(["none", *scenarios]):
@@ -376,10 +380,15 @@ class Whole:
                 self.clean = hits_of(outcome)
             else:
                 groups[group_of(outcome)] += 1
+                guessed = guesses(outcome, "again" in self.harness.steps)
+                perhaps.setdefault(group_of(outcome), guessed)
                 if outcome.scenario in told:
                     self.stories[outcome.scenario] = story_of(outcome, self.asked.words, self.decider.only_state)
+                    self.stories[outcome.scenario].further += map(text_of, guessed)
         for group in in_order(groups):
-            show(f"{groups[group]} failure{'s' * (groups[group] > 1)}: {': '.join(group)}")
+            show(f"{so_many(groups[group], 'failure')}: {': '.join(group)}")
+            for line in perhaps[group]:
+                show_once(f"  {line}")
         return len(groups)
 
     def tell_difference(self, verdict: str, hits: str, tried: Outcome) -> None:

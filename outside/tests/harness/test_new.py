@@ -116,7 +116,8 @@ class New(Campaigns):
         """Old data can be lost only if there are some. With an empty folder a rename before the sync passes."""
         renames_first = "#!/bin/sh\necho new > new && mv new note && sync note && sync .\n"
         done = self.made(renames_first)
-        self.assertEqual((done.status, "\nloop: each run began with an empty folder, so nothing that was there before could be lost: " in done.told), (0, True), done.told)
+        began = "\nloop: each run began with an empty folder, so nothing that was there before could be lost: "
+        self.assertEqual((done.status, began in done.told), (0, True), done.told)
         done, _ = self.begins_again(renames_first)
         self.assertEqual((done.status, "\nfail torn: the 1st sys::fsync (note) fails, the pending changes of names are kept\n" in done.told), (1, True), done.told)
         done, told = self.begins_again(SAFE)
@@ -198,7 +199,8 @@ class New(Campaigns):
         """What `new` asks on a terminal, and the harness that it writes after these answers."""
         person, terminal = pty.openpty()
         os.write(person, typed.encode())
-        with subprocess.Popen([OUTSIDE / "new", *options, self.here / "made", "touch", "note"], stdin=terminal, stdout=subprocess.DEVNULL, stderr=terminal) as process:
+        words = [OUTSIDE / "new", *options, self.here / "made", "touch", "note"]
+        with subprocess.Popen(words, stdin=terminal, stdout=subprocess.DEVNULL, stderr=terminal) as process:
             os.close(terminal)
             told = b""
             with contextlib.suppress(OSError):  # as the end of a terminal is told

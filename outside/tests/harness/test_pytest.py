@@ -110,7 +110,7 @@ class Pytest(Suites):
 
     def runs(self, said: str) -> int:
         """How many runs a campaign made. Each test makes one."""
-        counted = re.search(r"^loop: (\d+) runs and ", said, re.M)
+        counted = re.search(r"^loop: (\d+) runs? and ", said, re.M)
         self.assertTrue(counted, said)
         return int(counted[1])
 

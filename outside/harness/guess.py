@@ -1,0 +1,54 @@
+"""What may be wrong with a program that fails, as a person would guess from its run: a sentence for each of the usual mistakes."""
+
+import re
+
+from .definition import LIVE
+from .outcome import Outcome
+from .telling import KEEP, acts, call_of
+
+RENAMED = re.compile(r"rename (.+) -> (.+?)(?:, .*)?")
+OF_FILE = re.compile(r"(?:length of (.+) \d+|block \d+ of (.+) as after .*)(?:, .*)?")
+NAMES = "names"  # the state of the power cut that has the changes of names alone
+
+
+def unsynced_in(pending: list[str]) -> list[str]:
+    """The files of which bytes aren't on the disk."""
+    return sorted({found[1] or found[2] for words in pending if (found := OF_FILE.fullmatch(words))})
+
+
+def renamed_first(outcome: Outcome, pending: list[str]) -> list[str]:
+    """A file that took another's place on the disk, though its bytes weren't there yet."""
+    kept = pending if outcome.judgement.state == NAMES else [hit[4].partition(" ")[2] for hit in outcome.trace if hit[1] == KEEP and acts(hit)]
+    renames = [found for words in kept if (found := RENAMED.fullmatch(words)) and found[2] in unsynced_in(pending)]
+    return [f"perhaps {found[1]} isn't synced before it is renamed to {found[2]}: the disk has the name, and not yet the bytes" for found in renames[:1]]
+
+
+def never_synced(pending: list[str]) -> list[str]:
+    if files := unsynced_in(pending):
+        return [f"perhaps nobody syncs {', '.join(files)} before the promise"]
+    return ["perhaps a folder isn't synced after a name in it has changed"] if pending else []
+
+
+def not_looked_at(outcome: Outcome) -> list[str]:
+    """`run` has ended with 0, so somebody takes a call that failed for done."""
+    failed = [hit for hit in outcome.trace if acts(hit) and hit[1] != KEEP and hit[3].startswith("return")]
+    if outcome.status or not failed:
+        return []
+    if failed[0][3] == "return(HALF)":
+        return [f"perhaps nobody writes the rest: the {call_of(failed[0])} did half, and `run` ended with 0"]
+    return [f"perhaps nobody looks at what a call returns: the {call_of(failed[0])} failed, and `run` ended with 0"]
+
+
+def without_a_power_cut(outcome: Outcome) -> list[str]:
+    if outcome.judgement.state != LIVE:
+        return []
+    is_killed = any(hit[3].startswith("panic") for hit in outcome.trace)
+    return [f"no power cut is needed: {'a kill at that moment' if is_killed else 'the program by itself'} leaves the files so"]
+
+
+def guesses(outcome: Outcome, has_recovery: bool) -> list[str]:
+    """Of a run that fails. How `run` ended says nothing if recovery has followed."""
+    pending = [words for _, words in outcome.pending]
+    if not any(map(acts, outcome.trace)) and not outcome.judgement.state:
+        return never_synced(pending)
+    return [*renamed_first(outcome, pending), *([] if has_recovery else not_looked_at(outcome)), *without_a_power_cut(outcome)]
