@@ -3,6 +3,7 @@
 import re
 
 from .definition import LIVE
+from .judging import CRASHED, HUNG
 from .outcome import Outcome
 from .telling import KEEP, acts, call_of
 
@@ -32,7 +33,7 @@ def never_synced(pending: list[str]) -> list[str]:
 def not_looked_at(outcome: Outcome) -> list[str]:
     """`run` has ended with 0, so somebody takes a call that failed for done."""
     failed = [hit for hit in outcome.trace if acts(hit) and hit[1] != KEEP and hit[3].startswith("return")]
-    if outcome.status or not failed:
+    if outcome.status or not failed or outcome.verdict in (CRASHED, HUNG):
         return []
     if failed[0][3] == "return(HALF)":
         return [f"perhaps nobody writes the rest: the {call_of(failed[0])} did half, and `run` ended with 0"]

@@ -56,6 +56,11 @@ class Guesses(Campaigns):
         guessed = self.guessed("#!/bin/sh\nprintf new > new && sync new && rm note && mv new note && sync . && echo saved\n", prepare=OLD, judge=OLD_OR_NEW)
         self.assertEqual(guessed, [f"no power cut is needed: {what} leaves the files so" for what in ("a kill at that moment", "the program by itself")])
 
+    def test_a_program_that_crashes(self):
+        """A driver that goes on after that ends with 0, and nobody took the call for done."""
+        run = "#!/bin/sh\nprintf new > new && sync new && mv new note && sync . && echo saved || sh -c 'kill -ABRT $$'\nexit 0\n"
+        self.assertEqual(self.guessed(run, "--no-kinds"), [])
+
     def test_a_program_that_says_so(self):
         """It ends with another status, and of what is wrong nothing is known."""
         guessed = self.guessed("#!/bin/sh\nprintf new > note && sync note && echo saved\n", "--no-kinds", prepare=OLD, judge=OLD_OR_NEW)
