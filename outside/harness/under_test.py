@@ -66,8 +66,9 @@ def files_of(harness: Harness) -> list[Path]:
 
 
 def program_of(harness: Harness) -> Program:
-    """A file that can't be run by itself, such as a script that `run` reads, has a part in it and doesn't give it its name."""
-    paths = files_of(harness)
+    """A file that can't be run by itself has a part in it, and gives it its name only if `run` has the path to which its link leads: so it is with the script
+    of `python3 ./save.py`, and not with one that `run` reads from the harness."""
+    paths, lines = files_of(harness), run_lines(harness)
     files = [File(text_of(path.name), digest_of(path)[:TOLD_OF_DIGEST], date_of(path.stat().st_mtime)) for path in paths]
-    name = ", ".join(text_of(path.name) for path in paths if os.access(path, os.X_OK)) or text_of(harness.name)
-    return Program(name, run_lines(harness), text_of(harness.version), files)
+    named = [path for path in paths if os.access(path, os.X_OK) or path.is_symlink() and any(text_of(os.readlink(path)) in line for line in lines)]
+    return Program(", ".join(text_of(path.name) for path in named) or text_of(harness.name), lines, text_of(harness.version), files)

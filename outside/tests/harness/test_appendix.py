@@ -219,9 +219,9 @@ class Added(Campaigns):
         self.assertEqual(self.loop("-j", 2, folder).status, 0)
         told = appendix_in(folder / "page.html")
         self.assertEqual((told["title"], [file["name"] for file in told["program"]["files"]]), (folder.name, ["part.sh"]))
-        (self.here / "part.sh").chmod(0o755)
+        (folder / "run").write_text('#!/bin/sh\nsh "$HARNESS"/../part.sh\n')
         self.assertEqual(self.loop("-j", 2, folder).status, 0)
-        self.assertEqual(appendix_in(folder / "page.html")["title"], "part.sh")
+        self.assertEqual(appendix_in(folder / "page.html")["title"], "part.sh", "it is named by the path to which the link leads")
 
 
 class Without(unittest.TestCase):
