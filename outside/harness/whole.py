@@ -26,7 +26,7 @@ from .run import NOT_FOUND, Runner
 from .settings import Settings
 from .shard import Shard, places_in, scenario_in
 from .scenario import scenario_of
-from .shown import GREEN, RED, YELLOW, from_here, show, show_once, so_many, write_out
+from .shown import GREEN, OUTPUT, RED, YELLOW, from_here, show, show_once, so_many, write_out
 from .story import Story, again, hits_of, story_of, text_of
 from .telling import failure, group_of, in_order
 from .under_test import program_of, today
@@ -35,6 +35,7 @@ from .workers import Workers
 LOOK_SHARE = 200  # checking the answers takes one part in so many of the time: the loop wrote them itself, and the next round checks them too
 MOST_STORIES = 100  # so many findings and causes have a story on the page, as many as have their runs there
 MOST_OF_A_KIND = 10  # so many failures that have the same calls in common are printed one by one
+UNHIT = re.compile(rb"(census|reached) .* 0\n")  # the lines of a point that no run hits
 ALWAYS = "--page"
 FORMS = {ALWAYS: "page.html", "--junit": "junit.xml", "--json": "report.json"}
 TRUSTS = {  # what FAULTS_SYNC may be, and what that means
@@ -270,7 +271,7 @@ class Whole:
         tree.write(self.folder / "report", report)
         forms = {form: self.paklour.report(form, tells=False)[1] for form in self.asked.forms}
         self.write_forms(forms)
-        write_out(brief if self.asked.brief else report)
+        write_out(report if not self.asked.brief else for_terminal(brief) if os.isatty(OUTPUT) else brief)
         found = findings(report, self.settings.codes)
         ways = self.confirm(found)
         self.certify(self.confirmed[scenario] for scenario in found)
@@ -417,6 +418,11 @@ def findings(report: bytes, codes: list[str]) -> list[str]:
             code = max((code for code in codes if rest.startswith(code + " ")), key=len)
             found.append(rest[len(code) + 1:])
     return list(dict.fromkeys(found))
+
+
+def for_terminal(brief: bytes) -> bytes:
+    """The report as a person reads it, without the points that no run hits: in a first report they are a third of its lines. The file has them."""
+    return b"".join(line for line in brief.splitlines(keepends=True) if not UNHIT.fullmatch(line))
 
 
 def counts_of(report: bytes) -> tuple[int, int, int]:

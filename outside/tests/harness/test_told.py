@@ -332,6 +332,23 @@ writes; codes are added as the judge prints them", "loop: 14 plans with one faul
         os.close(reader)
         return process.returncode, told.decode().replace("\r\n", "\n")
 
+    def test_a_report_on_a_terminal(self):
+        """The points that no run hits are left out there, and not in a pipe nor in the file."""
+        folder = self.harness(run=SAVES, judge=JUDGES)
+        whole = self.loop("-j", 2, folder).out.splitlines()
+        person, terminal = pty.openpty()
+        with open(self.here / "shown", "wb") as shown:
+            with subprocess.Popen([sys.executable, LOOP, folder], env=self.environment, stdin=subprocess.DEVNULL, stdout=terminal, stderr=subprocess.DEVNULL):
+                os.close(terminal)
+                with contextlib.suppress(OSError):  # as the end of a terminal is told
+                    while read := os.read(person, 65536):
+                        shown.write(read)
+        os.close(person)
+        unhit = [line for line in whole if line.startswith(("census ", "reached ")) and line.endswith(" 0")]
+        self.assertTrue({"census sys::link 0", "reached sys::link 0"} <= set(unhit), whole)
+        self.assertEqual((self.here / "shown").read_text().splitlines(), [line for line in whole if line not in unhit])
+        self.assertTrue(set(unhit) <= set((folder / "report").read_text().splitlines()))
+
     def test_a_terminal(self):
         """One line is written over, and the lines that stay are above it."""
         folder = self.harness(run=SAVES.replace("sync new", "{ sync new || true; }"), judge=JUDGES)
