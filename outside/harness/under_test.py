@@ -9,6 +9,7 @@ from pathlib import Path
 
 from .definition import Harness
 from .identity import digest_of
+from .step import STEPS
 from .story import text_of
 
 MOST_LINES = 12  # of a `run` that is a script
@@ -67,8 +68,8 @@ def files_of(harness: Harness) -> list[Path]:
 
 def program_of(harness: Harness) -> Program:
     """A file that can't be run by itself has a part in it, and gives it its name only if `run` has the path to which its link leads: so it is with the script
-    of `python3 ./save.py`, and not with one that `run` reads from the harness."""
+    of `python3 ./save.py`, and not with one that `run` reads from the harness. A step of another harness has the name of a step."""
     paths, lines = files_of(harness), run_lines(harness)
     files = [File(text_of(path.name), digest_of(path)[:TOLD_OF_DIGEST], date_of(path.stat().st_mtime)) for path in paths]
     named = [path for path in paths if os.access(path, os.X_OK) or path.is_symlink() and any(text_of(os.readlink(path)) in line for line in lines)]
-    return Program(", ".join(text_of(path.name) for path in named) or text_of(harness.name), lines, text_of(harness.version), files)
+    return Program(", ".join(text_of(path.name) for path in named if path.name not in STEPS) or text_of(harness.name), lines, text_of(harness.version), files)

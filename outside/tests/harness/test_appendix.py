@@ -210,6 +210,10 @@ class Added(Campaigns):
         program = told["program"]
         digest = subprocess.run(["sha256sum", self.here / "save"], capture_output=True, text=True, check=True).stdout[:12]
         self.assertEqual(program, {"name": "save", "run": ["./save"], "version": "save 1.2", "files": [{"name": "save", "digest": digest, "changed": "2001-09-09"}]})
+        (self.here / "save").rename(self.here / "run")
+        (self.here / "saving.py").write_text((self.here / "saving.py").read_text().replace("./save", "./run"))
+        self.assertEqual(self.loop("-j", 2, "--into", self.here / "other", self.here / "saving.py").status, 0)
+        self.assertEqual(appendix_in(self.here / "other" / "page.html")["title"], "saving", "`run` is no name of a program")
 
     def test_a_part_of_the_program_does_not_name_it(self):
         """A script that `run` reads is linked into the harness, since answers belong to it, and can't be run by itself."""
