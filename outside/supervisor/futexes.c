@@ -25,7 +25,8 @@
 
 enum { PAGE = 4096, MOST_SECONDS = 1000000000 };
 
-static const uint64_t A_SECOND = 1000000000, SHORTEST_LIMIT = 1000000;
+static const uint64_t A_SECOND = 1000000000;
+static const int64_t SHORTEST_LIMIT = 1000000;
 
 static int command_of(const struct call *call) { return (int)argument(call, call->row->mode) & FUTEX_CMD_MASK; }
 
@@ -42,22 +43,47 @@ static bool read_value(const struct thread *thread, uint64_t at, unsigned *value
 
 /* ---- which waits are kept here */
 
+enum { MOST_LIMITS = 256 };
+
+/* The last moment up to which a thread has waited here. */
+static struct { int thread; struct timespec moment; } limits[MOST_LIMITS];
+
+/* Whether a thread waits for the same moment again, and remembers that it does. */
+static bool waits_again(int thread, const struct timespec *moment) {
+    static size_t next;
+    size_t which = 0;
+    while (which < MOST_LIMITS && limits[which].thread != thread) which++;
+    bool is_same = which < MOST_LIMITS && limits[which].moment.tv_sec == moment->tv_sec && limits[which].moment.tv_nsec == moment->tv_nsec;
+    if (which == MOST_LIMITS) which = next++ % MOST_LIMITS;
+    limits[which].thread = thread;
+    limits[which].moment = *moment;
+    return is_same;
+}
+
+/* The nanoseconds from one moment to another, at most so many that they can be added to any time. */
+static int64_t time_between(const struct timespec *from, const struct timespec *to) {
+    int64_t seconds = to->tv_sec - from->tv_sec;
+    if (seconds > MOST_SECONDS) seconds = MOST_SECONDS;
+    if (seconds < -MOST_SECONDS) seconds = -MOST_SECONDS;
+    return seconds * (int64_t)A_SECOND + to->tv_nsec - from->tv_nsec;
+}
+
 /* How much time is left of the limit that the wait has, from now on. It is 0 for a wait without one. Returns false for a limit that the system
-   refuses, or that is so short that the thread looks again and again. */
+   refuses, or that is so short that the thread looks again and again. But a thread that was woken before some moment may wait on for that moment, however
+   little is left. */
 static bool read_limit(const struct call *call, uint64_t *left) {
     struct timespec limit, time = {0};
     uint64_t at = argument(call, call->row->bytes);
-    bool by_clock = argument(call, call->row->mode) & FUTEX_CLOCK_REALTIME;
+    bool is_moment = command_of(call) == FUTEX_WAIT_BITSET, by_clock = argument(call, call->row->mode) & FUTEX_CLOCK_REALTIME;
     *left = 0;
     if (!at) return true;
     if (read_memory(call->thread, at, &limit, sizeof limit) != sizeof limit) return false;
     if (limit.tv_sec < 0 || limit.tv_nsec < 0 || (uint64_t)limit.tv_nsec >= A_SECOND) return false;
-    if (command_of(call) == FUTEX_WAIT_BITSET) clock_gettime(by_clock ? CLOCK_REALTIME : CLOCK_MONOTONIC, &time);
-    int64_t seconds = limit.tv_sec - time.tv_sec;
-    if (seconds < 0) return false;
-    if (seconds > MOST_SECONDS) seconds = MOST_SECONDS;
-    *left = (uint64_t)seconds * A_SECOND + (uint64_t)limit.tv_nsec - (uint64_t)time.tv_nsec;
-    return (int64_t)*left > (int64_t)SHORTEST_LIMIT;
+    if (is_moment) clock_gettime(by_clock ? CLOCK_REALTIME : CLOCK_MONOTONIC, &time);
+    int64_t length = time_between(&time, &limit);
+    bool is_again = is_moment && waits_again(call->thread->number, &limit);
+    *left = length > 0 ? (uint64_t)length : 1;
+    return is_again || length > SHORTEST_LIMIT;
 }
 
 /* Whether the page of a word belongs to the process alone. The system finds out in the same way who waits there. */
