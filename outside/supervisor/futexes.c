@@ -263,6 +263,7 @@ void serve_futex(struct call *call) {
 /* The C library makes this call in each thread, child and program that it begins. Until its turn it doesn't run beside the one that began it. */
 void serve_begin(struct call *call) {
     if (call->chosen || !is_in_order(call)) return go_on(call);
+    call->word.process = call->thread->process;
     call->turn = AWAKE;
     call->waits_turn = true;
 }

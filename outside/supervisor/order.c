@@ -126,7 +126,7 @@ static bool tells_numbers(void) {
 static bool (*has_call)(int thread);
 static uint64_t turn; /* how many turns were waited for */
 static struct looked *unsettled; /* one that isn't at rest */
-static bool waits_shortly;       /* whether one that computes for long doesn't count */
+static enum patience patience;
 
 /* Whether a thread waits for a child that uses its memory. It sleeps in the same way as one that waits for a disk. */
 static bool waits_for_child(int thread) {
@@ -155,7 +155,7 @@ bool keeps_waits(void) { return kept_waiting < LONGEST_OF_ALL; }
 
 static void add_to_waits(const struct looked *thread, uint64_t time) {
     bool kept_before = keeps_waits();
-    kept_waiting += time;
+    if (patience == FOR_THREAD) kept_waiting += time;
     if (kept_before && !keeps_waits()) tell_of(thread, "the order of threads that wait for one another, since some compute for long:");
 }
 
@@ -169,10 +169,10 @@ static bool look(struct looked *thread, uint64_t *turns) {
     if (is_known) return true;
     if (read_text_of(thread->turns, text, sizeof text)) sscanf(text, "%llu %*u %llu", &computed, &times);
     if (!went_on) thread->began = computed;
-    else if (waits_shortly && computed > thread->computed) add_to_waits(thread, computed - thread->computed);
+    else if (computed > thread->computed) add_to_waits(thread, computed - thread->computed);
     thread->computed = computed;
     if (thread->computes) unsettled = thread;
-    if (thread->computes) return waits_shortly && computed - thread->began > A_LONG_TIME;
+    if (thread->computes) return patience != FOR_CALL && computed - thread->began > A_LONG_TIME;
     *turns = *turns * 31 + times * 131 + (unsigned)thread->number;
     return true;
 }
@@ -202,7 +202,7 @@ static void give_up(void) {
 
 bool all_at_rest(bool (*waits)(int thread)) {
     has_call = waits;
-    waits_shortly = false;
+    patience = FOR_CALL;
     return all_rest();
 }
 
@@ -218,14 +218,14 @@ static bool each_has_rested(void) {
 
 static bool rest_by_now(uint64_t time) {
     if (all_rest()) return true;
-    if (!waits_shortly || time < A_WHILE || !each_has_rested()) return false;
+    if (patience == FOR_CALL || time < A_WHILE || !each_has_rested()) return false;
     add_to_waits(unsettled, time);
     return true;
 }
 
-bool is_settled(bool (*waits)(int thread), bool shortly) {
+bool is_settled(bool (*waits)(int thread), enum patience of_it) {
     has_call = waits;
-    waits_shortly = shortly;
+    patience = of_it;
     if (!tries++) since = now(), turn++;
     uint64_t time = now() - since;
     if (time <= LONGEST && !rest_by_now(time)) return false;

@@ -17,9 +17,10 @@ bool is_ordered(void);
 bool may_go(struct call *call);
 
 /* Whether every thread of the run rests, except for those that never do. `waits` says whether a thread has a call that waits here. A thread that
-   doesn't rest for two seconds isn't waited for any more; forget_unsettled says that nothing waits for rest now. With `shortly` one that computes
-   for long isn't waited for. */
-bool is_settled(bool (*waits)(int thread), bool shortly);
+   doesn't rest for two seconds isn't waited for any more; forget_unsettled says that nothing waits for rest now. Only for a call one that computes
+   for long is waited for, and how long threads of a process waited so is counted. */
+enum patience { FOR_CALL, FOR_PROCESS, FOR_THREAD };
+bool is_settled(bool (*waits)(int thread), enum patience patience);
 void forget_unsettled(void);
 
 /* Whether threads that wait for one another are kept until their turn. */

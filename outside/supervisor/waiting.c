@@ -113,9 +113,14 @@ static const struct call *first_turn(void) {
     return first && (!first->sleeps_until || has_slept(first)) ? first : NULL;
 }
 
+static enum patience patience_of(const struct call *call) {
+    if (call->turn == OF_CALL) return FOR_CALL;
+    return call->row->serve == serve_begin && (int)call->told.pid == call->word.process ? FOR_PROCESS : FOR_THREAD;
+}
+
 /* Whether all threads rest. A limit of a wait doesn't wait for a thread that never rests, and is over all the same some time later. */
 static bool may_take(const struct call *first) {
-    if (!first->waits_wake) return is_settled(waits_here, first->turn != OF_CALL);
+    if (!first->waits_wake) return is_settled(waits_here, patience_of(first));
     forget_unsettled();
     return all_at_rest(waits_here);
 }
