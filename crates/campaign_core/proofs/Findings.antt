@@ -11,7 +11,8 @@ use Rattle.scenario_values.specs.Keep.{are_faults}
 use Rattle.scenario_values.proofs.Sets.{all_are_faults, without_are_faults}
 use Rattle.target_trait.specs.declared.judgement.Verdict.{Verdict}
 use Rattle.target_trait.specs.declared.judgement.Verdict.TheVariants as verdict
-use Rattle.grown_plans.specs.Runs.{Met}
+use Rattle.action_eval.specs.Answers.{given_of}
+use Rattle.grown_plans.specs.Runs.{Met, run}
 use Rattle.grown_plans.proofs.Members.{contains_map}
 use Rattle.result_book.specs.Verdicts.{numbered, verdicts_from}
 use Rattle.result_book.specs.FirstFailures.{first_failures, AreFirstFailures}
@@ -118,5 +119,9 @@ module _ (c : Campaign) (label counts : List ℕ) (entries : List Entries) (grow
         minimal = without_one (say c first.0) first.1 f.reduced reduces;
       })
 
-  pub further : All (IsOfItsNumber entries) grew.causes → Further (grower c) entries told
-  further causes = record { all_told = length_verdicts (say c) 0 entries; judged = judged_at; findings = reduction_at; causes = causes }
+  abbrev Plays : Type 0
+  Plays = (number : ℕ) (s : Entries) (hits : List Met) → slice_get entries number ≡ Some s → slice_get behaviours number ≡ Some hits
+      → run c.asks (given_of s c.points c.given.plans.seed number c.given.max_hits) ≡ hits
+
+  pub further : Plays → All (IsOfItsNumber entries) grew.causes → Further (grower c) entries told
+  further plays causes = record { plays = plays; all_told = length_verdicts (say c) 0 entries; judged = judged_at; findings = reduction_at; causes = causes }

@@ -11,8 +11,10 @@ use Rattle.target_trait.specs.Outcomes.{verdict_with}
 use Rattle.target_trait.specs.declared.judgement.Verdict.{Verdict}
 use Rattle.target_trait.specs.declared.judgement.Verdict.TheVariants as verdict
 use Rattle.plan_gen.specs.PlanList.{further_list}
-use Rattle.grown_plans.specs.Runs.{Met}
-use Rattle.grown_plans.specs.GrownPlans.{Subject, rigs_of, run_of_plan, scenario_of, level, levels, onward, grown, beyond, reached}
+use Rattle.action_eval.specs.Answers.{given_of}
+use Rattle.grown_plans.specs.Runs.{Met, run}
+use Rattle.grown_plans.proofs.Onward.{no_seed_needed}
+use Rattle.grown_plans.specs.GrownPlans.{Subject, given_for, rigs_of, run_of_plan, scenario_of, level, levels, onward, grown, beyond, reached}
 use Rattle.grown_runs.specs.Grown.{level_sizes, reached_each}
 use Rattle.campaign_core.proofs.Grown.{list_is}
 use Rattle.grown_plans.specs.Promises.{IsLawful, IsCause, lesser, verdict_of_plan, verdict_of_rigs}
@@ -34,7 +36,7 @@ use Rattle.campaign_core.specs.promises.Promises.{IsCause as IsToldCause}
 use Rattle.campaign_core.specs.promises.Further.{Further, IsOfItsNumber, IsReduction}
 use Rattle.campaign_core.proofs.PromisesLemmas.Failures.{of_level, has_cause, fewest}
 use Rattle.campaign_core.proofs.PromisesLemmas.Least.{no_lesser}
-use Rattle.campaign_core.proofs.PromisesLemmas.Numbers.{get_front, get_map}
+use Rattle.campaign_core.proofs.PromisesLemmas.Numbers.{all_at, get_front, get_map, get_unmapped}
 use Rattle.grown_plans.proofs.Levels.{level_grown}
 use Rattle.campaign_core.proofs.PromisesLemmas.ByLevel.{by_level, levels_flat}
 use Rattle.campaign_core.proofs.PromisesLemmas.Counted.{level_sizes as sizes_of_levels, size_beyond}
@@ -253,6 +255,7 @@ module _ (k : Campaign) (d : ℕ) (is_depth : Some d ≡ k.given.depth) (l : IsL
         seen = record { sound = sound; complete = complete };
         sizes = sizes_of_levels (grower k) l d told g;
         beyond = size_beyond (grower k) l d told g;
+        none_unseen = refl;
         fewest = finding_at;
         most = most_reached (grower k) l d told g;
       }
@@ -265,8 +268,19 @@ module _ (k : Campaign) (d : ℕ) (is_depth : Some d ≡ k.given.depth) (l : IsL
       plan_at k d is_depth number (slice_index_or (grown (grower k) d) number []) (slice_get-get_or (grown (grower k) d) number [] among.among)
       ∙ ap (λ (s : Entries). Some s) (sym among.scenario)
 
+  -- the run of a plan's scenario is the plan's
+  plays_at : (number : ℕ) (s : Entries) (hits : List Met) → slice_get (plans k) number ≡ Some s → slice_get told.behaviours number ≡ Some hits
+      → run k.asks (given_of s k.points k.given.plans.seed number k.given.max_hits) ≡ hits
+  plays_at number s hits at b =
+      let of = get_unmapped (run_of_plan (grower k)) (grown (grower k) d) number hits b in
+      let same : scenario_of (grower k) of.0 ≡ s = some_is (scenario_of (grower k) of.0) s (sym (plan_at k d is_depth number of.0 of.1) ∙ at) in
+      ap (λ (s : Entries). run k.asks (given_of s k.points k.given.plans.seed number k.given.max_hits)) (sym same)
+      ∙ all_at (λ plan. (seed stream : ℕ) → run k.asks (given_for (grower k) plan seed stream) ≡ run_of_plan (grower k) plan) (grown (grower k) d) number of.0
+      (no_seed_needed (grower k) l d) of.1 k.given.plans.seed number
+      ∙ of.2
+
   further_in : Further (grower k) (plans k) told
-  further_in = further k k.label (census k) (plans k) (growth k) told.growth told.behaviours minimal named_at
+  further_in = further k k.label (census k) (plans k) (growth k) told.growth told.behaviours minimal plays_at named_at
 
 -- Of a campaign with a depth.
 pub keeps_promises : (k : Campaign) → IsLawful (grower k) → k.given.max_hits < 2 ^ 32 → IfSome k.given.depth (λ depth. depth ≤ 64) → EachIsMinimal k → KeepsPromises k

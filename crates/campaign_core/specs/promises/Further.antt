@@ -4,13 +4,15 @@ use Rattle.std.specs.Prelude.{◌≡◌, ◌≢◌, ◌<◌, ℕ, Some, List, Al
 use Rattle.std.specs.List.{range_with_len}
 use Rattle.scenario_values.specs.Scenario.{Entries, all_faults}
 use Rattle.scenario_values.specs.Keep.{kept}
+use Rattle.action_eval.specs.Answers.{given_of}
 use Rattle.target_trait.specs.Outcomes.{verdict_with}
 use Rattle.target_trait.specs.declared.judgement.Verdict.{Verdict}
 use Rattle.target_trait.specs.declared.judgement.Verdict.TheVariants.{Fail}
+use Rattle.grown_plans.specs.Runs.{Met, run}
 use Rattle.grown_plans.specs.GrownPlans.{Subject}
 use Rattle.report.specs.Reports.{FindingFacts, CauseFacts}
 use Rattle.campaign_core.specs.Findings.{reduced, reduction}
-use Rattle.campaign_core.specs.promises.Told.{Told, HasVerdict}
+use Rattle.campaign_core.specs.promises.Told.{Told, HasBehaviour, HasVerdict}
 
 -- The verdict of a scenario that is run with this number as its stream number.
 abbrev pub verdict_of : Subject → Told → ℕ → Entries → Verdict
@@ -33,9 +35,11 @@ pub record IsReduction (t : Subject) (scenarios : List Entries) (told : Told) (f
 abbrev pub IsOfItsNumber : List Entries → CauseFacts → Type 0
 IsOfItsNumber scenarios c = slice_get scenarios c.number ≡ Some c.scenario
 
--- Of the scenarios of all numbers, in order.
+-- Of the scenarios of all numbers, in order. The run of a number's scenario is the number's behaviour, if it has one.
 pub record Further (t : Subject) (scenarios : List Entries) (told : Told) : Type 0 where
   pub all_told : length told.report.verdicts ≡ length scenarios
   pub judged : (number : ℕ) (s : Entries) → slice_get scenarios number ≡ Some s → HasVerdict told number (verdict_of t told number s)
+  pub plays : (number : ℕ) (s : Entries) (hits : List Met) → slice_get scenarios number ≡ Some s → HasBehaviour told number hits
+      → run t.asks (given_of s t.names told.report.seed number t.limit) ≡ hits
   pub findings : All (IsReduction t scenarios told) told.report.findings
   pub causes : All (IsOfItsNumber scenarios) told.growth.causes

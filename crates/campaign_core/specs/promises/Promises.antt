@@ -115,6 +115,7 @@ pub record Promises (t : Subject) (d : ℕ) (told : Told) : Type 0 where
   -- Level n has as many plans as there are behaviours in which exactly n faults act, and `beyond` is how many behaviours have d + 1.
   pub sizes : (n size : ℕ) → slice_get told.growth.levels n ≡ Some size → AreSoMany size (HasActing t n)
   pub beyond : AreSoMany told.growth.beyond (HasActing t (suc d))
+  pub none_unseen : told.growth.unseen ≡ 0
   pub fewest : All (HasFewest t told) told.report.findings
   -- The number after `reached` is the most hits of a point that one of the behaviours has.
   pub most : (point : ℕ) → point < length t.names → slice_get told.growth.reached point ≡ Some (most (map (times_hit point) told.behaviours))

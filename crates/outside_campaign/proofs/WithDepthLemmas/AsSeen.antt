@@ -11,8 +11,9 @@ use Rattle.action_eval.specs.declared.rig.Rig.{Rig}
 use Rattle.action_eval.specs.Answers.{Return}
 use Rattle.target_trait.specs.declared.judgement.Verdict.{Verdict}
 use Rattle.target_trait.specs.declared.judgement.Verdict.TheVariants.{Fail, Unresolved}
-use Rattle.grown_plans.specs.Runs.{Met, acting}
-use Rattle.grown_plans.specs.GrownPlans.{Subject, grown, level, levels, levels_to, onward, run_of_plan, scenario_of}
+use Rattle.action_eval.specs.Answers.{given_of}
+use Rattle.grown_plans.specs.Runs.{Met, acting, run}
+use Rattle.grown_plans.specs.GrownPlans.{Subject, given_for, grown, level, levels, levels_to, onward, run_of_plan, scenario_of}
 use Rattle.grown_plans.specs.Promises.{IsCause, IsLawful, IsOfKinds, ReturnsOnward, run_in, verdict_of_plan}
 use Rattle.grown_plans.proofs.Apart.{IsGrownTo, levels_grown}
 use Rattle.grown_plans.proofs.Causes.{has_causes}
@@ -20,7 +21,7 @@ use Rattle.grown_plans.proofs.Faults.{faults as faults_of}
 use Rattle.grown_plans.proofs.Levels.{IsGrown, level_grown}
 use Rattle.grown_plans.proofs.Members.{all_append, all_contains, all_left, all_right, all_weaker, contains_head, contains_map}
 use Rattle.plan_gen.specs.Census.{census_of}
-use Rattle.grown_plans.proofs.Onward.{grown_can}
+use Rattle.grown_plans.proofs.Onward.{grown_can, no_seed_needed}
 use Rattle.grown_plans.proofs.Paths.{some_is}
 use Rattle.grown_plans.proofs.PlanRuns.{plan_judged}
 use Rattle.grown_plans.proofs.RiggedScenarios.{CanAct}
@@ -51,7 +52,7 @@ use Rattle.campaign_core.proofs.PromisesLemmas.Faults.{faults_among}
 use Rattle.campaign_core.proofs.PromisesLemmas.Kinds.{each_of_kinds}
 use Rattle.campaign_core.proofs.PromisesLemmas.Least.{no_lesser}
 use Rattle.campaign_core.proofs.PromisesLemmas.Listed.{Lists, all_are, all_counted, by_case, each_behaves, each_judged, has_behaviour, no_two, told_once}
-use Rattle.campaign_core.proofs.PromisesLemmas.Numbers.{at_contained, contains_at, get_front, get_in_front, get_map, get_unmapped, sum_more}
+use Rattle.campaign_core.proofs.PromisesLemmas.Numbers.{all_at, at_contained, contains_at, get_front, get_in_front, get_map, get_unmapped, sum_more}
 use Rattle.campaign_core.specs.Findings.{IsCauseAmong, ReducesToMinimal, cause_of}
 use Rattle.campaign_core.specs.Headline.{Campaign, grower, say}
 use Rattle.campaign_core.proofs.Causes.{each_is}
@@ -373,8 +374,19 @@ module _ (c : Campaign) (depth : ℕ) (known : KnownRuns) (l : IsLawful (grower 
       let number : ℕ = (slice_index_or told.growth.causes n none).number in
       plan_at number (slice_index_or (first ++ behind) number []) (slice_get-get_or (first ++ behind) number [] among.among) ∙ ap (λ (s : Entries). Some s) (sym among.scenario)
 
+  -- the run of a plan's scenario is the plan's
+  plays_at : (number : ℕ) (s : Entries) (hits : List Met) → slice_get plans number ≡ Some s → slice_get told.behaviours number ≡ Some hits
+      → run c.asks (given_of s c.points seed number c.given.max_hits) ≡ hits
+  plays_at number s hits at b =
+      let of = get_unmapped (run_of_plan t) (first ++ behind) number hits b in
+      let same : scenario_of t of.0 ≡ s = some_is (scenario_of t of.0) s (sym (plan_at number of.0 of.1) ∙ at) in
+      ap (λ (s : Entries). run c.asks (given_of s c.points seed number c.given.max_hits)) (sym same)
+      ∙ all_at (λ plan. (seed stream : ℕ) → run c.asks (given_for t plan seed stream) ≡ run_of_plan t plan) (first ++ behind) number of.0
+      (of_known (λ plan. (seed stream : ℕ) → run c.asks (given_for t plan seed stream) ≡ run_of_plan t plan) (no_seed_needed t l depth)) of.1 seed number
+      ∙ of.2
+
   pub further_seen : Further t plans told
-  further_seen = further c c.label counts plans (Some grew) grew told.behaviours minimal_seen named_at
+  further_seen = further c c.label counts plans (Some grew) grew told.behaviours minimal_seen plays_at named_at
 
 -- ---- the scenarios of each component's list
 
