@@ -75,6 +75,11 @@ the edit's shape shows it, or a reason that somebody wrote.
   toy/stale: NOT REFUSED: its control isn't proved either, toy::scripted at returns-else
   $ renamed returns-else-clause-sum
   toy/stale: refused: toy::scripted at returns-else-clause-sum (without)
+  $ renamed loop-n-preserved
+  toy/stale: refused: toy::scripted at loop-n-preserved (without)
+  $ renamed loop-n-preserved-then-x-2 'right: open loop-n-preserved'; renamed loop-n-preserved-then-x-2 'right: open loop-n-init'
+  toy/stale: NOT REFUSED: its control isn't proved either, toy::scripted at loop-n-preserved-then-x-2
+  toy/stale: refused: toy::scripted at loop-n-preserved-then-x-2 (right)
   $ renamed returns-else 'right: proved otherwise'; renamed returns-else 'right: open returns'; renamed returns-else 'by hand: the sum is one too large'
   toy/stale: refused: toy::scripted at returns-else (right)
   toy/stale: NOT REFUSED: its control isn't proved either, toy::scripted at returns-else
