@@ -5,7 +5,7 @@ report are worked out here by the definitions alone; however the answers come, t
     tests/made_campaigns.py COUNT
 
 `paklour` has to be on the PATH. Of each campaign the answers come in rounds, each a part of what is asked, in any order, some again, some unasked, scenarios
-spelled otherwise, hits in a row told as `2*a`. Between rounds it is looked at which lines a shard has, how many are left, and what is known. Of what a failure is reduced to it is looked at that it fails so, and without any one of its faults doesn't;
+spelled otherwise, hits in a row told as `2*a`. Between rounds it is looked at what is known. Of what a failure is reduced to it is looked at that it fails so, and without any one of its faults doesn't;
 how many tests that took isn't. Some components hide the hits of their unresolved runs: nothing grows from these, and the report counts them. Then one answer is changed so that the component isn't one, or one is added that contradicts a plan's: the lines that are told are worked out too. Prints each
 difference, and at last how many campaigns there were, with how many plans. Fails where something differs.
 """
@@ -250,7 +250,7 @@ class Campaign:
             if not new or self.differs:
                 break
             if rounds:
-                self.look_at_parts(new, {**known, **unasked}, "".join(lines))
+                self.look_at_known({**known, **unasked}, "".join(lines))
             part = self.draw.sample(new, self.draw.randint(1, len(new))) if rounds and len(known) < 200 else new
             known.update((scenario, self.answer(scenario)) for scenario in part)
             lines += [self.spelled(known[scenario]) for scenario in part]
@@ -268,13 +268,8 @@ class Campaign:
             self.contradict_one(expected, {**known, **unasked})
         return len(expected.plans)
 
-    def look_at_parts(self, asked, known, given):
-        """The lines of one shard of however many, how many are left, and what is known so far."""
-        machines = self.draw.randint(1, 64)
-        machine = self.draw.randint(1, machines)
-        shard = "".join(line + "\n" for line in asked[machine - 1::machines])
-        self.expect("a shard", (0, shard, ""), paklour(["asks", "--shard", f"{machine}/{machines}", self.settings], given))
-        self.expect("left", (0, f"left {len(asked)}\n", ""), paklour(["asks", "--left", self.settings], given))
+    def look_at_known(self, known, given):
+        """What is known so far."""
         if self.component.listed:  # what of these is known already is another question
             return
         expected = Expected(self.component, known)

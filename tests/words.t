@@ -236,30 +236,16 @@ A plan has one of 65536 numbers, and a scenario is given in one way.
   error: unexpected argument '--plan' found
   $ refused try --version
   error: unexpected argument '--version' found
-  $ refused asks --shard 0/3 f
-  error: invalid value '0/3' for '--shard <K/N>': not K/N with K from 1 to N, and N up to 65535
-  $ refused asks --shard 4/3 f
-  error: invalid value '4/3' for '--shard <K/N>': not K/N with K from 1 to N, and N up to 65535
-  $ refused asks --shard 1/65536 f
-  error: invalid value '1/65536' for '--shard <K/N>': not K/N with K from 1 to N, and N up to 65535
-  $ refused asks --shard 1 f
-  error: invalid value '1' for '--shard <K/N>': not K/N with K from 1 to N, and N up to 65535
-  $ refused asks --shard '' f
-  error: invalid value '' for '--shard <K/N>': not K/N with K from 1 to N, and N up to 65535
-  $ refused asks --left --shard 1/2 f
-  error: the argument '--left' cannot be used with '--shard <K/N>'
-  $ refused asks --follow --left f
-  error: the argument '--follow' cannot be used with '--left'
-  $ refused asks --shard 1/2 --follow f
-  error: the argument '--follow' cannot be used with '--shard <K/N>'
+  $ refused asks --shard 1/3 f
+  error: unexpected argument '--shard' found
+  $ refused asks --left f
+  error: unexpected argument '--left' found
   $ refused report --follow f
   error: unexpected argument '--follow' found
   $ refused asks --brief f
   error: unexpected argument '--brief' found
   $ refused report --partial --brief f
   error: the argument '--brief' cannot be used with '--partial'
-  $ refused report --left f
-  error: unexpected argument '--left' found
   $ refused report --brief --explain a=off f
   error: the argument '--explain <TEXT>' cannot be used with '--brief'
   $ refused report --explain a=off --partial f

@@ -19,7 +19,6 @@ pub mod Within
 pub mod KnownLists
 pub mod ReadHits
 pub mod SomeComponent
-pub mod AskedLemmas
 pub mod GrownLemmas
 mod CertainAnswers
 mod LinePlays

@@ -23,7 +23,7 @@ mod tree;
 mod unseen;
 mod verdicts;
 
-pub use asked::{AskedLines, AskedPart, a_shard_keeps_the_order, shards_are_disjoint_and_whole};
+pub use asked::AskedLines;
 pub use broken::{BrokenRun, Conflict, broken_run};
 pub use contradictions::contradiction;
 pub use grown::{Causes, asks, census, further_behind, further_plans, known_causes, reached};

@@ -16,11 +16,12 @@ use Rattle.command_words.specs.declared.words.Question.{Question}
 use Rattle.outside_campaign.specs.declared.refusal.OutsideFault.TheVariants as outside
 use Rattle.outside_campaign.specs.declared.with_depth.fault.QuestionFault.{QuestionFault}
 use Rattle.outside_campaign.specs.declared.with_depth.fault.QuestionFault.TheVariants as fault
+use Rattle.command_words.specs.declared.words.Question.TheVariants.{Asks}
 use Rattle.campaign_main.specs.declared.exit.Exit.{Exit}
 use Rattle.campaign_main.specs.declared.exit.Exit.TheVariants as exit
 use Rattle.campaign_main.specs.Commands.{Refusal}
 use Rattle.campaign_main.specs.Ends.{IsNoted, TellsOf}
-use Rattle.campaign_main.specs.Following.{AreLooks, EndsFollowed, GrewTo, IsLookedAt, IsNotFollowed, IsOfLines, Look, TellsSome, asks_all, lines_in, lines_with, told_by, told_text}
+use Rattle.campaign_main.specs.Following.{AreLooks, EndsFollowed, GrewTo, IsLookedAt, IsNotFollowed, IsOfLines, Look, TellsSome, lines_in, lines_with, told_by, told_text}
 use Rattle.campaign_main.specs.Questions.{EndsAnswered, IsAnswer, IsEndOfQuestion, IsNotAnswered, IsUnanswered, Subject, TellsOfQuestion, TellsWhy, subject_of}
 use Rattle.campaign_main.specs.declared.following.FollowFault.{FollowFault}
 use Rattle.campaign_main.specs.declared.following.FollowFault.TheVariants as follow
@@ -90,11 +91,11 @@ part-written start old new front whole n grew first part less =
 -- ---- one look
 
 -- The text of a look has no verdict in it.
-pub without-found : (s : Subject) (answers text : List ℕ) (found : Bool) → IsAnswer asks_all s answers text found → IsAnswer asks_all s answers text false
+pub without-found : (s : Subject) (answers text : List ℕ) (found : Bool) → IsAnswer Asks s answers text found → IsAnswer Asks s answers text false
 without-found s answers text found h = (h.0, refl)
 
 module _ (s : Subject) (answers : List ℕ) (lines : List (List ℕ)) (w : Change) where
-  pub ask-fails : IsUntouched w → ((n : ℕ) → IsUnanswered asks_all s answers (fault.Outside (outside.Campaign (campaign.Write n))) → ⊥) → (f : QuestionFault) → IsUnanswered asks_all s answers f → LookFails s answers lines w f
+  pub ask-fails : IsUntouched w → ((n : ℕ) → IsUnanswered Asks s answers (fault.Outside (outside.Campaign (campaign.Write n))) → ⊥) → (f : QuestionFault) → IsUnanswered Asks s answers f → LookFails s answers lines w f
   ask-fails untouched never (fault.Outside (outside.Answers f)) h = (untouched, h)
   ask-fails untouched never (fault.Outside (outside.Census line)) h = (untouched, h)
   ask-fails untouched never (fault.Outside (outside.NotAnswered t)) h = (untouched, h)
@@ -105,7 +106,7 @@ module _ (s : Subject) (answers : List ℕ) (lines : List (List ℕ)) (w : Chang
   ask-fails untouched never (fault.Scenario f) h = (untouched, h)
   ask-fails untouched never (fault.Unseen line) h = (untouched, h)
 
-  pub tell-fails : (text : List ℕ) → IsAnswer asks_all s answers text false → IsUnanswered asks_all s answers (fault.Outside (outside.Campaign campaign.Memory))
+  pub tell-fails : (text : List ℕ) → IsAnswer Asks s answers text false → IsUnanswered Asks s answers (fault.Outside (outside.Campaign campaign.Memory))
       → (f : QuestionFault) → TellFails lines text w f → LookFails s answers lines w f
   tell-fails text answer memory (fault.Outside (outside.Answers f)) h = let e = h.1 in absurd cc
   tell-fails text answer memory (fault.Outside (outside.Census line)) h = let e = h.1 in absurd cc
@@ -126,7 +127,7 @@ passed-up (Err x) f is P h = subst P (sym is) h
 
 -- a look that told its lines
 module _ (s : Subject) (start : Option (List ℕ)) (known : List ℕ) (looks : List Look) (are : AreLooks s looks known) (keys : List (List ℕ)) (are_told : keys ≡ told_by looks) where
-  pub look-told : (t : List ℕ) (more : List (List ℕ)) (text : List ℕ) (new : Option (List ℕ)) (failed : Bool) → IsAnswer asks_all s known t false → more ≡ lines_with keys t
+  pub look-told : (t : List ℕ) (more : List (List ℕ)) (text : List ℕ) (new : Option (List ℕ)) (failed : Bool) → IsAnswer Asks s known t false → more ≡ lines_with keys t
       → text ≡ concat more → Appends start new text → failed ≡ false
       → HaveTold s known (record { answers = known; text = t } ∷ looks) (record { old = start; new = new; failed = failed })
   look-told t more text new failed answer adds is written sound =
@@ -223,7 +224,7 @@ module _ (s : Subject) (old rest : Option (List ℕ)) (read : List ℕ) (gone : 
 
   -- a look that failed
   module _ (v : Change) where
-    not-cut : (bytes : List ℕ) (end : Exit) → TellsOf ⊥ (TellsWhy asks_all (Ok s) read v) end v → EndsAnswered asks_all s read end nowhere → TellsSome s bytes w → EndsFollowed s bytes end w
+    not-cut : (bytes : List ℕ) (end : Exit) → TellsOf ⊥ (TellsWhy Asks (Ok s) read v) end v → EndsAnswered Asks s read end nowhere → TellsSome s bytes w → EndsFollowed s bytes end w
     not-cut bytes exit.Kept told ends some = absurd told
     not-cut bytes exit.Found told ends some = absurd told
     not-cut bytes exit.Doubted told ends some = absurd told
@@ -242,7 +243,7 @@ module _ (s : Subject) (old rest : Option (List ℕ)) (read : List ℕ) (gone : 
 
     -- by a fault that isn't one of the output, and by one that is
     apart : (P : QuestionFault → Type 0)
-        → ((f : QuestionFault) → ((looks : List Look) × HaveTold s read looks w) → IsUnanswered asks_all s read f → IsOfLines read ⊎ IsAtEnd rest → P f)
+        → ((f : QuestionFault) → ((looks : List Look) × HaveTold s read looks w) → IsUnanswered Asks s read f → IsOfLines read ⊎ IsAtEnd rest → P f)
         → ((n : ℕ) → ((looks : List Look) × AreLooks s looks read × WritesPart (told_text looks) n w) → P (fault.Outside (outside.Campaign (campaign.Write n))))
         → (f : QuestionFault) → FailsAt s read rest w f → P f
     apart P other cut (fault.Outside (outside.Answers f)) h = other _ h.0 h.1 h.2
@@ -258,7 +259,7 @@ module _ (s : Subject) (old rest : Option (List ℕ)) (read : List ℕ) (gone : 
     pub failed-ends : (f : QuestionFault) → FailsAt s read rest w f → Ends f
     failed-ends = apart Ends
         (λ f told why ends end is. by-bytes old rest read (λ bytes. EndsFollowed s bytes end w) gone
-        (λ bytes left there has. not-cut bytes end (fault-tells asks_all s read v ⊥ f end why is) (fault-ends asks_all s read v nowhere (refl, refl) f end why is)
+        (λ bytes left there has. not-cut bytes end (fault-tells Asks s read v ⊥ f end why is) (fault-ends Asks s read v nowhere (refl, refl) f end why is)
         (some-told bytes left has told.0 told.1)))
         (λ n cut end is. by-bytes old rest read (λ bytes. EndsFollowed s bytes end w) gone
         (λ bytes left there has. subst (λ (e : Exit). EndsFollowed s bytes e w) (sym is.0) (cut.0, (read, (left, has), cut.1), cut.2)))
@@ -268,12 +269,12 @@ module _ (s : Subject) (old rest : Option (List ℕ)) (read : List ℕ) (gone : 
         (λ f told why ends end is refused. by-bytes old rest read (λ bytes. IsNotFollowed (Ok s) bytes v) gone
         (λ bytes left there has.
         let at : IsOfLines read ⊎ (read ≡ bytes) = elim ends [ inl lines ↦ inl lines | inr over ↦ inr (over-all rest left read bytes there has over) ] in
-        (read, ((left, has), at), inl (refused-why ⊥ (TellsWhy asks_all (Ok s) read v) end v refused (fault-tells asks_all s read v ⊥ f end why is)))))
+        (read, ((left, has), at), inl (refused-why ⊥ (TellsWhy Asks (Ok s) read v) end v refused (fault-tells Asks s read v ⊥ f end why is)))))
         (λ n cut end is refused. write-apart end n is.0 refused)
 
     pub failed-tells : (f : QuestionFault) → FailsAt s read rest w f → Tells f
     failed-tells = apart Tells
-        (λ f told why ends end is. some-why asks_all (Ok s) read [] end v (fault-tells asks_all s read v (IsNoted [] v) f end why is))
+        (λ f told why ends end is. some-why Asks (Ok s) read [] end v (fault-tells Asks s read v (IsNoted [] v) f end why is))
         (λ n cut end is. subst (λ (e : Exit). TellsOfQuestion e v) (sym is.0) is.1)
 
 -- ---- by what the settings come to
@@ -282,11 +283,11 @@ whole-look : (bytes : List ℕ) → IsLookedAt bytes bytes
 whole-look bytes = (grew-whole bytes, inr refl)
 
 -- a refusal at all bytes
-pub not-followed : (known : Option (List ℕ)) (read : Result Subject Refusal) (v : Change) → IfSome known (λ bytes. IsNotAnswered asks_all read bytes v) → IfSome known (λ bytes. IsNotFollowed read bytes v)
+pub not-followed : (known : Option (List ℕ)) (read : Result Subject Refusal) (v : Change) → IfSome known (λ bytes. IsNotAnswered Asks read bytes v) → IfSome known (λ bytes. IsNotFollowed read bytes v)
 not-followed None read v h = tt
 not-followed (Some bytes) read v h = (bytes, whole-look bytes, h)
 
-pub none-followed : (given known : Option (List ℕ)) (v : Change) → IfSome given (λ g. IfSome known (λ bytes. IsNotAnswered asks_all (subject_of g) bytes v))
+pub none-followed : (given known : Option (List ℕ)) (v : Change) → IfSome given (λ g. IfSome known (λ bytes. IsNotAnswered Asks (subject_of g) bytes v))
     → IfSome given (λ g. IfSome known (λ bytes. IsNotFollowed (subject_of g) bytes v))
 none-followed None known v h = tt
 none-followed (Some g) known v h = not-followed known (subject_of g) v h

@@ -17,7 +17,7 @@ use Rattle.campaign_main.proofs.QuestionLemmas.{yet-shown}
 -- what refuses a text that waits for nothing refuses each of them
 pub yet-unanswered : (depth : Option ℕ) (question : OnPlans) (s : Subject) (answers : List ℕ) (why : QuestionFault) → RefusesYet depth s.1 s.0 answers why
     → IsUnansweredTo depth (question_on question) s answers why
-yet-unanswered depth (plans.Asks part) s answers why h = h
+yet-unanswered depth plans.Asks s answers why h = h
 yet-unanswered depth (plans.Report shown strict) s answers why h = yet-shown depth (report_form shown) s answers why h
 
 -- what answers by the value that was read is an answer to the question

@@ -19,7 +19,6 @@ use Rattle.campaign_settings.specs.declared.choice.Choice.TheVariants as choice
 use Rattle.campaign_settings.specs.declared.settings.Settings.{Settings}
 use Rattle.campaign_core.specs.Writes.{Change, IsUntouched, WritesWhole}
 use Rattle.campaign_core.specs.declared.ending.CampaignFault.TheVariants as campaign
-use Rattle.command_words.specs.declared.words.AskedPart.{AskedPart}
 use Rattle.command_words.specs.declared.words.Question.{Question}
 use Rattle.command_words.specs.declared.words.Question.TheVariants.{Asks, Report, Explain}
 use Rattle.answer_text.specs.Runs.{pieces_from, reading_of}
@@ -102,7 +101,7 @@ module _ (s : Subject) (answers : List ℕ) where
   never-shown (Some form) n h = never-at-all s.0.depth n h
 
   pub never-cut : {A : Type 0} (question : Question) (n : ℕ) → IsUnanswered question s answers (fault.Outside (outside.Campaign (campaign.Write n))) → A
-  never-cut (Asks part) n h = never-yet s.0.depth n h
+  never-cut Asks n h = never-yet s.0.depth n h
   never-cut (Report what strict) n h = never-shown (report_form what) n h
   never-cut (Explain text) n h = absurd h
 
@@ -111,8 +110,8 @@ asks-memory : (depth : Option ℕ) (s : Subject) (answers : List ℕ) → Refuse
 asks-memory None s answers = tt
 asks-memory (Some depth) s answers = tt
 
-pub may-lack-memory : (part : AskedPart) (s : Subject) (answers : List ℕ) → IsUnanswered (Asks part) s answers (fault.Outside (outside.Campaign campaign.Memory))
-may-lack-memory part s answers = asks-memory s.0.depth s answers
+pub may-lack-memory : (s : Subject) (answers : List ℕ) → IsUnanswered Asks s answers (fault.Outside (outside.Campaign campaign.Memory))
+may-lack-memory s answers = asks-memory s.0.depth s answers
 
 module _ (question : Question) (s : Subject) (answers : List ℕ) (v : Change) where
   module _ (w : Change) (untouched : IsUntouched w) where
@@ -221,7 +220,7 @@ shown-long None s text many = refuses-long s.0.depth s text many
 shown-long (Some form) s text many = refuses-long s.0.depth s text many
 
 too-long : (question : Question) (s : Subject) (text : List ℕ) → most_bytes < length text → IsUnanswered question s text (fault.Outside (outside.Answers answers.TooLong))
-too-long (Asks part) s text many = refuses-long s.0.depth s text many
+too-long Asks s text many = refuses-long s.0.depth s text many
 too-long (Report what strict) s text many = shown-long (report_form what) s text many
 too-long (Explain words) s text many = long-reading (is_some s.0.depth) s.1.codes s.1.points text many
 

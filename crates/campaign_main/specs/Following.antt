@@ -6,8 +6,6 @@ use Rattle.std.specs.Io.BufRead.{ends_with_byte}
 use Rattle.std.specs.Str.{bytes_eq}
 use Rattle.indexmap.specs.IndexSet.{insert_key}
 use Rattle.campaign_core.specs.Writes.{Change, WritesPart, WritesWhole}
-use Rattle.command_words.specs.declared.words.AskedPart.TheVariants as part
-use Rattle.command_words.specs.declared.words.Question.{Question}
 use Rattle.command_words.specs.declared.words.Question.TheVariants.{Asks}
 use Rattle.campaign_main.specs.declared.exit.Exit.{Exit}
 use Rattle.campaign_main.specs.declared.exit.Exit.TheVariants.{Kept, Found, Refused, Memory, Write, Doubted}
@@ -38,10 +36,6 @@ IsOfLines text = (text ≡ []) ⊎ (ends_with_byte 10 text ≡ true)
 
 -- ---- looks
 
--- The question of each look.
-abbrev pub asks_all : Question
-asks_all = Asks part.All
-
 -- A look: the answers that came so far, and the text that asks for what they leave to be tried.
 pub record Look : Type 0 where
   pub answers : List ℕ
@@ -54,7 +48,7 @@ GrewTo before now = (more : List ℕ) × (now ≡ before ++ more)
 -- These are looks at answers that grew to this text, the last look first. The first of them was at no answers at all.
 abbrev pub AreLooks : Subject → List Look → List ℕ → Type 0
 AreLooks s [] now = now ≡ []
-AreLooks s (look ∷ earlier) now = GrewTo look.answers now × IsAnswer asks_all s look.answers look.text false × AreLooks s earlier look.answers
+AreLooks s (look ∷ earlier) now = GrewTo look.answers now × IsAnswer Asks s look.answers look.text false × AreLooks s earlier look.answers
 
 -- The lines that the looks asked for, each once: a look adds those that none before it asked for.
 abbrev pub told_by : List Look → List (List ℕ)
@@ -96,11 +90,11 @@ EndsFollow (Err refusal) bytes end w = EndsUnanswered end w
 
 -- The last look was at this part of the bytes: at all of them, unless nothing was left to be tried.
 abbrev pub IsLastLook : Subject → List ℕ → List ℕ → Type 0
-IsLastLook s bytes answers = GrewTo answers bytes × ((answers ≡ bytes) ⊎ IsAnswer asks_all s answers [] false)
+IsLastLook s bytes answers = GrewTo answers bytes × ((answers ≡ bytes) ⊎ IsAnswer Asks s answers [] false)
 
 -- The notes on the last look were written. If the settings are refused, there was none.
 abbrev pub NotesFollow : Result Subject Refusal → List ℕ → Change → Type 0
-NotesFollow (Ok s) bytes w = (answers : List ℕ) × IsLastLook s bytes answers × IsNoted (question_notes asks_all s.0 s.1 answers) w
+NotesFollow (Ok s) bytes w = (answers : List ℕ) × IsLastLook s bytes answers × IsNoted (question_notes Asks s.0 s.1 answers) w
 NotesFollow (Err refusal) bytes w = ⊥
 
 -- A look may be at this part of the bytes: at whole lines, or at all of them.
@@ -109,7 +103,7 @@ IsLookedAt bytes answers = GrewTo answers bytes × (IsOfLines answers ⊎ (answe
 
 -- The line was written which says why a look had no answer, or one which says that the settings or the answers couldn't be read.
 abbrev pub IsNotFollowed : Result Subject Refusal → List ℕ → Change → Type 0
-IsNotFollowed read bytes w = (answers : List ℕ) × IsLookedAt bytes answers × IsNotAnswered asks_all read answers w
+IsNotFollowed read bytes w = (answers : List ℕ) × IsLookedAt bytes answers × IsNotAnswered Asks read answers w
 
 -- What an end says of the output, whatever was read: it has failed at Write and only there.
 abbrev pub LeavesFollow : Exit → Change → Type 0

@@ -147,7 +147,7 @@ strict_doubts (Some depth) given outside answers =
 
 -- What a report that is to be strict doesn't show; nothing of another question.
 abbrev pub question_doubts : Option ℕ → Question → Given → Description → List ℕ → List ℕ
-question_doubts depth (Asks part) given outside answers = []
+question_doubts depth Asks given outside answers = []
 question_doubts depth (Report what strict) given outside answers = if strict then strict_doubts depth given outside answers else []
 question_doubts depth (Explain text) given outside answers = []
 
@@ -160,6 +160,6 @@ question_notes question given outside answers = notes_to given.depth question gi
 
 -- Whether there are notes that count, as the report is strict.
 abbrev pub is_question_doubted : Question → List ℕ → Bool
-is_question_doubted (Asks part) notes = false
+is_question_doubted Asks notes = false
 is_question_doubted (Report what strict) notes = is_doubted strict notes
 is_question_doubted (Explain text) notes = false

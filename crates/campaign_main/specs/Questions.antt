@@ -1,10 +1,6 @@
 -- The answer to a question on a component that somebody else runs, by the bytes of the settings and of the answers; and how the command ends.
 use Rattle.std.specs.Prelude.{◌≡◌, ◌⊎◌, ℕ, Bool, false, List, codes, string_bytes, Option, None, Some, is_some, Result, Ok, Err}
 use Rattle.scenario_grammar.specs.declared.fault.ScenarioFault.TheVariants as scenario
-use Rattle.answered_runs.specs.declared.asked.parts.AskedPart.{AskedPart}
-use Rattle.answered_runs.specs.declared.asked.parts.AskedPart.TheVariants as part
-use Rattle.command_words.specs.declared.words.AskedPart.{AskedPart as Part}
-use Rattle.command_words.specs.declared.words.AskedPart.TheVariants as words
 use Rattle.command_words.specs.declared.words.Form.TheVariants as form
 use Rattle.command_words.specs.declared.words.Shown.{Shown}
 use Rattle.command_words.specs.declared.words.Shown.TheVariants as shown
@@ -75,12 +71,6 @@ report_form (shown.Report form.Junit) = Some forms.Junit
 report_form (shown.Report form.Page) = Some (forms.Page (notes_with (codes "answers") (codes "paklour report --page FILE < ANSWERS")))
 report_form shown.Partial = None
 
--- What is written of the lines that ask for scenarios: all of them, a shard, or how many are left.
-abbrev pub asked_part : Part → AskedPart
-asked_part words.All = part.All
-asked_part (words.Shard number of) = part.Shard number of
-asked_part words.Left = part.Left
-
 -- ---- answers
 
 -- A text is the report by the answers in this form, and `found` says whether a plan fails. Without a form the text is the interim report, and `found`
@@ -91,7 +81,7 @@ IsShown depth None s answers text found = IsKnownTo depth s.1 s.0 answers text f
 
 -- A text answers a question, and `found` says whether a verdict in it is fail.
 abbrev pub IsAnswerTo : Option ℕ → Question → Subject → List ℕ → List ℕ → Bool → Type 0
-IsAnswerTo depth (Asks part) s answers text found = IsAskedTo depth (asked_part part) s.1 s.0 answers text × (found ≡ false)
+IsAnswerTo depth Asks s answers text found = IsAskedTo depth s.1 s.0 answers text × (found ≡ false)
 IsAnswerTo depth (Report what strict) s answers text found = IsShown depth (report_form what) s answers text found
 IsAnswerTo depth (Explain words) s answers text found = IsExplainedText (string_bytes words) s.1 s.0 answers text found
 
@@ -105,7 +95,7 @@ RefusesShown depth None s answers why = RefusesYet depth s.1 s.0 answers why
 
 -- Why a question has no answer.
 abbrev pub IsUnansweredTo : Option ℕ → Question → Subject → List ℕ → QuestionFault → Type 0
-IsUnansweredTo depth (Asks part) s answers why = RefusesYet depth s.1 s.0 answers why
+IsUnansweredTo depth Asks s answers why = RefusesYet depth s.1 s.0 answers why
 IsUnansweredTo depth (Report what strict) s answers why = RefusesShown depth (report_form what) s answers why
 IsUnansweredTo depth (Explain text) s answers why = RefusesText (string_bytes text) s.1 s.0 answers why
 

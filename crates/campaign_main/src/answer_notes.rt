@@ -179,7 +179,7 @@ pub fn is_question_doubted(question: &Question, notes: &str) -> bool
     ensures { result ≡ is_question_doubted question.now notes.now }
 {
     match question {
-        Question::Asks(_) | Question::Explain(_) => false,
+        Question::Asks | Question::Explain(_) => false,
         Question::Report { strict, .. } => is_doubted(*strict, notes),
     }
 }

@@ -5,15 +5,15 @@ ghost use Rattle.outside_campaign.specs.Recorded.{Records, depth_of};
 ghost use Rattle.outside_campaign.specs.declared.recorded.Recorded.TheVariants.{ByCensus, ByRuns};
 ghost use Rattle.outside_campaign.specs.with_depth.Explained.{IsExplainedText, RefusesText};
 ghost use Rattle.campaign_main.specs.QuestionNotes.{name_notes, notes_to, question_doubts, question_notes, strict_doubts};
-ghost use Rattle.campaign_main.specs.Questions.{IsAnswer, IsAnswerTo, IsShown, IsUnanswered, IsUnansweredTo, RefusesShown, asked_part, report_form, subject_in};
+ghost use Rattle.campaign_main.specs.Questions.{IsAnswer, IsAnswerTo, IsShown, IsUnanswered, IsUnansweredTo, RefusesShown, report_form, subject_in};
 ghost use Rattle.campaign_main.specs.inside.OnPlans.{IsTooLong, question_on};
 
 use crate::answer_notes::{all_notes, census_doubts};
 use crate::command::notes_with;
 use crate::run_notes::run_doubts;
 use answer_text::Runs;
-use answered_runs::{AskedPart, KnownPlans};
-use command_words::{AskedPart as Part, Form as ReportForm, Question, Shown};
+use answered_runs::KnownPlans;
+use command_words::{Form as ReportForm, Question, Shown};
 use grown_plans::CampaignPlans;
 use outside_campaign::{
     OutsideCampaign, QuestionFault, ReadRuns, Recorded, borrowed, explained_text, known_plans,
@@ -38,23 +38,9 @@ pub struct Answer {
 #[derive(Clone, Copy, Debug)]
 enum OnPlans {
     /// Which scenarios are still to be tried.
-    Asks(Part),
+    Asks,
     /// The report, or the interim report, and whether it is to be strict.
     Report(Shown, bool),
-}
-
-/// The part of the lines that the words ask for.
-fn asked_part(part: Part) -> AskedPart
-    ensures { result ≡ asked_part part }
-{
-    match part {
-        Part::All => AskedPart::All,
-        Part::Shard { number, of } => AskedPart::Shard {
-            number: u32::from(number),
-            of: u32::from(of),
-        },
-        Part::Left => AskedPart::Left,
-    }
 }
 
 /// The form of a report by answers; `None` for the interim report, which has no other form.
@@ -116,8 +102,8 @@ fn text_on<'p>(
         → IsUnansweredTo (depth_of recorded.entry) (question_on question) (subject_in campaign.now) answers why) }
 {
     match question {
-        OnPlans::Asks(part) => {
-            let text = recorded.asks_text(alloc, campaign, asked_part(part))?;
+        OnPlans::Asks => {
+            let text = recorded.asks_text(alloc, campaign)?;
             Ok((text.into_bytes(), false))
         }
         OnPlans::Report(shown, _) => shown_text(alloc, campaign, recorded, shown),
@@ -155,7 +141,7 @@ fn doubts_on(
 {
     match question {
         OnPlans::Report(_, true) => strict_doubts(alloc, campaign, recorded),
-        OnPlans::Report(_, false) | OnPlans::Asks(_) => Ok(String::new(alloc)),
+        OnPlans::Report(_, false) | OnPlans::Asks => Ok(String::new(alloc)),
     }
 }
 
@@ -275,8 +261,8 @@ fn explained(
     })
 }
 
-/// The answer to a question on a component that somebody else runs, by the settings and a text of answers: which scenarios are still to be tried, how
-/// many, the report, the interim report, or the recorded run of a scenario. It is made whole, with the notes on it, or there is a fault.
+/// The answer to a question on a component that somebody else runs, by the settings and a text of answers: which scenarios are still to be tried, the
+/// report, the interim report, or the recorded run of a scenario. It is made whole, with the notes on it, or there is a fault.
 ///
 /// The report is that of every component that agrees with the answers. Such a component is a function from tidied scenarios to verdicts or, with a
 /// depth, one whose next hit is a function of the answers to its earlier hits.
@@ -304,7 +290,7 @@ pub fn answer_question(
     ensures fault { IfErr result (IsUnanswered question.now (subject_in campaign.now) answers.now) }
 {
     match question {
-        Question::Asks(part) => on_plans(alloc, campaign, OnPlans::Asks(*part), answers),
+        Question::Asks => on_plans(alloc, campaign, OnPlans::Asks, answers),
         Question::Report { shown, strict } => {
             on_plans(alloc, campaign, OnPlans::Report(*shown, *strict), answers)
         }

@@ -2,9 +2,10 @@
 ghost use Rattle.std.specs.Prelude.{◌≡◌, ◌<◌, ℕ, List, Option, Ok, false, length, string_bytes, IfErr, IfOk, IfSome, IsErrOf, OnOk};
 ghost use Rattle.std.specs.Io.KnownBytes.{Appends, Consumes};
 ghost use Rattle.campaign_core.specs.Writes.{change};
+ghost use Rattle.command_words.specs.declared.words.Question.TheVariants.{Asks};
 ghost use Rattle.campaign_main.specs.declared.following.FollowFault.TheVariants.{Question as Asked, Unread};
 ghost use Rattle.campaign_main.specs.Ends.{OnWhole};
-ghost use Rattle.campaign_main.specs.Following.{EndsFollow, EndsFollowed, IsNotFollowed, LeavesFollow, NotesFollow, asks_all, lines_with};
+ghost use Rattle.campaign_main.specs.Following.{EndsFollow, EndsFollowed, IsNotFollowed, LeavesFollow, NotesFollow, lines_with};
 ghost use Rattle.campaign_main.specs.QuestionNotes.{question_notes};
 ghost use Rattle.campaign_main.specs.Questions.{IsAnswer, TellsOfQuestion, subject_in, subject_of};
 ghost use Rattle.campaign_main.specs.inside.Looks.{ComesToFollow, IsOfItsLines, LookFails, TellFails};
@@ -16,7 +17,7 @@ use crate::lines::{end_question, end_unreadable_answers, note};
 use crate::subject::read_outside;
 use crate::told::Told;
 use answer_text::LIMIT;
-use command_words::{AskedPart, Question};
+use command_words::Question;
 use outside_campaign::{OutsideCampaign, QuestionFault};
 use report::{WriteFault, write_report};
 use std::alloc::Global;
@@ -85,9 +86,9 @@ fn look<W: Sink>(
 ) -> Result<Answer, QuestionFault>
     requires output { W.has_failed output.old ≡ false }
     requires told { IsOfItsLines told.old }
-    ensures answer { IfOk result (λ a. IsAnswer asks_all (subject_in campaign.now) answers.now a.text.items false) }
+    ensures answer { IfOk result (λ a. IsAnswer Asks (subject_in campaign.now) answers.now a.text.items false) }
     ensures notes { IfOk result (λ a. string_bytes a.notes
-        ≡ question_notes asks_all campaign.now.settings.now campaign.now.outside.now answers.now) }
+        ≡ question_notes Asks campaign.now.settings.now campaign.now.outside.now answers.now) }
     ensures lines { IfOk result (λ a. told.new.lines.keys ≡ lines_with told.old.lines.keys a.text.items) }
     ensures text { OnOk result (IsOfItsLines told.new) }
     ensures written { (start : Option (List ℕ)) → Appends start (W.told output.old) told.old.text.items
@@ -95,7 +96,7 @@ fn look<W: Sink>(
     ensures sound { OnOk result (W.has_failed output.new ≡ false) }
     ensures fault { IfErr result (LookFails (subject_in campaign.now) answers.now told.old.lines.keys (change W.Sink output.old output.new)) }
 {
-    let question = Question::Asks(AskedPart::All);
+    let question = Question::Asks;
     let answer = answer_question(alloc, &question, campaign, answers)?;
     tell(alloc, told, answer.text.as_slice(), output)?;
     Ok(answer)

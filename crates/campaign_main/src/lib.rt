@@ -36,8 +36,7 @@ pub use campaign_settings::{
     TargetName,
 };
 pub use command_words::{
-    AskedPart, Form, Line, Order, ProgressForm, Question, Shown, VERSION, Which, WordsFault,
-    read_words,
+    Form, Line, Order, ProgressForm, Question, Shown, VERSION, Which, WordsFault, read_words,
 };
 pub use commit_target::{Transactions, Variant as CommitVariant, Vote, Votes};
 pub use exit::{Exit, status};

@@ -2,7 +2,7 @@
 
 use crate::plain::{number_of, plain_report, tidied_text, verdict_of};
 use campaign_main::{
-    AskedPart, Form, OutsideCampaign, OutsideFault, Question, QuestionFault, Shown, answer_question,
+    Form, OutsideCampaign, OutsideFault, Question, QuestionFault, Shown, answer_question,
 };
 use campaign_settings::{Choice, Settings};
 use outside_campaign::list_plans;
@@ -34,7 +34,7 @@ fn plans(alloc: Global, campaign: &OutsideCampaign<'_>) -> Result<String, Fail> 
 }
 
 fn asks(alloc: Global, campaign: &OutsideCampaign<'_>, answers: &str) -> Result<String, Fail> {
-    let question = Question::Asks(AskedPart::All);
+    let question = Question::Asks;
     let answer = answer_question(alloc, &question, campaign, answers.as_bytes())?;
     text_of(answer.text)
 }
@@ -181,7 +181,7 @@ fn is_refused(rt: &impl Abort, alloc: Global, answers: &str, line: &str) -> Resu
         outside,
         settings: &settings.campaign,
     };
-    let question = Question::Asks(AskedPart::All);
+    let question = Question::Asks;
     match answer_question(alloc, &question, &campaign, answers.as_bytes()) {
         Err(QuestionFault::Outside(OutsideFault::Answers(fault))) => {
             assert_eq!(rt; format!(in alloc; "{fault}")?.as_str(), line);

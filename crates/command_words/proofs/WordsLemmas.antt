@@ -134,8 +134,6 @@ values-rows f =
       first_value-rows f (codes "page"),
       first_value-rows f (codes "partial"),
       first_value-rows f (codes "explain"),
-      first_value-rows f (codes "left"),
-      first_value-rows f (codes "shard"),
       first_value-rows f (codes "follow"),
       first_value-rows f (codes "strict"),
       first_value-rows f (codes "progress"),

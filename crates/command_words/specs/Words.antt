@@ -1,6 +1,5 @@
 -- The program's command line: the command that clap builds, and what its matches mean.
-use Rattle.std.specs.Prelude.{◌≡◌, ◌⊎◌, ◌||◌, ◌&&◌, ◌==◌, ◌<◌, ◌≤◌, ◌++◌, nat_lt, nat_le, ℕ, Bool, List, [], ◌∷◌, true, false, not, Option, Some, None, Result, Ok, Err, codes, if◌then◌else◌, is_some, option_map, String, string_bytes}
-use Rattle.std.specs.List.{after_first, before_first}
+use Rattle.std.specs.Prelude.{◌≡◌, ◌⊎◌, ◌||◌, ◌&&◌, ◌++◌, ℕ, Bool, List, [], ◌∷◌, true, false, not, Option, Some, None, Result, Ok, Err, codes, if◌then◌else◌, is_some, option_map, String, string_bytes}
 use Rattle.std.specs.Option.{option_map_or}
 use Rattle.std.specs.Str.{bytes_eq}
 use Rattle.std.specs.Str.Parse.{IsNumeral, digits_value, without_leading_plus}
@@ -12,10 +11,8 @@ use Rattle.clap.specs.declared.builder.action.ArgAction.TheVariants.{SetTrue}
 use Rattle.clap.specs.declared.builder.command.Command.{Command}
 use Rattle.clap.specs.declared.builder.value_parser.ValueParser.TheVariants.{Unsigned}
 use Rattle.clap.specs.declared.error.Error.{Error}
-use Rattle.clap.specs.declared.error.kind.ErrorKind.TheVariants.{ArgumentConflict, DisplayHelp, DisplayVersion, MissingRequiredArgument, OutOfMemory, ValueValidation}
+use Rattle.clap.specs.declared.error.kind.ErrorKind.TheVariants.{ArgumentConflict, DisplayHelp, DisplayVersion, MissingRequiredArgument, OutOfMemory}
 use Rattle.clap.specs.declared.parser.matches.Found.{Found}
-use Rattle.command_words.specs.declared.words.AskedPart.{AskedPart}
-use Rattle.command_words.specs.declared.words.AskedPart.TheVariants as part
 use Rattle.command_words.specs.declared.words.Form.{Form}
 use Rattle.command_words.specs.declared.words.Form.TheVariants.{Whole, Brief, Json, Junit, Page}
 use Rattle.command_words.specs.declared.words.Line.{Line}
@@ -87,14 +84,6 @@ explain_rule = value_rule (codes "explain")
 abbrev pub follow_rule : Rule
 follow_rule = flag_rule (codes "follow")
 
--- The flag --left.
-abbrev pub left_rule : Rule
-left_rule = flag_rule (codes "left")
-
--- The option --shard K/N.
-abbrev pub shard_rule : Rule
-shard_rule = value_rule (codes "shard")
-
 -- The flag --progress.
 abbrev pub progress_rule : Rule
 progress_rule = flag_rule (codes "progress")
@@ -129,10 +118,9 @@ scenario_app name = with_rule (with_rule (with_rule (new_app name) scenario_rule
 abbrev pub shown_app : App → App
 shown_app app = with_rule (with_rule app progress_rule) progress_plain_rule
 
--- A command that prints which scenarios are still to be tried: all, a part of them, how many, or all as soon as each is known. FILE is required, since
--- standard input has the answers.
+-- A command that prints which scenarios are still to be tried: all, or each as soon as it is known. FILE is required, since standard input has the answers.
 abbrev pub asks_app : Text → App
-asks_app name = with_rule (with_rule (with_rule (with_rule (new_app name) left_rule) shard_rule) follow_rule) needed_file_rule
+asks_app name = with_rule (with_rule (new_app name) follow_rule) needed_file_rule
 
 -- A command that prints a report by answers: in one of the forms, as a page, or what is known of it until now.
 abbrev pub told_app : App → App
@@ -181,7 +169,7 @@ spelled word = if bytes_eq word (codes "--progress=plain") then codes "--progres
 abbrev pub spelled_word : {A : Type 0} → String A → Text
 spelled_word word = spelled (string_bytes word)
 
--- The values that a command was given: TEXT, N, K/N and FILE, and `true` for each flag that was given.
+-- The values that a command was given: TEXT, N and FILE, and `true` for each flag that was given.
 pub record Values : Type 0 where
   pub scenario : Option Text
   pub plan : Option Text
@@ -191,8 +179,6 @@ pub record Values : Type 0 where
   pub page : Option Text
   pub partial : Option Text
   pub explain : Option Text
-  pub left : Option Text
-  pub shard : Option Text
   pub follow : Option Text
   pub strict : Option Text
   pub progress : Option Text
@@ -209,8 +195,6 @@ values_in rows = record {
   page = first_of (codes "page") rows;
   partial = first_of (codes "partial") rows;
   explain = first_of (codes "explain") rows;
-  left = first_of (codes "left") rows;
-  shard = first_of (codes "shard") rows;
   follow = first_of (codes "follow") rows;
   strict = first_of (codes "strict") rows;
   progress = first_of (codes "progress") rows;
@@ -229,8 +213,6 @@ values_of f = record {
   page = first_value f (codes "page");
   partial = first_value f (codes "partial");
   explain = first_value f (codes "explain");
-  left = first_value f (codes "left");
-  shard = first_value f (codes "shard");
   follow = first_value f (codes "follow");
   strict = first_value f (codes "strict");
   progress = first_value f (codes "progress");
@@ -293,39 +275,21 @@ IsOrder name v (order.Try which) = (name ≡ codes "try") × IsWhich v which
 IsOrder name v (order.Reduce which) = (name ≡ codes "reduce") × IsWhich v which
 IsOrder name v (order.Explain which) = (name ≡ codes "explain") × IsWhich v which
 
--- K and N stand before and after a `/`, and K is from 1 to N.
-abbrev pub is_slash : ℕ → Bool
-is_slash byte = byte == 47
-
-abbrev pub SpellsShard : Text → ℕ → ℕ → Type 0
-SpellsShard text number of = Spells (before_first is_slash text) number × Spells (after_first is_slash text) of × (0 < number) × (number ≤ of)
-
--- `asks` prints all lines, each N-th line from line K on, or how many lines there are.
-abbrev pub IsPart : Values → AskedPart → Type 0
-IsPart v part.All = (is_set v.left ≡ false) × (v.shard ≡ None)
-IsPart v (part.Shard number of) = (is_set v.left ≡ false) × ((text : Text) × (v.shard ≡ Some text) × SpellsShard text number of)
-IsPart v part.Left = (is_set v.left ≡ true) × (v.shard ≡ None)
-
 -- `report` shows a campaign, or explains the run of the scenario of TEXT.
 abbrev pub IsReportQuestion : Values → Question → Type 0
-IsReportQuestion v (Asks part) = ⊥
+IsReportQuestion v Asks = ⊥
 IsReportQuestion v (Report what strict) =
     (v.explain ≡ None) × (only (shown.Report Whole) (named_shown v) ≡ Some what) × (strict ≡ is_set v.strict)
 IsReportQuestion v (Explain text) = (v.explain ≡ Some (string_bytes text)) × (is_alone (named_shown v) (is_set v.strict) ≡ true)
 
 -- A command's name and its values give this question.
 abbrev pub IsQuestion : Text → Values → Question → Type 0
-IsQuestion name v (Asks part) = (name ≡ codes "asks") × IsPart v part
+IsQuestion name v Asks = name ≡ codes "asks"
 IsQuestion name v question = (name ≡ codes "report") × IsReportQuestion v question
 
 -- Whether the command is `asks --follow`.
 abbrev pub is_followed : Text → Values → Bool
 is_followed name v = bytes_eq name (codes "asks") && is_set v.follow
-
--- `asks --follow` follows the answers, and takes neither --left nor K/N.
-abbrev pub IsFollowLine : Values → Line → Type 0
-IsFollowLine v (Follow own) = (is_set v.left ≡ false) × (v.shard ≡ None) × (v.file ≡ Some (string_bytes own))
-IsFollowLine v _ = ⊥
 
 -- Without a command the program runs a campaign: with the whole report, not strict, with settings from standard input, and without progress.
 abbrev pub IsRun : Line → Type 0
@@ -336,7 +300,7 @@ IsRun _ = ⊥
 abbrev pub IsLineOf : Text → Values → Line → Type 0
 IsLineOf name v (Own order progress own) = IsOrder name v order × (progress ≡ progress_form_of v) × (option_map string_bytes own ≡ v.file)
 IsLineOf name v (Outside question own) = IsQuestion name v question × (is_followed name v ≡ false) × (v.file ≡ Some (string_bytes own))
-IsLineOf name v (Follow own) = (is_followed name v ≡ true) × IsFollowLine v (Follow own)
+IsLineOf name v (Follow own) = (is_followed name v ≡ true) × (v.file ≡ Some (string_bytes own))
 
 -- The matches give this line.
 abbrev pub IsLine : Option (Text × List Row) → Line → Type 0
@@ -398,40 +362,11 @@ shown_kinds named strict (Some text) = if is_alone named strict then [] else Arg
 abbrev pub report_kinds : Values → Kinds
 report_kinds v = shown_kinds (named_shown v) (is_set v.strict) v.explain
 
--- The kinds of error of --left and K/N: only one of the two may be given, K and N are from 0 to 65535, and K is from 1 to N.
-abbrev pub order_kinds : ℕ → ℕ → Kinds
-order_kinds number of = if nat_lt 0 number && nat_le number of then [] else ValueValidation ∷ []
-
-abbrev pub number_in : Text → ℕ
-number_in text = digits_value 10 (without_leading_plus text)
-
-abbrev pub parts_kinds : Text → Text → Kinds
-parts_kinds number of = or_else (number_kinds number) (or_else (number_kinds of) (order_kinds (number_in number) (number_in of)))
-
-abbrev pub shard_kinds : Text → Kinds
-shard_kinds text = parts_kinds (before_first is_slash text) (after_first is_slash text)
-
-abbrev pub part_kinds : Bool → Option Text → Kinds
-part_kinds left None = []
-part_kinds true (Some text) = ArgumentConflict ∷ []
-part_kinds false (Some text) = shard_kinds text
-
--- The kinds of error of --left and K/N beside --follow: neither may be given.
-abbrev pub follow_kinds : Bool → Option Text → Kinds
-follow_kinds false None = []
-follow_kinds true shard = ArgumentConflict ∷ []
-follow_kinds false (Some text) = ArgumentConflict ∷ []
-
--- The kinds of error of the values of `asks`.
-abbrev pub asks_kinds : Values → Kinds
-asks_kinds v = if is_set v.follow then follow_kinds (is_set v.left) v.shard else part_kinds (is_set v.left) v.shard
-
 -- The kinds of error of a command's name and its values.
 abbrev pub choice_kinds : Text → Values → Kinds
 choice_kinds name v =
     if takes_scenario name then which_kinds v.scenario v.plan
     else if bytes_eq name (codes "run") then only_kinds (form_of v)
-    else if bytes_eq name (codes "asks") then asks_kinds v
     else if bytes_eq name (codes "report") then report_kinds v
     else []
 

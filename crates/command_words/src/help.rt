@@ -69,11 +69,6 @@ pub const PARTIAL: &str = "Write what is known so far, while scenarios are still
 pub const EXPLAIN_ANSWER: &str =
     "Write instead the run that an answer tells of this scenario, hit by hit";
 
-pub const LEFT: &str = "Write only how many scenarios are left to be tried, as `left 12`";
-
-pub const SHARD: &str =
-    "Write each N-th line, from line K on: 1/3, 2/3 and 3/3 are all lines, each once";
-
 pub const FOLLOW: &str = "Go on while answers come, and write each scenario as soon as it is known";
 
 pub const STRICT: &str = "Warn on standard error about gaps in the report, and then end with 5";
@@ -135,7 +130,6 @@ Example:
   paklour report --page my.toml < answers > page.html
   paklour report --partial my.toml < answers      what is known so far
   paklour report --explain 'sys::fsync=1*return' my.toml < answers      one run, hit by hit
-  paklour asks --shard 1/3 my.toml < answers      what the first of three machines tries
   mkfifo new && paklour asks --follow my.toml < new | xargs -d '\\n' -n 1 ./try.sh |
       tee answers > new      each scenario as soon as it is known, with -P 4 four at a time
 with settings as

@@ -8,6 +8,5 @@ mod refusing;
 mod words;
 
 pub use words::{
-    AskedPart, Form, Line, Order, ProgressForm, Question, Shown, VERSION, Which, WordsFault,
-    read_words,
+    Form, Line, Order, ProgressForm, Question, Shown, VERSION, Which, WordsFault, read_words,
 };

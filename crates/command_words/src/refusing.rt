@@ -7,18 +7,6 @@ use clap::Command;
 use clap::error::ErrorKind;
 use std::alloc::Global;
 
-/// The refusal of a K/N that names no part.
-pub fn no_shard(alloc: Global, text: &str) -> WordsFault
-    ensures { IsRefusedFor (ErrorKind.ValueValidation ∷ []) result }
-{
-    let Ok(message) = format!(in alloc;
-        "invalid value '{text}' for '--shard <K/N>': not K/N with K from 1 to N, and N up to 65535"
-    ) else {
-        return WordsFault::Memory;
-    };
-    unfit(alloc, "asks", ErrorKind::ValueValidation, message.as_str())
-}
-
 /// The refusal of two arguments of a command that may not stand together.
 pub fn two_forms(alloc: Global, name: &str, one: &str, other: &str) -> WordsFault
     ensures { IsRefusedFor (ErrorKind.ArgumentConflict ∷ []) result }
@@ -57,7 +45,6 @@ pub fn unfit(alloc: Global, name: &str, kind: ErrorKind, message: &str) -> Words
 pub fn usage(name: &str) -> &'static str {
     match name {
         "run" => "paklour run [OPTIONS] [FILE]",
-        "asks" => "paklour asks [OPTIONS] <FILE>",
         "report" => "paklour report [OPTIONS] <FILE>",
         "try" => "paklour try <--scenario <TEXT>|--plan <N>> [FILE]",
         "explain" => "paklour explain <--scenario <TEXT>|--plan <N>> [FILE]",

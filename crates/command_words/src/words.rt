@@ -2,12 +2,12 @@
 ghost use Rattle.std.specs.Prelude.{◌≡◌, ◌↔◌, ◌∷◌, [], IsTrue, Some, None, not, option_map, is_some, true, false, ◌++◌, IfOk, IfErr, IfSome, OnOk, map, codes, string_bytes};
 ghost use Rattle.clap.specs.Words.{app_of, fault_of, first_value, found_of, new_app, rule_of, subcommand_of, takes};
 ghost use Rattle.clap.specs.declared.builder.command.Command.TheViews.{out-Command as fields_of};
-ghost use Rattle.command_words.specs.Words.{AsksToSee, HasAlso, HasNeeded, IsFaultOf, IsFollowLine, IsLine, IsLineOf, IsName, IsOrder, IsOrderName, IsPart, IsQuestion, IsQuestionName, IsRefusedFor, IsScenarioName, IsWhich, bare_app, campaign_commands, choice_fault, choice_kinds, file_app, file_rule, flag_rule, follow_kinds, form_of, formed_app, told_app, named_if, needed_file_rule, paklour, is_followed, is_set, part_kinds, progress_form_of, spelled, spelled_word, asks_app, question_commands, question_report_app, report_app, scenario_app, scenario_commands, shown_app, value_rule, values_of, which_kinds, with_commands, words_fault, IsReportQuestion, is_alone, named_shown, only, only_kinds, report_kinds};
+ghost use Rattle.command_words.specs.Words.{AsksToSee, HasAlso, HasNeeded, IsFaultOf, IsLine, IsLineOf, IsName, IsOrder, IsOrderName, IsQuestion, IsQuestionName, IsRefusedFor, IsScenarioName, IsWhich, bare_app, campaign_commands, choice_fault, choice_kinds, file_app, file_rule, flag_rule, form_of, formed_app, told_app, named_if, needed_file_rule, paklour, is_followed, is_set, progress_form_of, spelled, spelled_word, asks_app, question_commands, question_report_app, report_app, scenario_app, scenario_commands, shown_app, value_rule, values_of, which_kinds, with_commands, words_fault, IsReportQuestion, is_alone, named_shown, only, only_kinds, report_kinds};
 ghost use Rattle.command_words.specs.declared.words.WordsFault.TheVariants.{Memory};
 
 use crate::help;
-use crate::numbers::{shard_of, small_number};
-use crate::refusing::{no_number, no_shard, two_forms, unfit, usage};
+use crate::numbers::small_number;
+use crate::refusing::{no_number, two_forms, unfit, usage};
 use clap::error::ErrorKind;
 use clap::{Arg, ArgAction, ArgMatches, Command};
 use std::alloc::{AllocError, Global};
@@ -90,22 +90,11 @@ pub enum Order {
     Explain(Which),
 }
 
-/// Which of the lines that ask are written.
-#[derive(Clone, Copy, Debug)]
-pub enum AskedPart {
-    /// All of them.
-    All,
-    /// The lines for one of several machines: each `of`-th line, from line `number` on. Lines are counted from 1, and `number` is from 1 to `of`.
-    Shard { number: u16, of: u16 },
-    /// How many there are.
-    Left,
-}
-
 /// What a command asks about a component that somebody else runs, by the answers on standard input.
 #[derive(Debug, Drop)]
 pub enum Question {
     /// Which scenarios are still to be tried.
-    Asks(AskedPart),
+    Asks,
     /// The campaign's report, or what is known so far. If `strict` is set, warn on standard error of what makes a report say less than it seems to.
     Report { shown: Shown, strict: bool },
     /// The run that the answers record for the scenario which this text spells, hit by hit.
@@ -329,8 +318,6 @@ fn asks_command<'a>(alloc: Global, name: &'a str, about: &'a str) -> Result<Comm
     ensures local { IfOk result (λ command. (fields_of command).has_globals ≡ false) }
 {
     named(alloc, name, about, help::ANSWERS)
-        .arg(flag_arg(alloc, "left", help::LEFT))?
-        .arg(value_arg(alloc, "shard", "K/N", help::SHARD))?
         .arg(flag_arg(alloc, "follow", help::FOLLOW))?
         .arg(needed_file_arg(alloc))
 }
@@ -507,7 +494,9 @@ fn line_of<'a>(alloc: Global, name: &str, own: &ArgMatches<'a>) -> Result<Line, 
     ensures refused { IfErr result (IsRefusedFor (choice_kinds name.now (values_of (found_of own.now)))) }
 {
     if is_followed(name, own) {
-        return following(alloc, own);
+        return Ok(Line::Follow {
+            file: given(alloc, own, "file")?,
+        });
     }
     match question_of(alloc, name, own)? {
         Some(question) => Ok(Line::Outside {
@@ -527,24 +516,6 @@ fn is_followed<'a>(name: &str, own: &ArgMatches<'a>) -> bool
     ensures { result ≡ is_followed name.now (values_of (found_of own.now)) }
 {
     name == "asks" && is_set(own, "follow")
-}
-
-// The line of the command that follows the answers. It writes all that is asked, so it takes no part of that.
-fn following<'a>(alloc: Global, own: &ArgMatches<'a>) -> Result<Line, WordsFault>
-    requires { is_some (first_value (found_of own.now) (codes "file")) ≡ true }
-    ensures ok { IfOk result (IsFollowLine (values_of (found_of own.now))) }
-    ensures taken { IfOk result (λ _. (let v = values_of (found_of own.now) in follow_kinds (is_set v.left) v.shard) ≡ []) }
-    ensures refused { IfErr result (IsRefusedFor (let v = values_of (found_of own.now) in follow_kinds (is_set v.left) v.shard)) }
-{
-    if is_set(own, "left") {
-        return Err(two_forms(alloc, "asks", "follow", "left"));
-    }
-    if own.get_str("shard").is_some() {
-        return Err(two_forms(alloc, "asks", "follow", "shard <K/N>"));
-    }
-    Ok(Line::Follow {
-        file: given(alloc, own, "file")?,
-    })
 }
 
 // The form in which progress is shown. If both are asked for, it is plain lines.
@@ -573,31 +544,9 @@ fn question_of<'a>(
     ensures refused { IfErr result (IsRefusedFor (choice_kinds name.now (values_of (found_of own.now)))) }
 {
     match name {
-        "asks" => Ok(Some(Question::Asks(part_of(alloc, own)?))),
+        "asks" => Ok(Some(Question::Asks)),
         "report" => Ok(Some(report_question(alloc, own)?)),
         _ => Ok(None),
-    }
-}
-
-// Which of the lines that ask are to be written.
-fn part_of<'a>(alloc: Global, own: &ArgMatches<'a>) -> Result<AskedPart, WordsFault>
-    ensures ok { IfOk result (IsPart (values_of (found_of own.now))) }
-    ensures taken { IfOk result (λ _. (let v = values_of (found_of own.now) in part_kinds (is_set v.left) v.shard) ≡ []) }
-    ensures refused { IfErr result (IsRefusedFor (let v = values_of (found_of own.now) in part_kinds (is_set v.left) v.shard)) }
-{
-    match (is_set(own, "left"), own.get_str("shard")) {
-        (false, None) => Ok(AskedPart::All),
-        (false, Some(text)) => match shard_of(text) {
-            Some((number, of)) => Ok(AskedPart::Shard { number, of }),
-            None => Err(no_shard(alloc, text)),
-        },
-        (true, None) => Ok(AskedPart::Left),
-        (true, Some(_)) => Err(unfit(
-            alloc,
-            "asks",
-            ErrorKind::ArgumentConflict,
-            "the argument '--left' cannot be used with '--shard <K/N>'",
-        )),
     }
 }
 

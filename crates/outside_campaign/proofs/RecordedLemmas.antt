@@ -3,13 +3,12 @@ use Rattle.std.proofs.Common.{◌≡◌, ◌≤◌, ◌∙◌, ℕ, Bool, false,
 use Rattle.plan_gen.specs.PlanList.{most_plans}
 use Rattle.scenario_values.specs.Scenario.{Entries}
 use Rattle.answered_runs.specs.asked.Lines.{lines_for}
-use Rattle.answered_runs.specs.asked.Parts.{part_text}
-use Rattle.answered_runs.specs.declared.asked.parts.AskedPart.{AskedPart}
 use Rattle.answer_text.specs.Known.{Agrees, AgreesWithText, verdicts_in}
 use Rattle.answer_text.specs.Runs.{KnownRuns, RunBook, told_in}
 use Rattle.answer_text.proofs.Agreement.{agrees_by}
 use Rattle.campaign_given.specs.Description.{Description}
 use Rattle.campaign_given.specs.Given.{Given}
+use Rattle.report.specs.ReportText.{text_of}
 use Rattle.report.specs.declared.forms.forms.Form.{Form}
 use Rattle.outside_campaign.specs.Campaigns.{asks_text, first_failure, plans, report_in, untried, untried_by}
 use Rattle.outside_campaign.specs.Outside.{Component}
@@ -51,11 +50,10 @@ module _ (outside : Description) (given : Given) (answers : List ℕ) (book : Ru
   }
 
   -- and what is asked
-  pub asked_by : (part : AskedPart) (text : List ℕ) → text ≡ part_text part (lines_for (untried (verdicts_in (told_in book)) list))
-      → IsAskedByCensus part outside given answers text
-  asked_by part text is = record {
-    text_is = is ∙ ap (λ (ps : List Entries). part_text part (lines_for (untried (verdicts_in (told_in book)) ps))) h.list
-        ∙ ap (λ (k : KnownRuns). asks_text part outside given k) h.told;
+  pub asked_by : (text : List ℕ) → text ≡ text_of (lines_for (untried (verdicts_in (told_in book)) list)) → IsAskedByCensus outside given answers text
+  asked_by text is = record {
+    text_is = is ∙ ap (λ (ps : List Entries). text_of (lines_for (untried (verdicts_in (told_in book)) ps))) h.list
+        ∙ ap (λ (k : KnownRuns). asks_text outside given k) h.told;
     few = few;
     readable = h.readable;
   }

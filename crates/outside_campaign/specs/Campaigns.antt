@@ -9,8 +9,6 @@ use Rattle.result_book.specs.FirstFailures.{first_failures}
 use Rattle.report.specs.Reports.{ReportFacts}
 use Rattle.report.specs.ReportText.{text_of}
 use Rattle.answered_runs.specs.asked.Lines.{lines_for}
-use Rattle.answered_runs.specs.asked.Parts.{part_text}
-use Rattle.answered_runs.specs.declared.asked.parts.AskedPart.{AskedPart}
 use Rattle.answer_text.specs.Known.{KnownVerdicts, verdicts_in}
 use Rattle.answer_text.specs.Runs.{KnownRuns}
 use Rattle.campaign_given.specs.Description.{Description}
@@ -77,9 +75,9 @@ untried known plans = to_try known plans (known_failures known plans)
 abbrev pub untried_by : Description → Given → KnownRuns → List Entries
 untried_by outside given known = untried (verdicts_in known) (plans outside given)
 
--- The text of a part of the lines that ask for it.
-abbrev pub asks_text : AskedPart → Description → Given → KnownRuns → List ℕ
-asks_text part outside given known = part_text part (lines_for (untried_by outside given known))
+-- The text of the lines that ask for it.
+abbrev pub asks_text : Description → Given → KnownRuns → List ℕ
+asks_text outside given known = text_of (lines_for (untried_by outside given known))
 
 -- Why there is no report: this is the first scenario that is still to be tried, or memory was refused.
 abbrev pub IsUnreported : Description → Given → KnownRuns → OutsideFault → Type 0

@@ -1,14 +1,14 @@
 //! The scenarios that are still to be tried.
 ghost use Rattle.std.specs.Prelude.{◌≡◌, ◌<◌, ◌∷◌, ◌++◌, [], All, length, IfOk, OnOk, string_bytes};
 ghost use Rattle.answered_runs.specs.asked.Lines.{lines_behind, lines_for};
-ghost use Rattle.answered_runs.specs.asked.Parts.{part_text};
+ghost use Rattle.report.specs.ReportText.{text_of};
 ghost use Rattle.outside_campaign.specs.Asked.{asked, open_plans};
 ghost use Rattle.outside_campaign.specs.Campaigns.{untried};
 
 use crate::findings::{Findings, findings_known};
 use crate::table::VerdictTable;
 use crate::verdicts::plan_verdicts;
-use answered_runs::{AskedLines, AskedPart};
+use answered_runs::AskedLines;
 use grown_plans::{CampaignPlan, CampaignPlans};
 use result_book::first_failures_of;
 use scenario_values::{Scenario, tidy};
@@ -97,18 +97,17 @@ pub fn asks<K: VerdictTable>(
     }
 }
 
-/// The lines that ask for what is still to be tried of these plans, or a part of them. The reductions are those of the first failures known. An error
-/// means that memory was refused.
+/// The lines that ask for what is still to be tried of these plans. The reductions are those of the first failures known. An error means that memory
+/// was refused.
 pub(crate) fn asks_text<K: VerdictTable>(
     alloc: Global,
     known: &K,
     plans: &CampaignPlans<'_>,
-    part: AskedPart,
 ) -> Result<String, AllocError>
-    ensures { IfOk result (λ text. string_bytes text ≡ part_text part (lines_for (untried (K.verdicts known.now) plans.now))) }
+    ensures { IfOk result (λ text. string_bytes text ≡ text_of (lines_for (untried (K.verdicts known.now) plans.now))) }
 {
     let verdicts = plan_verdicts(alloc, known, plans)?;
     let failures = first_failures_of(alloc, verdicts.as_slice())?;
     let lines = asks(alloc, known, plans, failures.as_slice())?;
-    lines.text(alloc, part)
+    lines.text(alloc)
 }

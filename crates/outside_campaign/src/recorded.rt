@@ -9,7 +9,7 @@ use crate::partial::partial_text;
 use crate::reporting::report_text;
 use crate::with_depth::{QuestionFault, grown_lines, grown_partial, grown_report};
 use answer_text::{Runs, Stranger};
-use answered_runs::{AskedPart, KnownPlans};
+use answered_runs::KnownPlans;
 use grown_plans::CampaignPlans;
 use report::Form;
 use std::alloc::Global;
@@ -34,8 +34,8 @@ impl<'a, 'p> Recorded<'a, 'p> {
         }
     }
 
-    /// The lines that ask for what is still to be tried, or a part of them. If all is known, and only then, there is no line. Any of the scenarios may
-    /// be tried, in any order.
+    /// The lines that ask for what is still to be tried. If all is known, and only then, there is no line. Any of the scenarios may be tried, in any
+    /// order.
     ///
     /// Without a depth the open candidates of the reductions come first, and then each plan that isn't answered. With one the plans that are known by
     /// now come first. Once every plan is answered, the candidates of the reductions and of the test for causes are asked for.
@@ -46,19 +46,18 @@ impl<'a, 'p> Recorded<'a, 'p> {
         self,
         alloc: Global,
         campaign: &OutsideCampaign<'_>,
-        part: AskedPart,
     ) -> Result<String, QuestionFault>
         requires { (answers : List ℕ) × Records campaign.now.outside.now campaign.now.settings.now answers self }
         ensures text { IfOk result (λ text. (answers : List ℕ) → Records campaign.now.outside.now campaign.now.settings.now answers self.entry
-            → IsAskedTo (depth_of self.entry) part campaign.now.outside.now campaign.now.settings.now answers (string_bytes text)) }
+            → IsAskedTo (depth_of self.entry) campaign.now.outside.now campaign.now.settings.now answers (string_bytes text)) }
         ensures fault { IfErr result (λ why. (answers : List ℕ) → Records campaign.now.outside.now campaign.now.settings.now answers self.entry
             → RefusesYet (depth_of self.entry) campaign.now.outside.now campaign.now.settings.now answers why) }
     {
         match self {
-            Recorded::ByCensus(runs, plans) => Ok(asks_text(alloc, runs, plans, part)?),
+            Recorded::ByCensus(runs, plans) => Ok(asks_text(alloc, runs, plans)?),
             Recorded::ByRuns(known) => {
                 let lines = grown_lines(alloc, known, campaign.settings)?;
-                Ok(lines.text(alloc, part)?)
+                Ok(lines.text(alloc)?)
             }
         }
     }

@@ -8,6 +8,7 @@ use Rattle.command_words.specs.declared.words.Question.{Question}
 use Rattle.outside_campaign.specs.declared.refusal.OutsideFault.TheVariants as outside
 use Rattle.outside_campaign.specs.declared.with_depth.fault.QuestionFault.{QuestionFault}
 use Rattle.outside_campaign.specs.declared.with_depth.fault.QuestionFault.TheVariants as fault
+use Rattle.command_words.specs.declared.words.Question.TheVariants.{Asks}
 use Rattle.campaign_main.specs.declared.exit.Exit.{Exit}
 use Rattle.campaign_main.specs.declared.exit.Exit.TheVariants.{Refused}
 use Rattle.campaign_main.specs.declared.following.FollowFault.{FollowFault}
@@ -15,7 +16,7 @@ use Rattle.campaign_main.specs.declared.following.FollowFault.TheVariants as fol
 use Rattle.campaign_main.specs.declared.told.Told.{Told}
 use Rattle.campaign_main.specs.Commands.{Refusal}
 use Rattle.campaign_main.specs.Ends.{RefusesWith}
-use Rattle.campaign_main.specs.Following.{AreLooks, IsOfLines, Look, asks_all, lines_with, told_text}
+use Rattle.campaign_main.specs.Following.{AreLooks, IsOfLines, Look, lines_with, told_text}
 use Rattle.campaign_main.specs.QuestionNotes.{question_notes}
 use Rattle.campaign_main.specs.Questions.{IsAnswer, IsNotAnswered, IsUnanswered, Subject, subject_of}
 
@@ -36,9 +37,9 @@ TellFails lines text w why = IsUntouched w × (why ≡ fault.Outside (outside.Ca
 -- Why a look at these answers failed, after looks which told these lines. If the output failed, a part of all that was to be written was.
 abbrev pub LookFails : Subject → List ℕ → List (List ℕ) → Change → QuestionFault → Type 0
 LookFails s answers lines w (fault.Outside (outside.Campaign (campaign.Write n))) =
-    (text : List ℕ) × IsAnswer asks_all s answers text false
+    (text : List ℕ) × IsAnswer Asks s answers text false
     × ((start : Option (List ℕ)) → Appends start w.old (concat lines) → WritesPart (concat (lines_with lines text)) n (since start w))
-LookFails s answers lines w why = IsUntouched w × IsUnanswered asks_all s answers why
+LookFails s answers lines w why = IsUntouched w × IsUnanswered Asks s answers why
 
 -- Looks were at answers that grew to `read`, and what they asked for was written.
 abbrev pub HaveTold : Subject → List ℕ → List Look → Change → Type 0
@@ -49,7 +50,7 @@ abbrev pub FailsAt : Subject → List ℕ → Option (List ℕ) → Change → Q
 FailsAt s read rest w (fault.Outside (outside.Campaign (campaign.Write n))) =
     (looks : List Look) × AreLooks s looks read × WritesPart (told_text looks) n w
 FailsAt s read rest w why =
-    ((looks : List Look) × HaveTold s read looks w) × IsUnanswered asks_all s read why × (IsOfLines read ⊎ IsAtEnd rest)
+    ((looks : List Look) × HaveTold s read looks w) × IsUnanswered Asks s read why × (IsOfLines read ⊎ IsAtEnd rest)
 
 -- Why following came to no end.
 abbrev pub FailsFollow : Subject → List ℕ → Option (List ℕ) → Change → FollowFault → Type 0
@@ -60,7 +61,7 @@ FailsFollow s read rest w (follow.Unread why) = (looks : List Look) × HaveTold 
 abbrev pub ComesToFollow : {A : Type 0} → Subject → List ℕ → Option (List ℕ) → Change → Result (String A) FollowFault → Type 0
 ComesToFollow s read rest w (Ok notes) =
     (text : List ℕ) × (earlier : List Look) × HaveTold s read (record { answers = read; text = text } ∷ earlier) w × ((text ≡ []) ⊎ IsAtEnd rest)
-    × (string_bytes notes ≡ question_notes asks_all s.0 s.1 read)
+    × (string_bytes notes ≡ question_notes Asks s.0 s.1 read)
 ComesToFollow s read rest w (Err why) = FailsFollow s read rest w why
 
 -- What settings came to is refused, and this end says why, whatever was to be asked.

@@ -11,7 +11,7 @@ use Rattle.campaign_main.specs.declared.answering.OnPlans.{OnPlans}
 use Rattle.campaign_main.specs.declared.answering.OnPlans.TheVariants as plans
 
 abbrev pub question_on : OnPlans → Question
-question_on (plans.Asks part) = Asks part
+question_on plans.Asks = Asks
 question_on (plans.Report shown strict) = Report shown strict
 
 -- Recorded runs make too many plans known. The plans of a campaign without a depth are listed before.

@@ -3,8 +3,6 @@ use Rattle.std.specs.Prelude.{◌≡◌, ◌⊎◌, ◌≤◌, ◌<◌, ℕ, Boo
 use Rattle.scenario_values.specs.Scenario.{Entries}
 use Rattle.plan_gen.specs.PlanList.{Asked, most_plans}
 use Rattle.answered_runs.specs.asked.Lines.{lines_for}
-use Rattle.answered_runs.specs.asked.Parts.{part_text}
-use Rattle.answered_runs.specs.declared.asked.parts.AskedPart.{AskedPart}
 use Rattle.answer_text.specs.Known.{AgreesWithText}
 use Rattle.answer_text.specs.Runs.{known_runs, known_strangers, runs_of, told_in}
 use Rattle.answer_text.specs.declared.runs.RunLine.{RunLine}
@@ -20,6 +18,7 @@ use Rattle.outside_campaign.specs.Campaigns.{asks_text, first_failure, plans, re
 use Rattle.outside_campaign.specs.Outside.{Component}
 use Rattle.outside_campaign.specs.Readable.{IsReadable, IsUnreadable, told_by}
 use Rattle.outside_campaign.specs.Partial.{partial_by, partial_text, some_fails, some_fails_by}
+use Rattle.report.specs.ReportText.{text_of}
 use Rattle.report.specs.declared.forms.forms.Form.{Form}
 use Rattle.outside_campaign.specs.declared.refusal.OutsideFault.TheVariants as refusal
 use Rattle.answered_runs.specs.grown.Further.{AreTooMany}
@@ -61,12 +60,12 @@ pub record AreUnbroken (a : Answered) (depth : ℕ) : Type 0 where
   pub begin : AreBroken a (known_plans a depth) None
   pub agree : AreOfOne a
 
--- A text asks for a part of what is still to be tried.
-pub record IsAskedText (part : AskedPart) (outside : Description) (given : Given) (depth : ℕ) (answers text : List ℕ) : Type 0 where
+-- A text asks for what is still to be tried.
+pub record IsAskedText (outside : Description) (given : Given) (depth : ℕ) (answers text : List ℕ) : Type 0 where
   pub runs : Answered
   pub tells : Tells outside answers runs
   pub unbroken : AreUnbroken runs depth
-  pub text_is : text ≡ part_text part (grown_lines given depth runs)
+  pub text_is : text ≡ text_of (grown_lines given depth runs)
 
 -- A text is the report of every component that agrees with the answers, as far as its runs were seen, and `first` is the number of its first plan
 -- that fails. Some component agrees with the answers, as far as they are of certain scenarios. Each plan is answered, nothing is still to be tried, and
@@ -116,9 +115,9 @@ pub record IsPartialText (outside : Description) (given : Given) (depth : ℕ) (
 
 -- ---- a campaign without a depth
 
--- A text asks for a part of what is still to be tried, by answers without a fault.
-pub record IsAskedByCensus (part : AskedPart) (outside : Description) (given : Given) (answers text : List ℕ) : Type 0 where
-  pub text_is : text ≡ asks_text part outside given (told_by outside answers)
+-- A text asks for what is still to be tried, by answers without a fault.
+pub record IsAskedByCensus (outside : Description) (given : Given) (answers text : List ℕ) : Type 0 where
+  pub text_is : text ≡ asks_text outside given (told_by outside answers)
   pub few : length (plans outside given) ≤ most_plans
   pub readable : IsReadable outside answers
 
@@ -154,9 +153,9 @@ RefusesByCensus outside given answers (fault.Unseen line) = ⊥
 
 -- ---- a campaign with this depth, if it has one
 
-abbrev pub IsAskedTo : Option ℕ → AskedPart → Description → Given → List ℕ → List ℕ → Type 0
-IsAskedTo None part outside given answers text = IsAskedByCensus part outside given answers text
-IsAskedTo (Some depth) part outside given answers text = IsAskedText part outside given depth answers text
+abbrev pub IsAskedTo : Option ℕ → Description → Given → List ℕ → List ℕ → Type 0
+IsAskedTo None outside given answers text = IsAskedByCensus outside given answers text
+IsAskedTo (Some depth) outside given answers text = IsAskedText outside given depth answers text
 
 abbrev pub IsReportedTo : Option ℕ → Form → Description → Given → List ℕ → List ℕ → Option ℕ → Type 0
 IsReportedTo None form outside given answers text first = IsReportedByCensus form outside given answers text first

@@ -2,8 +2,9 @@ use Rattle.std.proofs.Common.{◌∙◌, ◌++◌, ◌∷◌, List, ap, false, r
 use Rattle.std.specs.Io.KnownBytes.{Consumes}
 use Rattle.std.proofs.KnownBytes.{Consumes-trans}
 use Rattle.campaign_core.specs.Writes.{change}
+use Rattle.command_words.specs.declared.words.Question.TheVariants.{Asks}
 use Rattle.campaign_main.specs.declared.following.FollowFault.TheVariants as follow
-use Rattle.campaign_main.specs.Following.{Look, asks_all, lines_with}
+use Rattle.campaign_main.specs.Following.{Look, lines_with}
 use Rattle.campaign_main.specs.Questions.{IsAnswer, subject_in}
 use Rattle.campaign_main.specs.inside.Looks.{LookFails}
 use Rattle.campaign_main.proofs.FollowLemmas.{follow-up, lines-or-end, look-failed, look-told, looks-on}
@@ -33,7 +34,7 @@ returns-in_err-read_lines-clause-follow g c =
     let t = c.in_ok-answer.answer.text.items in
     let look : Look = record { answers = known; text = t } in
     let gone = c.in_err-read_lines.ensures.rest in
-    let answer = subst (λ (l : List ℕ). IsAnswer asks_all s l t false) c.as_slice.ensures.value c.in_ok-answer.ensures.answer in
+    let answer = subst (λ (l : List ℕ). IsAnswer Asks s l t false) c.as_slice.ensures.value c.in_ok-answer.ensures.answer in
     let told = look-told s start known i.5.0 i.5.1 c.loop-told.told.lines.keys i.5.2 t c.look.new.told.lines.keys c.look.new.told.text.items (g.W.Sink.told c.look.new.output)
     (g.W.Sink.has_failed c.look.new.output) answer c.in_ok-answer.ensures.lines c.in_ok-answer.ensures.text (c.in_ok-answer.ensures.written start i.5.3) c.in_ok-answer.ensures.sound in (
       known ++ gone.0,
@@ -52,7 +53,7 @@ loop-told-preserved g c =
     let t = c.in_ok-answer.answer.text.items in
     let look : Look = record { answers = known; text = t } in
     let read = c.in_ok-read_lines.ensures.read in
-    let answer = subst (λ (l : List ℕ). IsAnswer asks_all s l t false) c.as_slice.ensures.value c.in_ok-answer.ensures.answer in
+    let answer = subst (λ (l : List ℕ). IsAnswer Asks s l t false) c.as_slice.ensures.value c.in_ok-answer.ensures.answer in
     let written = c.in_ok-answer.ensures.written start i.5.3 in
     let told = look-told s start known i.5.0 i.5.1 c.loop-told.told.lines.keys i.5.2 t c.look.new.told.lines.keys c.look.new.told.text.items (g.W.Sink.told c.look.new.output)
     (g.W.Sink.has_failed c.look.new.output) answer c.in_ok-answer.ensures.lines c.in_ok-answer.ensures.text written c.in_ok-answer.ensures.sound in (

@@ -1,7 +1,7 @@
 use Rattle.std.proofs.Common.{◌∙◌, Err, Ok, ap}
 use Rattle.campaign_core.specs.Writes.{change}
+use Rattle.command_words.specs.declared.words.Question.TheVariants.{Asks}
 use Rattle.campaign_main.specs.declared.following.FollowFault.TheVariants as follow
-use Rattle.campaign_main.specs.Following.{asks_all}
 use Rattle.campaign_main.specs.Questions.{subject_in}
 use Rattle.campaign_main.proofs.FollowLemmas.{by-question, failed-cause, failed-ends, failed-tells, kept-ends, not-followed}
 use Rattle.campaign_main.proofs.QuestionLemmas.{answers-read-fault-cause, answers-read-fault-tells}
@@ -36,7 +36,7 @@ returns-in-Err-Unread-clause-cause g c = λ refused.
     let v = change g.E.Sink c.args.faults.now c.end_unreadable_answers.new.faults in
     let f = c.in-Err-Unread.fault in
     not-followed (g.A.Read.remaining c.args.answers.now) (Ok s) v
-    (answers-read-fault-cause asks_all s _ f c.end_unreadable_answers.result v (λ e. c.in-Err-Unread.ensures.too_long (ap (λ x. Err x) (c.in-Err-Unread.field-0-is ∙ ap (λ x. follow.Unread x) e))) c.end_unreadable_answers.ensures.end
+    (answers-read-fault-cause Asks s _ f c.end_unreadable_answers.result v (λ e. c.in-Err-Unread.ensures.too_long (ap (λ x. Err x) (c.in-Err-Unread.field-0-is ∙ ap (λ x. follow.Unread x) e))) c.end_unreadable_answers.ensures.end
     c.end_unreadable_answers.ensures.memory refused)
 
 pub returns-in-Err-Unread-clause-told : goal.returns-in-Err-Unread-clause-told

@@ -1,7 +1,8 @@
 use Rattle.std.proofs.Common.{IfSome, Ok, Result, subst}
 use Rattle.campaign_core.specs.Writes.{change}
+use Rattle.command_words.specs.declared.words.Question.TheVariants.{Asks}
 use Rattle.campaign_main.specs.Commands.{Refusal}
-use Rattle.campaign_main.specs.Following.{IsNotFollowed, asks_all}
+use Rattle.campaign_main.specs.Following.{IsNotFollowed}
 use Rattle.campaign_main.specs.Questions.{Subject, TellsOfQuestion}
 use Rattle.campaign_main.proofs.FollowLemmas.{none-followed}
 use Rattle.campaign_main.proofs.QuestionLemmas.{for-subject}
@@ -21,4 +22,4 @@ returns-in-Ok-clause-told g c =
     subst (λ old. TellsOfQuestion c.follow_on.result (change g.E.Sink old new)) c.in-Ok.ensures.untouched c.follow_on.ensures.told
 
 pub returns-in-Err-clause-cause : goal.returns-in-Err-clause-cause
-returns-in-Err-clause-cause g c = λ refused. none-followed _ _ _ (c.in-Err.ensures.cause asks_all _ refused)
+returns-in-Err-clause-cause g c = λ refused. none-followed _ _ _ (c.in-Err.ensures.cause Asks _ refused)

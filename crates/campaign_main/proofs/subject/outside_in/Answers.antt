@@ -1,9 +1,9 @@
 use Rattle.std.proofs.Common.{◌∙◌, IfErr, Result, subst, sym}
 use Rattle.std.proofs.lemmas.Result.{IfOk-weaker}
 use Rattle.campaign_core.specs.Writes.{change}
+use Rattle.command_words.specs.declared.words.Question.TheVariants.{Asks}
 use Rattle.campaign_main.specs.Commands.{Refusal}
 use Rattle.campaign_main.specs.FaultLines.{settings_line}
-use Rattle.campaign_main.specs.Following.{asks_all}
 use Rattle.campaign_main.specs.Questions.{Subject}
 use Rattle.campaign_main.specs.inside.Looks.{IsRefusedSubject}
 use Rattle.campaign_main.proofs.QuestionLemmas.{chosen-is, settings-fault-tells-question, settings-fault-why}
@@ -29,4 +29,4 @@ returns-in-Err-clause-cause g c =
 
 pub returns-in-Err-clause-told : goal.returns-in-Err-clause-told
 returns-in-Err-clause-told g c =
-    settings-fault-tells-question c.args.text.now asks_all c.end_bad_settings.result _ c.in-Err.fault c.in-Err.ensures.refused c.end_bad_settings.ensures.memory c.end_bad_settings.ensures.end
+    settings-fault-tells-question c.args.text.now Asks c.end_bad_settings.result _ c.in-Err.fault c.in-Err.ensures.refused c.end_bad_settings.ensures.memory c.end_bad_settings.ensures.end

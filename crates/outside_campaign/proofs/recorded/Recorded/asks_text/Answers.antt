@@ -12,5 +12,5 @@ returns-in_ok-asks_text-in-ByCensus-clause-text c = λ answers records.
     let given = c.args.campaign.now.settings.now in
     let known : RecordsByCensus outside given answers c.in-ByCensus.runs.now c.in-ByCensus.plans.now = subst (Records outside given answers) c.in-ByCensus.is records in
     let text = string_bytes c.in_ok-asks_text-in-ByCensus.field-0 in
-    subst (λ (r : Recorded). IsAskedTo (depth_of r) c.args.part outside given answers text) (sym c.in-ByCensus.is)
-    (asked_by outside given answers _ _ known c.args.part text c.in_ok-asks_text-in-ByCensus.ensures)
+    subst (λ (r : Recorded). IsAskedTo (depth_of r) outside given answers text) (sym c.in-ByCensus.is)
+    (asked_by outside given answers _ _ known text c.in_ok-asks_text-in-ByCensus.ensures)

@@ -1,4 +1,4 @@
-How many lines ask, a part of them for each of several machines, and what is known before all is answered.
+What is known before all is answered.
 
   $ cat > two.toml << END
   > target = "outside"
@@ -9,37 +9,10 @@ How many lines ask, a part of them for each of several machines, and what is kno
   > points = ["a", "b"]
   > hits = [2, 1]
   > END
-  $ asks() { paklour asks "$@" two.toml < answers; }
-  $ : > answers
-  $ asks --left
-  left 10
-  $ asks --shard 1/3
-  none
-  a=1*panic
-  a=1*off->1*panic
-  b=1*panic
-  $ asks --shard 2/3
-  a=1*return
-  a=1*off->1*return
-  b=1*return
-  $ asks --shard 3/3
-  a=return
-  a=1*off->return
-  b=return
-  $ asks --shard 10/64
-  b=1*panic
-  $ asks --shard 11/64
-
-Of however many machines each line is one's, and no other's.
-
-  $ asks > whole
-  $ for machines in 1 2 3 4 7 10 11 64; do
-  >     for machine in $(seq $machines); do asks --shard $machine/$machines; done | sort > parts
-  >     sort whole | cmp - parts
-  > done
 
 What is known so far is no report: plans without an answer may fail too.
 
+  $ : > answers
   $ paklour report --partial two.toml < answers
   target two points
   seed 3
@@ -55,21 +28,14 @@ What is known so far is no report: plans without an answer may fail too.
   known unresolved b=return
   first so far torn a=1*return
   [1]
-  $ asks --left
-  left 6
   $ paklour report two.toml < answers
   not answered a=1*panic
   [2]
 
-With a depth the list is known as far as answers tell hits, and so is how many lines ask.
+With a depth the list is known as far as answers tell hits.
 
   $ sed -i -e 's/^hits.*//' -e 's/^seed.*/&\ndepth = 1/' two.toml
   $ printf 'pass\tnone\ta;b\n' > answers
-  $ asks --left
-  left 4
-  $ asks --shard 2/2
-  a=1*panic
-  b=1*panic
   $ paklour report --partial two.toml < answers
   target two points
   seed 3
@@ -89,8 +55,5 @@ Where a run breaks with another one nothing is told.
 
   $ printf 'pass\tb=1*return\ta;a;b\n' | sed 's/a;a/2*a/' >> answers
   $ paklour report --partial two.toml < answers
-  answers: line 4: hits differ from line 1 at hit 2
-  [2]
-  $ asks --left
   answers: line 4: hits differ from line 1 at hit 2
   [2]
