@@ -133,4 +133,4 @@ The help of the commands on a component that somebody else runs says what an ans
     <FILE>  Settings as TOML; `paklour help` lists their keys. Standard input has the answers
     VERDICT<TAB>SCENARIO<TAB>HITS
   $ paklour help asks | grep -e '^ *--follow '
-        --follow       Go on while answers come, and write each scenario as soon as it is known
+        --follow  Go on while answers come, and write each scenario as soon as it is known
