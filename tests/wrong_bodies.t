@@ -8,7 +8,7 @@ worked out by hand from the head of the tool.
   $ printf 'use a\n\npub returns : goal.returns\nreturns c = c\n\npub old : goal.old\nold c = c\n' > crates/toy/proofs/scripted/Answers.antt
   $ edit() { printf 'file: src/lib.rt\nold: proved %s\nnew: %s\n' "$2" "$3" > "crates/toy/must-fail/$1.edit"; }
 
-A body is refused where a goal stays open, or where its answer doesn't prove it; the first goal is told. One that is proved isn't refused.
+A body is refused where a goal stays open, or where its answer doesn't prove it; the first goal is told.
 
   $ edit open plain 'open returns'; edit answered other 'script returns-sums'
   $ bodies --all
@@ -20,6 +20,15 @@ A body is refused where a goal stays open, or where its answer doesn't prove it;
   toy/answered: refused: toy::other at returns-sums (whole)
   toy/open: refused: toy::plain at returns (whole)
   2 passed, 0 failed
+
+A goal that stays open is told before one whose answer doesn't fit: that answer may only miss the edit's shape.
+
+  $ edit open plain 'script invariant_of-self open returns'
+  $ bodies toy | grep open
+  toy/open: refused: toy::plain at returns (whole)
+
+A body that is proved isn't refused.
+
   $ edit right plain 'proved otherwise'; edit open plain 'open returns'
   $ bodies --all
   toy/answered: refused: toy::other at returns-sums (whole)
