@@ -13,6 +13,7 @@ use Rattle.target_trait.specs.declared.judgement.Verdict.{Verdict}
 use Rattle.target_trait.specs.declared.judgement.Verdict.TheVariants as verdict
 use Rattle.action_eval.specs.Answers.{given_of}
 use Rattle.grown_plans.specs.Runs.{Met, run}
+use Rattle.grown_plans.specs.GrownPlans.{Subject}
 use Rattle.grown_plans.proofs.Members.{contains_map}
 use Rattle.result_book.specs.Verdicts.{numbered, verdicts_from}
 use Rattle.result_book.specs.FirstFailures.{first_failures, AreFirstFailures}
@@ -20,9 +21,9 @@ use Rattle.result_book.specs.FirstFailure.{FailsAt}
 use Rattle.result_book.proofs.EachCodeLemmas.{firsts_of}
 use Rattle.result_book.proofs.SlotLemmas.{length_verdicts}
 use Rattle.report.specs.Reports.{FindingFacts, GrowthFacts}
-use Rattle.campaign_core.specs.promises.Told.{Told, HasVerdict}
+use Rattle.campaign_core.specs.promises.Told.{Told, HasVerdict, count_of_all}
 use Rattle.campaign_core.specs.promises.Promises.{IsFirst}
-use Rattle.campaign_core.specs.promises.Further.{Further, IsOfItsNumber, IsReduction, without}
+use Rattle.campaign_core.specs.promises.Further.{Further, IsLeast, IsLeastCause, IsReduction, verdict_of, without}
 use Rattle.campaign_core.specs.FaultTest.{fails_with}
 use Rattle.campaign_core.specs.Findings.{finding, report_of, IsMinimal, ReducesToMinimal}
 use Rattle.campaign_core.specs.Headline.{Campaign, grower, say}
@@ -57,6 +58,13 @@ at_number : (vs : List Verdict) (n code : ℕ) → FailsAt vs n code → slice_g
 at_number [] n code e = absurd cc
 at_number (v ∷ vs) zero code e = ap (λ (x : Verdict). Some x) e
 at_number (v ∷ vs) (suc n) code e = at_number vs n code e
+
+-- What Further says of causes.
+pub record Causes (t : Subject) (entries : List Entries) (told : Told) : Type 0 where
+  pub least : All (IsLeastCause t entries told) told.growth.causes
+  pub each : (number code : ℕ) (s : Entries) → number < count_of_all told → slice_get entries number ≡ Some s → verdict_of t told number s ≡ verdict.Fail code
+      → IsLeast t told number code s → Contains told.growth.causes (record { number = number; code = code; scenario = s })
+  pub in_order : AllPairs (λ c d. c.number < d.number) told.growth.causes
 
 module _ (c : Campaign) (label counts : List ℕ) (entries : List Entries) (growth : Option GrowthFacts) (grew : GrowthFacts) (behaviours : List (List Met))
     (minimal : All (ReducesToMinimal (say c)) (report_of (say c) label c.given.plans.seed counts entries growth).findings) where
@@ -123,5 +131,13 @@ module _ (c : Campaign) (label counts : List ℕ) (entries : List Entries) (grow
   Plays = (number : ℕ) (s : Entries) (hits : List Met) → slice_get entries number ≡ Some s → slice_get behaviours number ≡ Some hits
       → run c.asks (given_of s c.points c.given.plans.seed number c.given.max_hits) ≡ hits
 
-  pub further : Plays → All (IsOfItsNumber entries) grew.causes → Further (grower c) entries told
-  further plays causes = record { plays = plays; all_told = length_verdicts (say c) 0 entries; judged = judged_at; findings = reduction_at; causes = causes }
+  pub further : Plays → Causes (grower c) entries told → Further (grower c) entries told
+  further plays causes = record {
+    all_told = length_verdicts (say c) 0 entries;
+    judged = judged_at;
+    plays = plays;
+    findings = reduction_at;
+    causes = causes.least;
+    each_cause = causes.each;
+    in_order = causes.in_order;
+  }

@@ -58,7 +58,7 @@ unfolding kept_from
 kept_new name set n [] h = tt
 kept_new name set n (e ∷ es) h = (h.0, kept_new name set (after_chain n e.1) es h.1)
 
-kept_distinct : (set : List ℕ) (n : ℕ) (es : Entries) → DistinctNames es → DistinctNames (kept_from set n es)
+pub kept_distinct : (set : List ℕ) (n : ℕ) (es : Entries) → DistinctNames es → DistinctNames (kept_from set n es)
 unfolding kept_from
 kept_distinct set n [] h = tt
 kept_distinct set n (e ∷ es) h = (kept_new e.0 set (after_chain n e.1) es h.0, kept_distinct set (after_chain n e.1) es h.1)

@@ -51,7 +51,7 @@ entries_distinct p [] rs d = tt
 entries_distinct p (name ∷ names) rs d =
     entry_distinct name (chain_from p 0 rs) (entries_from (p + 1) names rs) (entries_new name (p + 1) names rs d.0) (entries_distinct (p + 1) names rs d.1)
 
-rigged_scenario_distinct : (names : List (List ℕ)) (rs : List Rig) → HasDistinct names → DistinctNames (rigged_scenario names rs)
+pub rigged_scenario_distinct : (names : List (List ℕ)) (rs : List Rig) → HasDistinct names → DistinctNames (rigged_scenario names rs)
 unfolding rigged_scenario
 rigged_scenario_distinct names rs d = entries_distinct 0 names rs d
 

@@ -1,90 +1,49 @@
 -- The report of a campaign keeps what it promises.
-use Rattle.std.proofs.Common.{◌≡◌, ◌≢◌, ℕ, zero, suc, ◌+◌, ◌<◌, ◌≤◌, ◌^◌, ◌==◌, ◌&&◌, inl, not, Bool, true, false, cond, Option, Some, IfSome, All, List, [], ◌∷◌, map, length, refl, ap, sym, ◌∙◌, subst, arith}
-use Rattle.std.specs.Prelude.{Contains, flat_map, slice_get, slice_index_or}
-use Rattle.std.specs.List.{AllByRecursion, list_all, range_with_len}
+use Rattle.std.proofs.Common.{◌≡◌, ℕ, suc, ◌+◌, ◌<◌, ◌≤◌, ◌^◌, inl, Option, Some, IfSome, All, List, [], ◌∷◌, map, length, refl, ap, sym, ◌∙◌, subst, arith}
+use Rattle.std.specs.Prelude.{slice_get, slice_index_or}
+use Rattle.std.specs.List.{AllByRecursion, range_with_len}
 use Rattle.std.proofs.lemmas.List.{get_or-map, length-map}
-use Rattle.std.proofs.lemmas.Bool.Decides.{nat_tests}
 use Rattle.std.proofs.lemmas.Option.{slice_get-get_or, slice_get_within, get_or_from_slice_get}
 use Rattle.scenario_values.specs.Scenario.{Entries}
 use Rattle.action_eval.specs.declared.rig.Rig.{Rig}
-use Rattle.target_trait.specs.Outcomes.{verdict_with}
 use Rattle.target_trait.specs.declared.judgement.Verdict.{Verdict}
 use Rattle.target_trait.specs.declared.judgement.Verdict.TheVariants as verdict
 use Rattle.plan_gen.specs.PlanList.{further_list}
 use Rattle.action_eval.specs.Answers.{given_of}
 use Rattle.grown_plans.specs.Runs.{Met, run}
 use Rattle.grown_plans.proofs.Onward.{no_seed_needed}
-use Rattle.grown_plans.specs.GrownPlans.{Subject, given_for, rigs_of, run_of_plan, scenario_of, level, levels, onward, grown, beyond, reached}
+use Rattle.grown_plans.specs.GrownPlans.{given_for, rigs_of, run_of_plan, scenario_of, level, levels, onward, grown, beyond, reached}
 use Rattle.grown_runs.specs.Grown.{level_sizes, reached_each}
 use Rattle.campaign_core.proofs.Grown.{list_is}
-use Rattle.grown_plans.specs.Promises.{IsLawful, IsCause, lesser, verdict_of_plan, verdict_of_rigs}
-use Rattle.std.proofs.lemmas.List.Elements.{All-from_recursion, Contains-append_left, Contains-append_right}
-use Rattle.grown_plans.proofs.Members.{contains_head, contains_map}
+use Rattle.grown_plans.specs.Promises.{IsLawful, IsCause, verdict_of_plan}
+use Rattle.std.proofs.lemmas.List.Elements.{All-from_recursion}
 use Rattle.grown_plans.proofs.Paths.{some_is}
-use Rattle.grown_runs.specs.GrownRuns.{over, verdict_by, fails_with, cause_by, cause_at}
-use Rattle.result_book.specs.Verdicts.{verdicts_from, numbered}
+use Rattle.grown_runs.specs.GrownRuns.{over, cause_at}
+use Rattle.result_book.specs.Verdicts.{numbered}
 use Rattle.result_book.specs.FirstFailures.{first_failures}
 use Rattle.report.specs.Reports.{FindingFacts, CauseFacts, GrowthFacts}
 use Rattle.campaign_core.specs.Headline.{Campaign, census, grower, plans, plans_to, say, growth, report, told_in, EachIsMinimal, KeepsPromises}
 use Rattle.campaign_core.specs.Findings.{cause_of, finding, growth_of, reduction, IsCauseAmong, ReducesToMinimal}
 use Rattle.campaign_core.proofs.Causes.{causes_are_causes}
-use Rattle.campaign_core.proofs.Findings.{first_at, found_of, further, once_each, reduction_at, verdict_at}
+use Rattle.campaign_core.proofs.Findings.{Causes, first_at, found_of, further, once_each, reduction_at, verdict_at}
 use Rattle.campaign_core.specs.promises.Behaviours.{times_hit}
-use Rattle.campaign_core.specs.promises.Told.{HasVerdict, Told}
-use Rattle.campaign_core.specs.promises.Promises.{Complete, HasFewest, IsFirst, Promises, Sound, nothing_unseen}
+use Rattle.campaign_core.specs.promises.Told.{HasBehaviour, HasVerdict, Told, count_of_levels}
+use Rattle.campaign_core.specs.promises.Promises.{Complete, HasFewest, IsFirst, IsSticky, Promises, Sound, nothing_unseen}
 use Rattle.campaign_core.specs.promises.Promises.{IsCause as IsToldCause}
-use Rattle.campaign_core.specs.promises.Further.{Further, IsOfItsNumber, IsReduction}
+use Rattle.campaign_core.specs.promises.Further.{Further, IsReduction}
 use Rattle.campaign_core.proofs.PromisesLemmas.Failures.{of_level, has_cause, fewest}
 use Rattle.campaign_core.proofs.PromisesLemmas.Least.{no_lesser}
+use Rattle.campaign_core.proofs.PromisesLemmas.InPlace.{grown_can_be_left}
+use Rattle.campaign_core.proofs.PromisesLemmas.LeastCauses.{each_least, in_order, least_causes, listed}
+use Rattle.campaign_core.proofs.PromisesLemmas.LeftOut.{CanBeLeft}
 use Rattle.campaign_core.proofs.PromisesLemmas.Numbers.{all_at, get_front, get_map, get_unmapped}
 use Rattle.grown_plans.proofs.Levels.{level_grown}
 use Rattle.campaign_core.proofs.PromisesLemmas.ByLevel.{by_level, levels_flat}
 use Rattle.campaign_core.proofs.PromisesLemmas.Counted.{level_sizes as sizes_of_levels, size_beyond}
 use Rattle.campaign_core.proofs.PromisesLemmas.Facts.{at_point, census_counts, first_level, long_range, reached_by, without_faults}
+use Rattle.campaign_core.proofs.PromisesLemmas.Sticky.{each_sticky, onward_sticky}
 use Rattle.campaign_core.proofs.PromisesLemmas.KeepsEach.{keeps_each}
-use Rattle.campaign_core.proofs.PromisesLemmas.Grew.{Grew, IsCauseOf, all_numbers, behaves_at, counted, twice, skipped_none, lists as as_lists, told_behaves, told_judged, whole_told, onward_told, most_reached}
-
--- ---- causes that are listed
-
-none_fails : (code : ℕ) (v : Verdict) → v ≢ verdict.Fail code → not (fails_with code v) ≡ true
-none_fails code verdict.Pass n = refl
-none_fails code verdict.Unresolved n = refl
-none_fails code (verdict.Fail other) n = by_test (other == code) refl
-  where
-    by_test : (b : Bool) → (other == code) ≡ b → not (other == code) ≡ true
-    by_test true e = let same : other ≡ code = grind (arith, nat_tests, e) in absurd (n (ap (λ (c : ℕ). verdict.Fail c) same))
-    by_test false e = ap not e
-
-both : (a b : Bool) → a ≡ true → b ≡ true → (a && b) ≡ true
-both a b e h = ap (λ c. c && b) e ∙ h
-
-all_pass : (t : Subject) (seed stream code : ℕ) (lists : List (List Rig)) → AllByRecursion (λ rigs. verdict_of_rigs t seed stream rigs ≢ verdict.Fail code) lists
-    → list_all (λ less. not (fails_with code (verdict_by t seed stream less))) lists ≡ true
-unfolding verdict_with
-all_pass t seed stream code [] a = refl
-all_pass t seed stream code (less ∷ lists) a =
-    both (not (fails_with code (verdict_by t seed stream less))) (list_all (λ less. not (fails_with code (verdict_by t seed stream less))) lists)
-    (none_fails code (verdict_by t seed stream less) a.0) (all_pass t seed stream code lists a.1)
-
--- the plan of a number, as a cause
-pub cause_here : (t : Subject) (seed n code : ℕ) (plan : List Rig) → IsCause t seed n code plan → cause_at t seed n plan ≡ (n, code) ∷ []
-unfolding verdict_with
-cause_here t seed n code plan cause =
-    ap (cause_by t seed n (rigs_of plan)) cause.0 ∙ ap (λ b. cond b ((n, code) ∷ []) []) (all_pass t seed n code (lesser (rigs_of plan)) cause.1)
-
-pub in_flat : {A B : Type 0} (f : ℕ → A → List B) (d : A) (xs : List A) (from count k : ℕ) (x : A) (y : B) → k < count → slice_get xs (from + k) ≡ Some x → f (from + k) x ≡ y ∷ []
-    → Contains (flat_map (λ n. f n (slice_index_or xs n d)) (range_with_len from count)) y
-in_flat f d xs from zero k x y low at is = absurd (omega (arith, low))
-in_flat {A} {B} f d xs from (suc count) zero x y low at is =
-    let same : from + 0 ≡ from = omega arith in
-    let here : slice_get xs from ≡ Some x = ap (λ n. slice_get xs n) (sym same) ∙ at in
-    let one : f from (slice_index_or xs from d) ≡ y ∷ [] = ap (f from) (get_or_from_slice_get xs from x d here) ∙ ap (λ n. f n x) (sym same) ∙ is in
-    Contains-append_left (f from (slice_index_or xs from d)) (flat_map (λ n. f n (slice_index_or xs n d)) (range_with_len (from + 1) count)) y
-    (subst (λ (l : List B). Contains l y) (sym one) (contains_head y []))
-in_flat {A} {B} f d xs from (suc count) (suc k) x y low at is =
-    let same : from + suc k ≡ from + 1 + k = omega arith in
-    Contains-append_right (f from (slice_index_or xs from d)) (flat_map (λ n. f n (slice_index_or xs n d)) (range_with_len (from + 1) count)) y
-    (in_flat f d xs (from + 1) count k x y (omega (arith, low)) (ap (λ n. slice_get xs n) (sym same) ∙ at) (ap (λ n. f n x) (sym same) ∙ is))
+use Rattle.campaign_core.proofs.PromisesLemmas.Grew.{Grew, IsCauseOf, all_numbers, behaves_at, counted, twice, skipped_none, lists as as_lists, told_behaves, told_judged, whole_told, sticky_told, most_reached}
 
 -- ---- the facts of a campaign
 
@@ -122,22 +81,6 @@ module _ (k : Campaign) (d : ℕ) (is : Some d ≡ k.given.depth) where
   is_cause_of c h =
       (slice_index_or (grown (grower k) d) c.number [], slice_get-get_or (grown (grower k) d) c.number [] h.among, h.least)
 
-  listed_cause : (n code : ℕ) (plan : List Rig) → slice_get (grown (grower k) d) n ≡ Some plan → IsCause (grower k) k.given.plans.seed n code plan
-      → (c : CauseFacts) × Contains grew.causes c × (c.number ≡ n) × (c.code ≡ code)
-  listed_cause n code plan at cause =
-      let plans_grown : List (List Rig) = grown (grower k) d in
-      let low : n < length plans_grown = slice_get_within plans_grown n plan at in
-      let zero_plus : 0 + n ≡ n = omega arith in
-      let one : cause_at (grower k) k.given.plans.seed (0 + n) plan ≡ (n, code) ∷ [] =
-      ap (λ i. cause_at (grower k) k.given.plans.seed i plan) zero_plus ∙ cause_here (grower k) k.given.plans.seed n code plan cause
-      in (
-        cause_of (plans k) (n, code),
-        contains_map (cause_of (plans k)) (over (cause_at (grower k) k.given.plans.seed) plans_grown 0 (length plans_grown)) (n, code)
-            (in_flat (cause_at (grower k) k.given.plans.seed) [] plans_grown 0 (length plans_grown) n plan (n, code) low (ap (λ i. slice_get plans_grown i) zero_plus ∙ at) one),
-        refl,
-        refl,
-      )
-
   listed_causes : All (IsCauseAmong (grower k) k.given.plans.seed (grown (grower k) d)) grew.causes
   listed_causes = causes_are_causes k (Some d) is
 
@@ -152,7 +95,7 @@ module _ (k : Campaign) (d : ℕ) (is : Some d ≡ k.given.depth) where
     reaches = refl;
     causes_are = all_each (IsCauseOf (grower k) d (told_in k grew)) grew.causes
         (λ n c low. is_cause_of (slice_index_or grew.causes n c) (listed_causes n c low));
-    causes_listed = listed_cause;
+    causes_listed = λ n code plan at is. (cause_of (plans k) (n, code), listed (grower k) (told_in k grew) (plans k) (grown (grower k) d) refl n code plan at is, refl, refl);
   }
 
 -- ---- findings
@@ -213,6 +156,11 @@ module _ (k : Campaign) (d : ℕ) (is_depth : Some d ≡ k.given.depth) (l : IsL
       let comes = comes_at k d is_depth 0 [] first_plan in
       comes ∙ ap (λ (v : Verdict). Some v) (sym (get_or_from_slice_get (report k).verdicts 0 (verdict_of_plan (grower k) k.given.plans.seed 0 []) verdict.Unresolved comes))
 
+  sticky_at : (number : ℕ) (hits : List Met) → count_of_levels told ≤ number → HasBehaviour told number hits → IsSticky d hits
+  sticky_at =
+      let g = has_grown k d is_depth in
+      each_sticky (grower k) l (levels (grower k) d) (onward (grower k) d) told (as_lists (grower k) l d told g) d (onward_sticky (grower k) l d)
+
   sound : Sound (grower k) d told
   sound =
       let g = has_grown k d is_depth in
@@ -230,6 +178,7 @@ module _ (k : Campaign) (d : ℕ) (is_depth : Some d ≡ k.given.depth) (l : IsL
             reached_by (grower k) told (grown (grower k) d) (grown (grower k) d) refl (λ plan there. there) point times (at_point (reached (grower k) d) (length k.points) point times at) many;
         findings = first_at k k.label (census k) (plans k) (growth k) told.growth told.behaviours minimal;
         once = once_each k k.label (census k) (plans k) (growth k) told.growth told.behaviours minimal;
+        sticky = sticky_at;
         causes = cause_at_place;
       }
 
@@ -238,7 +187,7 @@ module _ (k : Campaign) (d : ℕ) (is_depth : Some d ≡ k.given.depth) (l : IsL
       let g = has_grown k d is_depth in
       record {
         nothing_skipped = λ hits b few. inl (skipped_none (grower k) l d told g hits b few);
-        from_then_on = λ before after hit text ret b few on. inl (onward_told (grower k) l d told g before after hit text ret b few on);
+        from_then_on = λ hits b sticky. inl (sticky_told (grower k) l d told g hits b sticky);
         whole = λ none hits b. inl (whole_told (grower k) l d told g none hits b);
         found = found_of k k.label (census k) (plans k) (growth k) told.growth told.behaviours minimal;
         caused = λ number code hits low b comes. inl (has_cause (grower k) l d told g number code hits low b comes);
@@ -260,13 +209,18 @@ module _ (k : Campaign) (d : ℕ) (is_depth : Some d ≡ k.given.depth) (l : IsL
         most = most_reached (grower k) l d told g;
       }
 
-  -- a cause stands beside its plan
-  named_at : (n : ℕ) (none : CauseFacts) → n < length told.growth.causes → IsOfItsNumber (plans k) (slice_index_or told.growth.causes n none)
-  named_at n none low =
-      let among : IsCauseAmong (grower k) k.given.plans.seed (grown (grower k) d) (slice_index_or told.growth.causes n none) = listed_causes k d is_depth n none low in
-      let number : ℕ = (slice_index_or told.growth.causes n none).number in
-      plan_at k d is_depth number (slice_index_or (grown (grower k) d) number []) (slice_get-get_or (grown (grower k) d) number [] among.among)
-      ∙ ap (λ (s : Entries). Some s) (sym among.scenario)
+  -- the causes
+  can : AllByRecursion (λ plan. CanBeLeft (grower k) (rigs_of plan)) (grown (grower k) d)
+  can = grown_can_be_left (grower k) l few_hits d low_depth
+
+  causes_are : Causes (grower k) (plans k) told
+  causes_are = record {
+    least = least_causes (grower k) l told (plans k) (grown (grower k) d) can (plan_at k d is_depth) (listed_causes k d is_depth);
+    each = λ number code s below.
+        let all = all_numbers (grower k) l d told (has_grown k d is_depth) in
+        each_least (grower k) l told (plans k) (grown (grower k) d) can (plan_at k d is_depth) refl number code s (omega (arith, below, all));
+    in_order = in_order (grower k) told (plans k) (grown (grower k) d) refl;
+  }
 
   -- the run of a plan's scenario is the plan's
   plays_at : (number : ℕ) (s : Entries) (hits : List Met) → slice_get (plans k) number ≡ Some s → slice_get told.behaviours number ≡ Some hits
@@ -280,7 +234,7 @@ module _ (k : Campaign) (d : ℕ) (is_depth : Some d ≡ k.given.depth) (l : IsL
       ∙ of.2
 
   further_in : Further (grower k) (plans k) told
-  further_in = further k k.label (census k) (plans k) (growth k) told.growth told.behaviours minimal plays_at named_at
+  further_in = further k k.label (census k) (plans k) (growth k) told.growth told.behaviours minimal plays_at causes_are
 
 -- Of a campaign with a depth.
 pub keeps_promises : (k : Campaign) → IsLawful (grower k) → k.given.max_hits < 2 ^ 32 → IfSome k.given.depth (λ depth. depth ≤ 64) → EachIsMinimal k → KeepsPromises k

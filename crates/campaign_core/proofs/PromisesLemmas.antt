@@ -8,6 +8,10 @@ pub mod Faults
 pub mod Failures
 pub mod Least
 pub mod KeptRigs
+pub mod LeftOut
+pub mod InPlace
+pub mod LeastCauses
+pub mod Sticky
 pub mod Counted
 pub mod KeepsEach
 pub mod Facts

@@ -27,15 +27,19 @@ pub enum Promise {
     IsFewest,
     /// Each number of the levels that fails has a listed cause, by faults among its own.
     IsCaused,
-    /// A cause fails with its code, and one of the levels doesn't without any one of its faults.
+    /// A cause fails with its code, and doesn't without any one of its faults, a sticky one too.
     IsCause,
+    /// Each number that fails, and doesn't without any one of its faults, is listed as a cause, once, in the order of the numbers.
+    AreListed,
+    /// In the behaviour of a number behind the levels, fewer faults act than the depth says, then a hit returns, and later only all hits of its point do.
+    AreSticky,
     /// The number that is printed of a point is the most hits of it in the behaviour of a number.
     IsReached,
     /// At each number of a level as many faults act as the level's number says, and the level after the last one would have as many as `beyond` says.
     HasSizes,
 }
 
-pub const PROMISES: [Promise; 11] = [
+pub const PROMISES: [Promise; 13] = [
     Promise::NothingSkipped,
     Promise::NothingTwice,
     Promise::FromThenOn,
@@ -45,6 +49,8 @@ pub const PROMISES: [Promise; 11] = [
     Promise::IsFewest,
     Promise::IsCaused,
     Promise::IsCause,
+    Promise::AreListed,
+    Promise::AreSticky,
     Promise::IsReached,
     Promise::HasSizes,
 ];
@@ -73,6 +79,22 @@ fn without(alloc: Global, faults: &[Fault], left: usize) -> Result<Vec<Fault>, A
     let mut others = Vec::from_slice(alloc, faults)?;
     others.remove(left);
     Ok(others)
+}
+
+/// Makes the last of these faults sticky. A return at the hit of its point just before it is a part of it then, as `1*return->return` is `return`.
+fn make_last_sticky(faults: &mut Vec<Fault>) -> Result<(), AllocError> {
+    let Some(mut sticky) = faults.pop() else {
+        return Ok(());
+    };
+    sticky.last = None;
+    while let Some(place) = faults.iter().position(|it| {
+        it.point == sticky.point && it.first + 1 == sticky.first && it.reply == Reply::Return
+    }) {
+        faults.remove(place);
+        sticky.first -= 1;
+    }
+    faults.push(sticky)?;
+    Ok(())
 }
 
 /// Whether each of the first faults is one of the second ones.
@@ -243,15 +265,20 @@ impl Checked<'_> {
         Ok(true)
     }
 
-    fn is_cause(&self, alloc: Global, number: u32, code: u32) -> Result<bool, AllocError> {
-        if number as usize >= self.of_all() || !self.fails_with(number, code) {
-            return Ok(false);
-        }
-        if number as usize >= self.of_levels() {
-            return Ok(true);
-        }
+    /// The faults of a number: those that act in its behaviour, and behind the levels as many as the depth says, of which the last one is sticky.
+    fn own_faults(&self, alloc: Global, number: u32) -> Result<Vec<Fault>, AllocError> {
         let hits = self.told.behaviours[number as usize].hits.as_slice();
-        let own = faults_of(alloc, hits)?;
+        let mut own = faults_of(alloc, hits)?;
+        if number as usize >= self.of_levels() {
+            own.truncate(self.told.depth as usize);
+            make_last_sticky(&mut own)?;
+        }
+        Ok(own)
+    }
+
+    /// Whether a number doesn't fail with the code without any one of its faults.
+    fn needs_each(&self, alloc: Global, number: u32, code: u32) -> Result<bool, AllocError> {
+        let own = self.own_faults(alloc, number)?;
         for left in 0..own.len() {
             let others = without(alloc, own.as_slice(), left)?;
             if verdict_by(self.component, others.as_slice()) == Verdict::Fail(code) {
@@ -259,6 +286,34 @@ impl Checked<'_> {
             }
         }
         Ok(true)
+    }
+
+    fn is_cause(&self, alloc: Global, number: u32, code: u32) -> Result<bool, AllocError> {
+        let fails = (number as usize) < self.of_all() && self.fails_with(number, code);
+        Ok(fails && self.needs_each(alloc, number, code)?)
+    }
+
+    fn lists_each(&self, alloc: Global) -> Result<bool, AllocError> {
+        for (number, told) in self.told.behaviours.iter().enumerate() {
+            let Verdict::Fail(code) = told.verdict else {
+                continue;
+            };
+            let number = number as u32;
+            if self.needs_each(alloc, number, code)?
+                && !self.told.causes.as_slice().contains(&(number, code))
+            {
+                return Ok(false);
+            }
+        }
+        let causes = self.told.causes.as_slice();
+        Ok(causes.windows(2).all(|two| two[0].0 < two[1].0))
+    }
+
+    fn is_sticky(&self) -> bool {
+        self.told.behaviours.iter().skip(self.of_levels()).all(|told| returns_from_one_on(
+            told.hits.as_slice(),
+            self.told.depth,
+        ))
     }
 
     fn lists_causes(&self, alloc: Global) -> Result<bool, AllocError> {
@@ -339,6 +394,8 @@ impl Checked<'_> {
             }
             Promise::IsCaused => self.is_caused(alloc),
             Promise::IsCause => self.lists_causes(alloc),
+            Promise::AreListed => self.lists_each(alloc),
+            Promise::AreSticky => Ok(self.is_sticky()),
             Promise::IsReached => Ok(self.is_reached()),
             Promise::HasSizes => Ok(self.has_sizes()),
         }

@@ -295,6 +295,9 @@ fn is_worked_out<R: Abort>(rt: &R, told: &Told) -> Result<(), Fail> {
 enum Wrong {
     Nothing,
     CauseLeftOut,
+    /// The cause with a sticky fault is left out.
+    StickyCauseLeftOut,
+    CauseTwice,
     /// A cause is listed by its number with the code of the other one.
     CauseOfAnotherCode,
     /// Number 7 is listed, which fails without its second fault too.
@@ -319,12 +322,17 @@ enum Wrong {
 }
 
 /// Each wrong fact, and the promises that it breaks.
-const WRONG: [(Wrong, &[Promise]); 18] = [
+const WRONG: [(Wrong, &[Promise]); 20] = [
     (Wrong::Nothing, &[]),
-    (Wrong::CauseLeftOut, &[Promise::IsCaused]),
+    (
+        Wrong::CauseLeftOut,
+        &[Promise::IsCaused, Promise::AreListed],
+    ),
+    (Wrong::StickyCauseLeftOut, &[Promise::AreListed]),
+    (Wrong::CauseTwice, &[Promise::AreListed]),
     (
         Wrong::CauseOfAnotherCode,
-        &[Promise::IsCaused, Promise::IsCause],
+        &[Promise::IsCaused, Promise::IsCause, Promise::AreListed],
     ),
     (Wrong::CauseWithNeedlessFault, &[Promise::IsCause]),
     (Wrong::BeyondOneMore, &[Promise::HasSizes]),
@@ -346,7 +354,10 @@ const WRONG: [(Wrong, &[Promise]); 18] = [
     (Wrong::VerdictOfAnother, &[Promise::NothingSkipped]),
     (Wrong::NumberSkipped, &[Promise::NothingSkipped]),
     (Wrong::OnwardSkipped, &[Promise::FromThenOn]),
-    (Wrong::NumberTwice, &[Promise::NothingTwice]),
+    (
+        Wrong::NumberTwice,
+        &[Promise::NothingTwice, Promise::AreSticky],
+    ),
 ];
 
 /// Makes a fact of the causes, sizes or numbers wrong.
@@ -356,7 +367,15 @@ fn spoil(alloc: Global, told: &mut Told, wrong: Wrong) -> Result<(), AllocError>
             told.causes.remove(0);
         }
         Wrong::CauseOfAnotherCode => told.causes[0] = (3, 1),
-        Wrong::CauseWithNeedlessFault => told.causes.push((7, 2))?,
+        Wrong::StickyCauseLeftOut => {
+            told.causes.pop();
+        }
+        Wrong::CauseTwice => {
+            told.causes = Vec::from_slice(alloc, &[(3, 2), (3, 2), (9, 1)])?;
+        }
+        Wrong::CauseWithNeedlessFault => {
+            told.causes = Vec::from_slice(alloc, &[(3, 2), (7, 2), (9, 1)])?;
+        }
         Wrong::BeyondOneMore => told.beyond += 1,
         Wrong::BeyondNone => told.beyond = 0,
         Wrong::LevelOfAnother => told.levels = Vec::from_slice(alloc, &[1, 5, 3])?,
@@ -462,11 +481,14 @@ fn a_fault_that_is_not_needed_is_left_out(rt: HostRuntime) -> Result<(), Fail> {
         has_cut: false,
     };
     keeps_promises(&rt, alloc, &component, 2, Source::Report)?;
-    let told = told_of(&rt, alloc, &component, 2, Source::Report)?;
+    let mut told = told_of(&rt, alloc, &component, 2, Source::Report)?;
+    assert_eq!(&rt; told.causes.as_slice(), [(10, 1)].as_slice());
+    told.causes = Vec::from_slice(alloc, &[(9, 1), (10, 1)])?;
+    let broken = broken_promises(alloc, &component, &told)?;
+    assert_eq!(&rt; broken.as_slice(), [Promise::IsCause].as_slice());
     let Some(findings) = &told.findings else {
         return Err(Fail::from("no findings"));
     };
-    assert_eq!(&rt; told.causes.as_slice(), [(10, 1)].as_slice());
     assert_eq!(&rt; findings.len(), 1);
     assert_eq!(&rt; findings[0].number, 9);
     assert_eq!(&rt;

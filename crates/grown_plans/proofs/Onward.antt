@@ -10,14 +10,14 @@ use Rattle.action_eval.specs.declared.rig.Kind.TheVariants.{OnceReturn, OnwardRe
 use Rattle.action_eval.specs.Answers.{Reply, Go, Return}
 use Rattle.action_eval.specs.RiggedScenario.{rig, text_of}
 use Rattle.plan_gen.specs.RiggedAnswers.{is_onward, acts_at, reply_by}
-use Rattle.grown_plans.specs.Runs.{Met, met}
+use Rattle.grown_plans.specs.Runs.{Met, met, acting}
 use Rattle.grown_plans.specs.GrownPlans.{Subject, run_of_plan, hits_after, is_once_return, is_hit_again, onward_of, level, levels, onward, grown}
-use Rattle.grown_plans.specs.Promises.{EachTwo, IsLawful, RunsNothingTwice, NeedsNoSeed}
+use Rattle.grown_plans.specs.Promises.{EachTwo, IsLawful, ReturnsOnward, RunsNothingTwice, NeedsNoSeed}
 use Rattle.grown_plans.proofs.Members.{all_weaker, all_append, all_left, all_right, all_both, all_flat, two_append, two_flat, two_weaker, two_with}
-use Rattle.grown_plans.proofs.Paths.{IsPath, Numbered, Fresh, AnsweredBy, times_met, times_both, times_push, parted, path_numbered, hit_fresh, rest_fresh, hit_is}
+use Rattle.grown_plans.proofs.Paths.{IsPath, Numbered, Fresh, AnsweredBy, times_met, times_both, times_push, parted, path_numbered, hit_fresh, rest_fresh, rest_later, hit_is}
 use Rattle.grown_plans.proofs.RiggedScenarios.{CanAct, ActApart, reply_here, reply_there, kind_once, same_site}
 use Rattle.grown_plans.proofs.PlanRuns.{answers_of, plan_path, plan_answered, needs_no_seed}
-use Rattle.grown_plans.proofs.Faults.{noted, faults, faults_both, faults_none, faults_onto, AllGo, acts_self, acts_not, acts_once, AreAmong, can_act, faults_among, among_quiet, EndsIn, last_fault}
+use Rattle.grown_plans.proofs.Faults.{noted, faults, faults_both, faults_none, faults_length, faults_onto, AllGo, acts_self, acts_not, acts_once, AreAmong, can_act, faults_among, among_quiet, EndsIn, last_fault}
 use Rattle.grown_plans.proofs.Levels.{IsGrown, hits_after_split, level_grown}
 use Rattle.grown_plans.proofs.Apart.{Differ, RunApart, IsGrownTo, levels_grown, levels_run_apart, level_apart}
 
@@ -152,13 +152,52 @@ GoesAsOnce t (r ∷ rs) =
     (is_onward r.kind ≡ true) × (b : List Met) × (m : Met) × (n : Met) × (x : List Met) × (y : List Met) × (run_of_plan t (r ∷ rs) ≡ b ++ m ∷ x)
     × (run_of_plan t (rig r.site (OnceReturn (text_of r.kind)) ∷ rs) ≡ b ++ n ∷ y) × (m.site ≡ next_hit r.site) × (n.site ≡ next_hit r.site)
 
+-- A return at a hit, after so many acting faults, and at each later hit of its point; no other fault acts later.
+pub record ReturnsFrom (n : ℕ) (ms : List Met) : Type 0 where
+  pub before : List Met
+  pub hit : Met
+  pub after : List Met
+  pub text : Option (List ℕ)
+  pub split : ms ≡ before ++ hit ∷ after
+  pub returns : hit.reply ≡ Return text
+  pub earlier : suc (acting before) ≡ n
+  pub onward : ReturnsOnward text hit.site.point after
+
 pub record IsOnwardOf (t : Subject) (leaf plan : List Rig) : Type 0 where
   pub can : CanAct plan
+  pub sticky : ReturnsFrom (length leaf) (run_of_plan t plan)
   pub further : List Rig
   pub next : Rig
   pub tells : faults [] (run_of_plan t plan) ≡ further ++ next ∷ leaf
   pub alike : RunsAlike t plan
   pub goes : GoesAsOnce t plan
+
+not_point : (p q : ℕ) → (q == p) ≡ false → p ≡ q → ⊥
+not_point p q e same = let yes : (q == p) ≡ true = grind (arith, nat_tests, same) in absurd (let no : true ≡ false = sym yes ∙ e in cc)
+
+-- behind its hit, a sticky fault answers each hit of its point, and no earlier fault acts
+returns_on : (t : Subject) (text : Option (List ℕ)) (rs : List Rig) (b : List Met) (m : Met) (a : List Met) → IsPath t.asks t.limit [] (b ++ m ∷ a) → AreAmong rs b
+    → AnsweredBy (answers_of (from_then text m.site ∷ rs)) a → ReturnsOnward text m.site.point a
+returns_on t text rs b m a path among answered =
+    all_weaker (λ (x : Met). ((x.reply ≡ answers_of (from_then text m.site ∷ rs) x.site) × Fresh x.site b) × (times_met x.site.point (b ++ m ∷ []) < x.site.hit))
+    (λ (x : Met). x.reply ≡ cond (x.site.point == m.site.point) (Return text) Go) (λ x h. h.0.0 ∙ by_point x h.0.1 h.1 (x.site.point == m.site.point) refl) a
+    (all_both _ _ a (all_both _ _ a answered (rest_fresh t.asks t.limit b (m ∷ a) path).1)
+    (rest_later t.asks t.limit (b ++ m ∷ []) a (subst (λ (ms : List Met). IsPath t.asks t.limit [] ms) (sym (append_assoc b (m ∷ []) a)) path)))
+  where
+    hit : m.site.hit ≡ times_met m.site.point b + 1
+    hit = hit_is t.asks t.limit b m a path
+
+    by_point : (x : Met) → Fresh x.site b → times_met x.site.point (b ++ m ∷ []) < x.site.hit → (c : Bool) → (x.site.point == m.site.point) ≡ c
+        → answers_of (from_then text m.site ∷ rs) x.site ≡ cond c (Return text) Go
+    by_point x fresh late true e =
+        let same : m.site.point ≡ x.site.point = grind (arith, nat_tests, e) in
+        let own : (m.site.point == x.site.point) ≡ true = grind (arith, nat_tests, e) in
+        let pushed : times_met x.site.point (b ++ m ∷ []) ≡ times_met x.site.point b + 1 = times_push x.site.point b m ∙ ap (λ c. times_met x.site.point b + cond c 1 0) own in
+        let times : times_met m.site.point b ≡ times_met x.site.point b = ap (λ p. times_met p b) same in
+        reply_here x.site.point x.site.hit (from_then text m.site) rs (acts_from text m.site x.site.point x.site.hit same (omega (arith, late, pushed, times, hit)))
+    by_point x fresh late false e =
+        reply_there x.site.point x.site.hit (from_then text m.site) rs (acts_not_yet text m.site x.site.point x.site.hit (λ same. absurd (not_point m.site.point x.site.point e same)))
+        ∙ among_quiet rs b x.site among fresh
 
 -- a hit of a point, and further ones of other points, are one of it
 times_one : (p : ℕ) (m : Met) (ms : List Met) → p ≡ m.site.point → AllByRecursion (λ (x : Met). (x.site.point == p) ≡ false) ms → times_met p (m ∷ ms) ≡ 1
@@ -178,9 +217,6 @@ times_one p m ms e h =
         let both : times_met p (x ∷ xs) ≡ times_met p (x ∷ []) + times_met p xs = times_both p (x ∷ []) xs in
         let start : times_met p [] ≡ 0 = refl in
         omega (arith, one, rest, both, start)
-
-not_point : (p q : ℕ) → (q == p) ≡ false → p ≡ q → ⊥
-not_point p q e same = let yes : (q == p) ≡ true = grind (arith, nat_tests, same) in absurd (let no : true ≡ false = sym yes ∙ e in cc)
 
 once_return : (k : Kind) → k ≡ OnceReturn (text_of k) → is_onward k ≡ false
 once_return k e = ap is_onward e
@@ -246,8 +282,26 @@ onward_runs t l n r rs g kind h f =
     let same : b ≡ h.b =
     same_split s b h.b (met s (reply_by r.kind)) h.m rest h.a (sym own ∙ h.split) refl h.site (hit_fresh t.asks t.limit b (met s (reply_by r.kind)) rest own_path) fresh
     in
+    let after : List Met = x ++ met two.site (Return text) ∷ parts.0 in
+    let whole_run : run_of_plan t plan ≡ h.b ++ h.m ∷ after = run ∙ append_assoc h.b (h.m ∷ x) (met two.site (Return text) ∷ parts.0) in
+    let all_answered : AnsweredBy (answers_of plan) (h.b ++ h.m ∷ after) = subst (AnsweredBy (answers_of plan)) whole_run (plan_answered t l plan can) in
+    let whole_path : IsPath t.asks t.limit [] (h.b ++ h.m ∷ after) = subst (λ (ms : List Met). IsPath t.asks t.limit [] ms) whole_run (plan_path t plan) in
+    let after_answered : AnsweredBy (answers_of (from_then text h.m.site ∷ rs)) after =
+    subst (λ (z : Site). AnsweredBy (answers_of (from_then text z ∷ rs)) after) (sym h.site) (all_right (λ m. m.reply ≡ answers_of plan m.site) h.b (h.m ∷ after) all_answered).1
+    in
+    let first_faults : acting h.b ≡ length rs = sym (faults_length h.b) ∙ ap (λ (z : List Rig). length z) h.earlier in
     record {
       can = can;
+      sticky = record {
+        before = h.b;
+        hit = h.m;
+        after = after;
+        text = text;
+        split = whole_run;
+        returns = at;
+        earlier = ap suc first_faults;
+        onward = returns_on t text rs h.b h.m after whole_path among after_answered;
+      };
       further = onto.0;
       next = rig two.site (OnceReturn text);
       goes = (
@@ -266,9 +320,9 @@ onward_runs t l n r rs g kind h f =
         h.b,
         h.m,
         met s Go,
-        x ++ met two.site (Return text) ∷ parts.0,
+        after,
         past,
-        run ∙ append_assoc h.b (h.m ∷ x) (met two.site (Return text) ∷ parts.0),
+        whole_run,
         parents ∙ ap (λ (l : List Met). l ++ met s Go ∷ past) same,
         h.site,
         refl,
@@ -335,10 +389,10 @@ onward_apart_each t l d =
     (λ a b h. all_weaker (IsOnwardOf t a) _ (λ u x. all_weaker (IsOnwardOf t b) (RunApart t u) (λ v y. leaves_apart t d a b u v h.0 h.1 h.2 x y) (onward_of t b) (onwards_of t l d b h.1)) (onward_of t a) (onwards_of t l d a h.0))
     (level t d) (two_with (IsGrown t d) Differ (level t d) (level_grown t l d) (level_apart t l d)))
 
-abbrev IsOnwardAt : Subject → ℕ → List Rig → Type 0
+abbrev pub IsOnwardAt : Subject → ℕ → List Rig → Type 0
 IsOnwardAt t d plan = (leaf : List Rig) × IsGrown t d leaf × IsOnwardOf t leaf plan
 
-onward_all : (t : Subject) → IsLawful t → (d : ℕ) → AllByRecursion (IsOnwardAt t d) (onward t d)
+pub onward_all : (t : Subject) → IsLawful t → (d : ℕ) → AllByRecursion (IsOnwardAt t d) (onward t d)
 unfolding onward
 onward_all t l d =
     all_flat (IsOnwardAt t d) (onward_of t) (level t d)

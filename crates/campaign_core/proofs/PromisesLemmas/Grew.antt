@@ -1,18 +1,18 @@
 -- What a report says of plans that grew to a depth: nothing is skipped, nothing is reported twice, and what is reached is the most.
-use Rattle.std.proofs.Common.{◌≡◌, ◌≢◌, ℕ, zero, suc, ◌+◌, ◌<◌, ◌≤◌, Option, Some, List, [], ◌∷◌, ◌++◌, map, length, refl, ap, sym, ◌∙◌, arith}
+use Rattle.std.proofs.Common.{◌≡◌, ◌≢◌, ℕ, zero, suc, ◌+◌, ◌<◌, ◌≤◌, Some, List, [], ◌∷◌, ◌++◌, map, length, refl, ap, sym, ◌∙◌, arith}
 use Rattle.std.specs.Prelude.{Contains, slice_get, sum}
 use Rattle.std.specs.List.{AllByRecursion, range_with_len}
 use Rattle.std.proofs.lemmas.List.{append-nil}
 use Rattle.action_eval.specs.declared.rig.Rig.{Rig}
-use Rattle.action_eval.specs.Answers.{Return}
 use Rattle.grown_plans.specs.Runs.{Met, acting}
 use Rattle.grown_plans.specs.GrownPlans.{Subject, run_of_plan, level, levels, onward, grown, reached, most}
-use Rattle.grown_plans.specs.Promises.{EachTwo, IsOfOne, IsLawful, ReturnsOnward, FaultCase, run_in, verdict_in, IsTried, IsCause, verdict_of_plan}
+use Rattle.grown_plans.specs.Promises.{EachTwo, IsOfOne, IsLawful, FaultCase, run_in, verdict_in, IsTried, IsCause, verdict_of_plan}
 use Rattle.report.specs.Reports.{CauseFacts}
 use Rattle.grown_plans.proofs.Cases.{skips_nothing, is_whole}
 use Rattle.grown_plans.proofs.Onward.{grown_can, runs_nothing_twice}
 use Rattle.grown_plans.proofs.FromThenOn.{tries_onward}
 use Rattle.campaign_core.specs.promises.Behaviours.{IsBehaviourOfKinds, verdict_at_end, times_hit}
+use Rattle.campaign_core.specs.promises.Promises.{IsSticky}
 use Rattle.campaign_core.specs.promises.Told.{HasBehaviour, HasVerdict, Told, count_of_levels, count_of_all, IsToldOnce}
 use Rattle.campaign_core.proofs.PromisesLemmas.Numbers.{sizes_sum}
 use Rattle.campaign_core.proofs.PromisesLemmas.Cases.{case_for, case_runs}
@@ -85,15 +85,12 @@ module _ (t : Subject) (l : IsLawful t) (d : ℕ) (told : Told) (g : Grew t d to
       empty [] e = refl
       empty (x ∷ xs) e = absurd (omega (arith, e))
 
-  pub onward_told : (before after : List Met) (hit : Met) (text : Option (List ℕ)) → hit.reply ≡ Return text → IsBehaviourOfKinds t (before ++ hit ∷ after)
-      → acting before < told.growth.depth → ReturnsOnward text hit.site.point after
-      → IsToldOnce told (count_of_all told) (before ++ hit ∷ after) (verdict_at_end t (before ++ hit ∷ after))
-  onward_told before after hit text ret b few on =
-      let hits : List Met = before ++ hit ∷ after in
+  pub sticky_told : (hits : List Met) → IsBehaviourOfKinds t hits → IsSticky d hits → IsToldOnce told (count_of_all told) hits (verdict_at_end t hits)
+  sticky_told hits b s =
       let c = case_for t l hits b in
-      let e = g.depth in
       of_behaviour (count_of_all told) hits b
-      (once (grown t d) [] (count_of_all told) c (sym (append-nil (grown t d))) all_numbers (tries_onward t l d c before after hit text (case_runs t l hits b) ret (omega (arith, few, e)) on))
+      (once (grown t d) [] (count_of_all told) c (sym (append-nil (grown t d))) all_numbers
+      (tries_onward t l d c s.0 s.2 s.1 s.3 (case_runs t l hits b ∙ s.4) s.6 s.5 s.7))
 
   -- the most hits of a point
   mapped : (point : ℕ) (plans : List (List Rig)) → map (times_hit point) (map (run_of_plan t) plans) ≡ map (λ plan. times_hit point (run_of_plan t plan)) plans

@@ -1,21 +1,21 @@
--- A scenario of rigged hits that act once, with some of its faults and tidied, is that of those hits alone.
-use Rattle.std.proofs.Common.{◌≡◌, ℕ, suc, ◌+◌, ◌-◌, ◌<◌, ◌≤◌, ◌^◌, ◌==◌, ◌⊎◌, inl, inr, Bool, true, false, cond, nat_lt, not, ◌&&◌, List, [], ◌∷◌, ◌++◌, map, Option, Some, None, refl, ap, sym, ◌∙◌, subst, arith, take, length, reverse, append_assoc, length-append}
+-- A scenario of rigged hits, with some of its faults and tidied, is that of those hits alone.
+use Rattle.std.proofs.Common.{◌≡◌, ℕ, suc, ◌+◌, ◌-◌, ◌<◌, ◌≤◌, ◌^◌, ◌==◌, ◌⊎◌, inl, inr, Bool, true, false, cond, nat_lt, not, ◌&&◌, List, [], ◌∷◌, ◌++◌, map, Some, None, refl, ap, sym, ◌∙◌, subst, arith, take, length, reverse, append_assoc, length-append}
 use Rattle.std.specs.List.{AllByRecursion, prefix_len, suffix_len, position_or_len}
 use Rattle.std.proofs.lemmas.Bool.Decides.{nat_tests}
-use Rattle.std.proofs.lemmas.List.{append-nil, reverse-append, take_all}
-use Rattle.std.proofs.Math.Seq.{take-append_seam}
+use Rattle.std.proofs.lemmas.List.{append-nil, reverse-append, take_all, take-append-le}
 use Rattle.scenario_values.specs.declared.term.Term.{Term}
 use Rattle.scenario_values.specs.declared.term.Task.TheVariants as task
-use Rattle.scenario_values.specs.Scenario.{Entries, is_off}
+use Rattle.scenario_values.specs.Scenario.{Entries, all_faults, faults_in, is_off}
 use Rattle.scenario_values.specs.Keep.{holds, switched_off, kept, kept_chain, kept_from, after_chain}
 use Rattle.scenario_values.specs.Tidied.{is_live, is_endless, is_idle, joined_counts, join_by, with_count, joined_onto, joined, without_used, up_to_endless, without_idle_end, tidied_chain, put, tidied}
+use Rattle.scenario_values.proofs.KeptAgain.{after_is}
 use Rattle.action_eval.specs.declared.rig.Site.{Site}
 use Rattle.action_eval.specs.declared.rig.Rig.{Rig}
 use Rattle.action_eval.specs.declared.rig.Kind.{Kind}
 use Rattle.action_eval.specs.declared.rig.Kind.TheVariants.{OnceReturn, OnwardReturn, OncePanic}
 use Rattle.action_eval.specs.RiggedScenario.{full, offs, term_of, rigged, chain_from, done_after, terms_at, entry, entries_from, rigged_scenario}
 use Rattle.plan_gen.specs.RiggedAnswers.{IsBefore, AreInOrder, is_onward}
-use Rattle.grown_plans.proofs.Members.{all_weaker}
+use Rattle.grown_plans.proofs.Members.{all_of, all_right, all_weaker}
 
 -- The rigged hits of a set of numbers, if the first one has number n.
 abbrev pub chosen : List ℕ → ℕ → List Rig → List Rig
@@ -90,23 +90,29 @@ gap_end a = by_test (a == 0)
 
 -- ---- the chain of a point
 
--- rigged hits of one point, after so many hits of it, that act once
+-- rigged hits of one point, after so many hits of it, of which a sticky one is the last
 abbrev AreAt : ℕ → ℕ → List Rig → Type 0
 AreAt p done [] = Unit {0}
-AreAt p done (r ∷ rs) = (r.site.point ≡ p) × (done < r.site.hit) × (r.site.hit < 2 ^ 32) × (is_onward r.kind ≡ false) × AreAt p r.site.hit rs
+AreAt p done (r ∷ rs) = (r.site.point ≡ p) × (done < r.site.hit) × (r.site.hit < 2 ^ 32) × (is_onward r.kind ≡ true → rs ≡ []) × AreAt p r.site.hit rs
 
 -- the same, in whatever order
 abbrev IsAt : ℕ → Rig → Type 0
-IsAt p r = (r.site.point ≡ p) × (is_onward r.kind ≡ false)
+IsAt p r = r.site.point ≡ p
 
 are_each : (p done : ℕ) (rs : List Rig) → AreAt p done rs → AllByRecursion (IsAt p) rs
 are_each p done [] a = tt
-are_each p done (r ∷ rs) a = ((a.0, a.3), are_each p r.site.hit rs a.4)
+are_each p done (r ∷ rs) a = (a.0, are_each p r.site.hit rs a.4)
 
--- the last hit of these, or how many there were before
-abbrev last_of : ℕ → List Rig → ℕ
-last_of done [] = done
-last_of done (r ∷ rs) = last_of r.site.hit rs
+-- an `off` term without a count: what is left of a sticky fault that is left out
+abbrev off_onward : Term
+off_onward = full None task.Off
+
+-- what does nothing at the end of the kept chain of rigged hits, after `base` hits: the faults there that are left out
+abbrev idle_end : List ℕ → ℕ → ℕ → ℕ → List Rig → List Term
+idle_end set n base done [] = offs (done - base)
+idle_end set n base done (r ∷ rs) =
+    cond (holds set n) (idle_end set (n + 1) r.site.hit r.site.hit rs)
+    (cond (is_onward r.kind) (offs (r.site.hit - base - 1) ++ off_onward ∷ []) (idle_end set (n + 1) base r.site.hit rs))
 
 chain_step : (p done : ℕ) (r : Rig) (rs : List Rig) → r.site.point ≡ p → chain_from p done (r ∷ rs) ≡ (offs (r.site.hit - done - 1) ++ term_of r.kind ∷ []) ++ chain_from p r.site.hit rs
 chain_step p done r rs e =
@@ -116,13 +122,21 @@ chain_step p done r rs e =
 record Busy (t : Term) : Type 0 where
   fault : is_off t.task ≡ false
   busy : is_idle t ≡ false
-  switched : switched_off t ≡ off 1
-  once : t.count ≡ Some 1
 
-once_term : (kind : Kind) → is_onward kind ≡ false → Busy (term_of kind)
-once_term (OnceReturn text) e = record { fault = refl; busy = refl; switched = refl; once = refl }
-once_term (OnwardReturn text) e = absurd cc
-once_term OncePanic e = record { fault = refl; busy = refl; switched = refl; once = refl }
+busy_term : (kind : Kind) → Busy (term_of kind)
+busy_term (OnceReturn text) = record { fault = refl; busy = refl }
+busy_term (OnwardReturn text) = record { fault = refl; busy = refl }
+busy_term OncePanic = record { fault = refl; busy = refl }
+
+once_off : (kind : Kind) → is_onward kind ≡ false → switched_off (term_of kind) ≡ off 1
+once_off (OnceReturn text) e = refl
+once_off (OnwardReturn text) e = absurd cc
+once_off OncePanic e = refl
+
+onward_off : (kind : Kind) → is_onward kind ≡ true → switched_off (term_of kind) ≡ off_onward
+onward_off (OnceReturn text) e = absurd cc
+onward_off (OnwardReturn text) e = refl
+onward_off OncePanic e = absurd cc
 
 kept_gap : (set : List ℕ) (n g : ℕ) (t : Term) (ts : List Term) → is_off t.task ≡ false
     → kept_chain set n ((offs g ++ t ∷ []) ++ ts) ≡ offs g ++ cond (holds set n) t (switched_off t) ∷ kept_chain set (n + 1) ts
@@ -152,7 +166,7 @@ unfolding after_chain
 after_own n p done [] a = let goal : n ≡ n + 0 = omega arith in goal
 after_own n p done (r ∷ rs) a =
     ap (after_chain n) (chain_step p done r rs a.0)
-    ∙ after_gap n (r.site.hit - done - 1) (term_of r.kind) (chain_from p r.site.hit rs) (once_term r.kind a.3).fault
+    ∙ after_gap n (r.site.hit - done - 1) (term_of r.kind) (chain_from p r.site.hit rs) (busy_term r.kind).fault
     ∙ after_own (n + 1) p r.site.hit rs a.4
     ∙ (let goal : n + 1 + length rs ≡ n + suc (length rs) = omega arith in goal)
 
@@ -160,9 +174,18 @@ after_own n p done (r ∷ rs) a =
 abbrev kept_after : List ℕ → ℕ → ℕ → Rig → List Rig → List Term
 kept_after set n p r rs = kept_chain set (n + 1) (chain_from p r.site.hit rs)
 
+-- a gap before what is left of a sticky fault stays as it is
+gap_onward : (a : ℕ) → joined (offs a ++ off_onward ∷ []) ≡ offs a ++ off_onward ∷ []
+unfolding joined joined_onto
+gap_onward a = by_test (a == 0)
+  where
+    by_test : (x : Bool) → joined (cond x [] (off a ∷ []) ++ off_onward ∷ []) ≡ cond x [] (off a ∷ []) ++ off_onward ∷ []
+    by_test true = refl
+    by_test false = refl
+
 -- what is kept, joined: the gaps before a fault that is left out, and its own hit, are one with the gap after it
 joined_kept : (set : List ℕ) (n p base done : ℕ) (rs : List Rig) → base ≤ done → AreAt p done rs
-    → joined (offs (done - base) ++ kept_chain set n (chain_from p done rs)) ≡ chain_from p base (chosen set n rs) ++ offs (last_of done rs - last_of base (chosen set n rs))
+    → joined (offs (done - base) ++ kept_chain set n (chain_from p done rs)) ≡ chain_from p base (chosen set n rs) ++ idle_end set n base done rs
 unfolding kept_chain
 joined_kept set n p base done [] low a = gap_end (done - base)
 joined_kept set n p base done (r ∷ rs) low a =
@@ -172,9 +195,12 @@ joined_kept set n p base done (r ∷ rs) low a =
     (joined_kept set (n + 1) p base r.site.hit rs (let above : done < r.site.hit = a.1 in omega (arith, low, above)) a.4)
   where
     busy : Busy (term_of r.kind)
-    busy = once_term r.kind a.3
+    busy = busy_term r.kind
 
-    joins : (t : Term) → joined (offs (done - base) ++ (offs (r.site.hit - done - 1) ++ t ∷ (kept_after set n p r rs))) ≡ joined (offs (r.site.hit - base - 1) ++ t ∷ (kept_after set n p r rs))
+    gap : ℕ
+    gap = r.site.hit - base - 1
+
+    joins : (t : Term) → joined (offs (done - base) ++ (offs (r.site.hit - done - 1) ++ t ∷ (kept_after set n p r rs))) ≡ joined (offs gap ++ t ∷ (kept_after set n p r rs))
     joins t =
         let above : done < r.site.hit = a.1 in
         let small : r.site.hit < 2 ^ 32 = a.2 in
@@ -184,25 +210,40 @@ joined_kept set n p base done (r ∷ rs) low a =
     no_gap : joined (kept_after set n p r rs) ≡ joined (offs (r.site.hit - r.site.hit) ++ (kept_after set n p r rs))
     no_gap = ap (λ (k : ℕ). joined (offs k ++ (kept_after set n p r rs))) (let goal : 0 ≡ r.site.hit - r.site.hit = omega arith in goal)
 
-    by_test : (b : Bool)
-        → joined (offs (r.site.hit - r.site.hit) ++ (kept_after set n p r rs)) ≡ chain_from p r.site.hit (chosen set (n + 1) rs) ++ offs (last_of r.site.hit rs - last_of r.site.hit (chosen set (n + 1) rs))
-        → joined (offs (r.site.hit - base) ++ (kept_after set n p r rs)) ≡ chain_from p base (chosen set (n + 1) rs) ++ offs (last_of r.site.hit rs - last_of base (chosen set (n + 1) rs))
-        → joined (offs (done - base) ++ (offs (r.site.hit - done - 1) ++ cond b (term_of r.kind) (switched_off (term_of r.kind)) ∷ (kept_after set n p r rs)))
-        ≡ chain_from p base (cond b (r ∷ (chosen set (n + 1) rs)) (chosen set (n + 1) rs)) ++ offs (last_of r.site.hit rs - last_of base (cond b (r ∷ (chosen set (n + 1) rs)) (chosen set (n + 1) rs)))
-    by_test true from_here on =
-        joins (term_of r.kind) ∙ gap_fault (r.site.hit - base - 1) (term_of r.kind) (kept_after set n p r rs) busy.busy
-        ∙ ap (λ (l : List Term). offs (r.site.hit - base - 1) ++ term_of r.kind ∷ l) (no_gap ∙ from_here)
-        ∙ sym (append_assoc (offs (r.site.hit - base - 1)) (term_of r.kind ∷ []) (chain_from p r.site.hit (chosen set (n + 1) rs) ++ offs (last_of r.site.hit rs - last_of r.site.hit (chosen set (n + 1) rs))))
-        ∙ sym (append_assoc (offs (r.site.hit - base - 1) ++ term_of r.kind ∷ []) (chain_from p r.site.hit (chosen set (n + 1) rs)) (offs (last_of r.site.hit rs - last_of r.site.hit (chosen set (n + 1) rs))))
-        ∙ ap (λ (c : List Term). c ++ offs (last_of r.site.hit rs - last_of r.site.hit (chosen set (n + 1) rs))) (sym (chain_step p base r (chosen set (n + 1) rs) a.0))
-    by_test false from_here on =
+    -- it is left out
+    left_out : (b : Bool) → is_onward r.kind ≡ b
+        → joined (offs (r.site.hit - base) ++ (kept_after set n p r rs)) ≡ chain_from p base (chosen set (n + 1) rs) ++ idle_end set (n + 1) base r.site.hit rs
+        → joined (offs gap ++ switched_off (term_of r.kind) ∷ (kept_after set n p r rs))
+        ≡ chain_from p base (chosen set (n + 1) rs) ++ cond b (offs gap ++ off_onward ∷ []) (idle_end set (n + 1) base r.site.hit rs)
+    left_out true e on =
+        let none : rs ≡ [] = a.3 e in
+        ap (λ (t : Term). joined (offs gap ++ t ∷ (kept_after set n p r rs))) (onward_off r.kind e)
+        ∙ ap (λ (l : List Rig). joined (offs gap ++ off_onward ∷ (kept_after set n p r l))) none
+        ∙ gap_onward gap
+        ∙ ap (λ (l : List Rig). chain_from p base (chosen set (n + 1) l) ++ (offs gap ++ off_onward ∷ [])) (sym none)
+    left_out false e on =
         let above : done < r.site.hit = a.1 in
         let small : r.site.hit < 2 ^ 32 = a.2 in
-        joins (switched_off (term_of r.kind))
-        ∙ ap (λ (t : Term). joined (offs (r.site.hit - base - 1) ++ t ∷ (kept_after set n p r rs))) busy.switched
-        ∙ joined_gaps (r.site.hit - base - 1) 1 (kept_after set n p r rs) (omega (arith, low, above, small))
+        ap (λ (t : Term). joined (offs gap ++ t ∷ (kept_after set n p r rs))) (once_off r.kind e)
+        ∙ joined_gaps gap 1 (kept_after set n p r rs) (omega (arith, low, above, small))
         ∙ ap (λ (k : ℕ). joined (offs k ++ (kept_after set n p r rs))) (let goal : r.site.hit - base - 1 + 1 ≡ r.site.hit - base = omega (arith, low, above) in goal)
         ∙ on
+
+    by_test : (b : Bool)
+        → joined (offs (r.site.hit - r.site.hit) ++ (kept_after set n p r rs)) ≡ chain_from p r.site.hit (chosen set (n + 1) rs) ++ idle_end set (n + 1) r.site.hit r.site.hit rs
+        → joined (offs (r.site.hit - base) ++ (kept_after set n p r rs)) ≡ chain_from p base (chosen set (n + 1) rs) ++ idle_end set (n + 1) base r.site.hit rs
+        → joined (offs (done - base) ++ (offs (r.site.hit - done - 1) ++ cond b (term_of r.kind) (switched_off (term_of r.kind)) ∷ (kept_after set n p r rs)))
+        ≡ chain_from p base (cond b (r ∷ (chosen set (n + 1) rs)) (chosen set (n + 1) rs))
+        ++ cond b (idle_end set (n + 1) r.site.hit r.site.hit rs) (cond (is_onward r.kind) (offs gap ++ off_onward ∷ []) (idle_end set (n + 1) base r.site.hit rs))
+    by_test true from_here on =
+        let rest : List Term = chain_from p r.site.hit (chosen set (n + 1) rs) in
+        let idle : List Term = idle_end set (n + 1) r.site.hit r.site.hit rs in
+        joins (term_of r.kind) ∙ gap_fault gap (term_of r.kind) (kept_after set n p r rs) busy.busy
+        ∙ ap (λ (l : List Term). offs gap ++ term_of r.kind ∷ l) (no_gap ∙ from_here)
+        ∙ sym (append_assoc (offs gap) (term_of r.kind ∷ []) (rest ++ idle))
+        ∙ sym (append_assoc (offs gap ++ term_of r.kind ∷ []) rest idle)
+        ∙ ap (λ (c : List Term). c ++ idle) (sym (chain_step p base r (chosen set (n + 1) rs) a.0))
+    by_test false from_here on = joins (switched_off (term_of r.kind)) ∙ left_out (is_onward r.kind) refl on
 
 -- ---- the end of a chain
 
@@ -221,104 +262,139 @@ chain_ends p base (r ∷ rs) a = by_rest (chain_ends p r.site.hit rs a.1)
     by_rest (inl e) = inr (
       offs (r.site.hit - base - 1),
       term_of r.kind,
-      chain_step p base r rs a.0.0 ∙ ap (λ (l : List Term). (front_of base r) ++ l) e ∙ append-nil (front_of base r),
-      (once_term r.kind a.0.1).busy,
+      chain_step p base r rs a.0 ∙ ap (λ (l : List Term). (front_of base r) ++ l) e ∙ append-nil (front_of base r),
+      (busy_term r.kind).busy,
     )
     by_rest (inr h) = inr (
       (front_of base r) ++ h.0,
       h.1,
-      chain_step p base r rs a.0.0 ∙ ap (λ (l : List Term). (front_of base r) ++ l) h.2 ∙ sym (append_assoc (front_of base r) h.0 (h.1 ∷ [])),
+      chain_step p base r rs a.0 ∙ ap (λ (l : List Term). (front_of base r) ++ l) h.2 ∙ sym (append_assoc (front_of base r) h.0 (h.1 ∷ [])),
       h.3,
     )
 
-busy_stays : (us : List Term) (t : Term) (x : ℕ) → is_idle t ≡ false → without_idle_end ((us ++ t ∷ []) ++ offs x) ≡ us ++ t ∷ []
-busy_stays us t x e = by_test (x == 0)
+idle_last : (l : List Term) (e : Term) → is_idle e ≡ true → without_idle_end (l ++ e ∷ []) ≡ without_idle_end l
+idle_last l e idle =
+    let size = length-append l (e ∷ []) in
+    let one : suffix_len is_idle (l ++ e ∷ []) ≡ 1 + suffix_len is_idle l =
+    ap (prefix_len is_idle) (reverse-append l (e ∷ [])) ∙ ap (λ (b : Bool). cond b (1 + prefix_len is_idle (reverse l)) 0) idle
+    in
+    ap (λ (k : ℕ). take (length (l ++ e ∷ []) - k) (l ++ e ∷ [])) one
+    ∙ ap (λ (k : ℕ). take k (l ++ e ∷ [])) (let goal : length (l ++ e ∷ []) - (1 + suffix_len is_idle l) ≡ length l - suffix_len is_idle l = omega (arith, size) in goal)
+    ∙ take-append-le (length l - suffix_len is_idle l) l (e ∷ []) (omega arith)
+
+idles_last : (l idle : List Term) → AllByRecursion (λ t. is_idle t ≡ true) idle → without_idle_end (l ++ idle) ≡ without_idle_end l
+idles_last l [] all = ap without_idle_end (append-nil l)
+idles_last l (e ∷ idle) all =
+    ap without_idle_end (sym (append_assoc l (e ∷ []) idle)) ∙ idles_last (l ++ e ∷ []) idle all.1 ∙ idle_last l e all.0
+
+busy_stays : (us : List Term) (t : Term) → is_idle t ≡ false → without_idle_end (us ++ t ∷ []) ≡ us ++ t ∷ []
+busy_stays us t e =
+    let none : suffix_len is_idle (us ++ t ∷ []) ≡ 0 =
+    ap (prefix_len is_idle) (reverse-append us (t ∷ [])) ∙ ap (λ (b : Bool). cond b (1 + prefix_len is_idle (reverse us)) 0) e
+    in
+    ap (λ (k : ℕ). take (length (us ++ t ∷ []) - k) (us ++ t ∷ [])) none ∙ take_all (length (us ++ t ∷ []) - 0) (us ++ t ∷ []) (omega arith)
+
+end_dropped : (ts idle : List Term) → AllByRecursion (λ t. is_idle t ≡ true) idle → EndsBusy ts → without_idle_end (ts ++ idle) ≡ ts
+end_dropped ts idle all (inl e) = idles_last ts idle all ∙ ap without_idle_end e ∙ sym e
+end_dropped ts idle all (inr h) = idles_last ts idle all ∙ ap without_idle_end h.2 ∙ busy_stays h.0 h.1 h.3 ∙ sym h.2
+
+offs_idle : (n : ℕ) (more : List Term) → AllByRecursion (λ t. is_idle t ≡ true) more → AllByRecursion (λ t. is_idle t ≡ true) (offs n ++ more)
+offs_idle n more all = by_test (n == 0)
   where
-    none : suffix_len is_idle (us ++ t ∷ []) ≡ 0
-    none = ap (prefix_len is_idle) (reverse-append us (t ∷ [])) ∙ ap (λ (b : Bool). cond b (1 + prefix_len is_idle (reverse us)) 0) e
+    by_test : (b : Bool) → AllByRecursion (λ t. is_idle t ≡ true) (cond b [] (off n ∷ []) ++ more)
+    by_test true = all
+    by_test false = (refl, all)
 
-    one : suffix_len is_idle ((us ++ t ∷ []) ++ off x ∷ []) ≡ 1
-    one = ap (prefix_len is_idle) (reverse-append (us ++ t ∷ []) (off x ∷ [])) ∙ ap (λ (k : ℕ). 1 + k) none
+gap_idle : (n : ℕ) → AllByRecursion (λ t. is_idle t ≡ true) (offs n)
+gap_idle n = subst (AllByRecursion (λ (t : Term). is_idle t ≡ true)) (append-nil (offs n)) (offs_idle n [] tt)
 
-    by_test : (b : Bool) → without_idle_end ((us ++ t ∷ []) ++ cond b [] (off x ∷ [])) ≡ (us ++ t ∷ [])
-    by_test true =
-        ap without_idle_end (append-nil (us ++ t ∷ [])) ∙ ap (λ (k : ℕ). take (length (us ++ t ∷ []) - k) (us ++ t ∷ [])) none
-        ∙ take_all (length (us ++ t ∷ []) - 0) (us ++ t ∷ []) (omega arith)
-    by_test false =
-        let size = length-append (us ++ t ∷ []) (off x ∷ []) in
-        ap (λ (k : ℕ). take (length ((us ++ t ∷ []) ++ off x ∷ []) - k) ((us ++ t ∷ []) ++ off x ∷ [])) one
-        ∙ ap (λ (k : ℕ). take k ((us ++ t ∷ []) ++ off x ∷ [])) (let goal : length ((us ++ t ∷ []) ++ off x ∷ []) - 1 ≡ length (us ++ t ∷ []) = omega (arith, size) in goal)
-        ∙ take-append_seam (us ++ t ∷ []) (off x ∷ [])
-
-end_dropped : (ts : List Term) (x : ℕ) → EndsBusy ts → without_idle_end (ts ++ offs x) ≡ ts
-end_dropped ts x (inl e) = ap (λ (l : List Term). without_idle_end (l ++ offs x)) e ∙ by_test (x == 0) ∙ sym e
+end_idle : (set : List ℕ) (n base done : ℕ) (rs : List Rig) → AllByRecursion (λ t. is_idle t ≡ true) (idle_end set n base done rs)
+end_idle set n base done [] = gap_idle (done - base)
+end_idle set n base done (r ∷ rs) = by_tests (holds set n) (is_onward r.kind) (end_idle set (n + 1) r.site.hit r.site.hit rs) (end_idle set (n + 1) base r.site.hit rs)
   where
-    by_test : (b : Bool) → without_idle_end (cond b [] (off x ∷ [])) ≡ []
-    by_test true = refl
-    by_test false = refl
-end_dropped ts x (inr h) = ap (λ (l : List Term). without_idle_end (l ++ offs x)) h.2 ∙ busy_stays h.0 h.1 x h.3 ∙ sym h.2
+    by_tests : (b o : Bool) → AllByRecursion (λ t. is_idle t ≡ true) (idle_end set (n + 1) r.site.hit r.site.hit rs)
+        → AllByRecursion (λ t. is_idle t ≡ true) (idle_end set (n + 1) base r.site.hit rs)
+        → AllByRecursion (λ t. is_idle t ≡ true)
+        (cond b (idle_end set (n + 1) r.site.hit r.site.hit rs) (cond o (offs (r.site.hit - base - 1) ++ off_onward ∷ []) (idle_end set (n + 1) base r.site.hit rs)))
+    by_tests true o here on = here
+    by_tests false true here on = offs_idle (r.site.hit - base - 1) (off_onward ∷ []) (refl, tt)
+    by_tests false false here on = on
 
 -- ---- no term is dropped before that
 
-abbrev Stays : Term → Type 0
-Stays t = (is_live t ≡ true) × (is_endless t ≡ false)
+-- each term is reached: none is used up, and none stands behind one that acts at each hit
+abbrev AreReached : List Term → Type 0
+AreReached [] = Unit {0}
+AreReached (t ∷ ts) = (is_live t ≡ true) × (is_endless t ≡ true → ts ≡ []) × AreReached ts
 
-off_stays : (n : ℕ) → (n == 0) ≡ false → Stays (off n)
-off_stays n e = (ap not e, refl)
+term_live : (b : Bool) (kind : Kind) → is_live (cond b (term_of kind) (switched_off (term_of kind))) ≡ true
+term_live true (OnceReturn text) = refl
+term_live true (OnwardReturn text) = refl
+term_live true OncePanic = refl
+term_live false (OnceReturn text) = refl
+term_live false (OnwardReturn text) = refl
+term_live false OncePanic = refl
 
-once_stays : (t : Term) → t.count ≡ Some 1 → Stays t
-once_stays t e = (ap (λ (o : Option ℕ). is_live (with_own o)) e, ap (λ (o : Option ℕ). is_endless (with_own o)) e)
-  where
-    with_own : Option ℕ → Term
-    with_own o = record t { count = o }
+term_ends : (b : Bool) (kind : Kind) → is_endless (cond b (term_of kind) (switched_off (term_of kind))) ≡ true → is_onward kind ≡ true
+term_ends true (OnceReturn text) e = absurd cc
+term_ends true (OnwardReturn text) e = refl
+term_ends true OncePanic e = absurd cc
+term_ends false (OnceReturn text) e = absurd cc
+term_ends false (OnwardReturn text) e = refl
+term_ends false OncePanic e = absurd cc
 
-kept_stays : (set : List ℕ) (n p done : ℕ) (rs : List Rig) → AreAt p done rs → AllByRecursion Stays (kept_chain set n (chain_from p done rs))
+kept_reached : (set : List ℕ) (n p done : ℕ) (rs : List Rig) → AreAt p done rs → AreReached (kept_chain set n (chain_from p done rs))
 unfolding kept_chain
-kept_stays set n p done [] a = tt
-kept_stays set n p done (r ∷ rs) a =
-    subst (AllByRecursion Stays) (sym (ap (kept_chain set n) (chain_step p done r rs a.0) ∙ kept_gap set n (r.site.hit - done - 1) (term_of r.kind) (chain_from p r.site.hit rs) busy.fault))
-    (by_gap ((r.site.hit - done - 1) == 0) refl (kept_stays set (n + 1) p r.site.hit rs a.4))
+kept_reached set n p done [] a = tt
+kept_reached set n p done (r ∷ rs) a =
+    subst AreReached
+    (sym (ap (kept_chain set n) (chain_step p done r rs a.0) ∙ kept_gap set n (r.site.hit - done - 1) (term_of r.kind) (chain_from p r.site.hit rs) (busy_term r.kind).fault))
+    (by_gap ((r.site.hit - done - 1) == 0) refl (kept_reached set (n + 1) p r.site.hit rs a.4))
   where
-    busy : Busy (term_of r.kind)
-    busy = once_term r.kind a.3
+    own : Term
+    own = cond (holds set n) (term_of r.kind) (switched_off (term_of r.kind))
 
-    by_test : (b : Bool) → Stays (cond b (term_of r.kind) (switched_off (term_of r.kind)))
-    by_test true = once_stays (term_of r.kind) busy.once
-    by_test false = once_stays (switched_off (term_of r.kind)) busy.once
+    last : is_endless own ≡ true → kept_chain set (n + 1) (chain_from p r.site.hit rs) ≡ []
+    last e = ap (λ (l : List Rig). kept_chain set (n + 1) (chain_from p r.site.hit l)) (a.3 (term_ends (holds set n) r.kind e))
 
-    by_gap : (b : Bool) → ((r.site.hit - done - 1) == 0) ≡ b → AllByRecursion Stays (kept_chain set (n + 1) (chain_from p r.site.hit rs))
-        → AllByRecursion Stays (cond b [] (off (r.site.hit - done - 1) ∷ []) ++ cond (holds set n) (term_of r.kind) (switched_off (term_of r.kind)) ∷ kept_chain set (n + 1) (chain_from p r.site.hit rs))
-    by_gap true e rest = (by_test (holds set n), rest)
-    by_gap false e rest = (off_stays (r.site.hit - done - 1) e, (by_test (holds set n), rest))
+    by_gap : (b : Bool) → ((r.site.hit - done - 1) == 0) ≡ b → AreReached (kept_chain set (n + 1) (chain_from p r.site.hit rs))
+        → AreReached (cond b [] (off (r.site.hit - done - 1) ∷ []) ++ own ∷ kept_chain set (n + 1) (chain_from p r.site.hit rs))
+    by_gap true e rest = (term_live (holds set n) r.kind, last, rest)
+    by_gap false e rest = (ap not e, (λ never. absurd cc), (term_live (holds set n) r.kind, last, rest))
 
-all_live : (ts : List Term) → AllByRecursion Stays ts → without_used ts ≡ ts
+all_live : (ts : List Term) → AreReached ts → without_used ts ≡ ts
 all_live [] a = refl
-all_live (t ∷ ts) a = ap (λ (b : Bool). cond b (t ∷ without_used ts) (without_used ts)) a.0.0 ∙ ap (λ (l : List Term). t ∷ l) (all_live ts a.1)
+all_live (t ∷ ts) a = ap (λ (b : Bool). cond b (t ∷ without_used ts) (without_used ts)) a.0 ∙ ap (λ (l : List Term). t ∷ l) (all_live ts a.2)
 
-none_endless : (ts : List Term) → AllByRecursion Stays ts → up_to_endless ts ≡ ts
-none_endless [] a = refl
-none_endless (t ∷ ts) a =
-    ap (λ (b : Bool). take (cond (not b) (1 + position_or_len is_endless ts) 0 + 1) (t ∷ ts)) a.0.1
-    ∙ ap (λ (k : ℕ). take k (t ∷ ts)) (let goal : 1 + position_or_len is_endless ts + 1 ≡ suc (position_or_len is_endless ts + 1) = omega arith in goal)
-    ∙ ap (λ (l : List Term). t ∷ l) (none_endless ts a.1)
+last_endless : (ts : List Term) → AreReached ts → up_to_endless ts ≡ ts
+last_endless [] a = refl
+last_endless (t ∷ ts) a = by_test (last_endless ts a.2) (is_endless t) refl
+  where
+    by_test : up_to_endless ts ≡ ts → (b : Bool) → is_endless t ≡ b → take (cond (not b) (1 + position_or_len is_endless ts) 0 + 1) (t ∷ ts) ≡ t ∷ ts
+    by_test rest true e = ap (λ (l : List Term). t ∷ l) (sym (a.1 e))
+    by_test rest false e =
+        ap (λ (k : ℕ). take k (t ∷ ts)) (let goal : 1 + position_or_len is_endless ts + 1 ≡ suc (position_or_len is_endless ts + 1) = omega arith in goal)
+        ∙ ap (λ (l : List Term). t ∷ l) rest
 
 kept_tidied : (set : List ℕ) (n p : ℕ) (rs : List Rig) → AreAt p 0 rs → tidied_chain (kept_chain set n (chain_from p 0 rs)) ≡ chain_from p 0 (chosen set n rs)
 unfolding tidied_chain
 kept_tidied set n p rs a =
     let chain : List Term = kept_chain set n (chain_from p 0 rs) in
-    let stays : AllByRecursion Stays chain = kept_stays set n p 0 rs a in
-    ap (λ (l : List Term). without_idle_end (joined (up_to_endless l))) (all_live chain stays)
-    ∙ ap (λ (l : List Term). without_idle_end (joined l)) (none_endless chain stays)
+    let reached : AreReached chain = kept_reached set n p 0 rs a in
+    ap (λ (l : List Term). without_idle_end (joined (up_to_endless l))) (all_live chain reached)
+    ∙ ap (λ (l : List Term). without_idle_end (joined l)) (last_endless chain reached)
     ∙ ap without_idle_end (joined_kept set n p 0 0 rs (omega arith) a)
-    ∙ end_dropped (chain_from p 0 (chosen set n rs)) (last_of 0 rs - last_of 0 (chosen set n rs))
+    ∙ end_dropped (chain_from p 0 (chosen set n rs)) (idle_end set n 0 0 rs) (end_idle set n 0 0 rs)
     (chain_ends p 0 (chosen set n rs) (chosen_all (IsAt p) set n rs (are_each p 0 rs a)))
 
 -- ---- rigged hits by their points
 
--- in order, and each acts once
-abbrev pub AreOnce : List Rig → Type 0
-AreOnce [] = Unit {0}
-AreOnce (r ∷ rs) = (0 < r.site.hit) × (r.site.hit < 2 ^ 32) × (is_onward r.kind ≡ false) × AllByRecursion (λ t. IsBefore r.site t.site) rs × AreOnce rs
+-- in order, and a sticky one is the last of its point
+abbrev pub AreInPlace : List Rig → Type 0
+AreInPlace [] = Unit {0}
+AreInPlace (r ∷ rs) =
+    (0 < r.site.hit) × (r.site.hit < 2 ^ 32) × (is_onward r.kind ≡ true → AllByRecursion (λ t. r.site.point < t.site.point) rs)
+    × AllByRecursion (λ t. IsBefore r.site t.site) rs × AreInPlace rs
 
 -- those of a point, and those of later ones
 record Parted (p done : ℕ) (rs : List Rig) : Type 0 where
@@ -327,7 +403,7 @@ record Parted (p done : ℕ) (rs : List Rig) : Type 0 where
   is : rs ≡ own ++ later
   at : AreAt p done own
   past : AllByRecursion (λ r. p < r.site.point) later
-  once : AreOnce later
+  in_place : AreInPlace later
 
 past_point : (p : ℕ) (s : Site) (rs : List Rig) → p < s.point → AllByRecursion (λ t. IsBefore s t.site) rs → AllByRecursion (λ t. p < t.site.point) rs
 past_point p s rs low a = all_weaker (λ (t : Rig). IsBefore s t.site) (λ t. p < t.site.point) one rs a
@@ -336,8 +412,12 @@ past_point p s rs low a = all_weaker (λ (t : Rig). IsBefore s t.site) (λ t. p 
     one t (inl less) = omega (arith, low, less)
     one t (inr same) = let e : s.point ≡ t.site.point = same.0 in omega (arith, low, e)
 
-parted : (p done : ℕ) (rs : List Rig) → AreOnce rs → AllByRecursion (λ r. (p ≤ r.site.point) × (r.site.point ≡ p → done < r.site.hit)) rs → Parted p done rs
-parted p done [] o a = record { own = []; later = []; is = refl; at = tt; past = tt; once = tt }
+none_own : (p done : ℕ) (own later : List Rig) → AllByRecursion (λ t. p < t.site.point) (own ++ later) → AreAt p done own → own ≡ []
+none_own p done [] later past a = refl
+none_own p done (r ∷ own) later past a = let low = past.0 in let same = a.0 in absurd (omega (arith, low, same))
+
+parted : (p done : ℕ) (rs : List Rig) → AreInPlace rs → AllByRecursion (λ r. (p ≤ r.site.point) × (r.site.point ≡ p → done < r.site.hit)) rs → Parted p done rs
+parted p done [] o a = record { own = []; later = []; is = refl; at = tt; past = tt; in_place = tt }
 parted p done (r ∷ rs) o a = by_test (r.site.point == p) refl (λ here. parted p r.site.hit rs o.4 (both rs a.1 o.3 here))
   where
     next : r.site.point ≡ p → (t : Rig) → ((p ≤ t.site.point) × (t.site.point ≡ p → done < t.site.hit)) × IsBefore r.site t.site → (p ≤ t.site.point) × (t.site.point ≡ p → r.site.hit < t.site.hit)
@@ -357,14 +437,22 @@ parted p done (r ∷ rs) o a = by_test (r.site.point == p) refl (λ here. parted
           own = r ∷ q.own;
           later = q.later;
           is = ap (λ (l : List Rig). r ∷ l) q.is;
-          at = (here, a.0.1 here, o.1, o.2, q.at);
+          at = (
+            here,
+            a.0.1 here,
+            o.1,
+            (λ sticky.
+                none_own p r.site.hit q.own q.later
+                (subst (AllByRecursion (λ (t : Rig). p < t.site.point)) q.is (subst (λ (k : ℕ). AllByRecursion (λ (t : Rig). k < t.site.point) rs) here (o.2 sticky))) q.at),
+            q.at,
+          );
           past = q.past;
-          once = q.once;
+          in_place = q.in_place;
         }
     by_test false e behind =
         let low : p ≤ r.site.point = a.0.0 in
         let less : p < r.site.point = grind (arith, nat_tests, e, low) in
-        record { own = []; later = r ∷ rs; is = refl; at = tt; past = (less, past_point p r.site rs less o.3); once = o }
+        record { own = []; later = r ∷ rs; is = refl; at = tt; past = (less, past_point p r.site rs less o.3); in_place = o }
 
 -- later points have no part in a chain, and earlier ones none in what follows
 past_chain : (p done : ℕ) (later : List Rig) → AllByRecursion (λ r. p < r.site.point) later → chain_from p done later ≡ []
@@ -421,7 +509,7 @@ tidied_entry name (t ∷ ts) es = put_is name (tidied_chain (t ∷ ts)) (tidied 
 
 module _ (set : List ℕ) (n p : ℕ) (name : List ℕ) (names : List (List ℕ)) (own later : List Rig) (at : AreAt p 0 own) (past : AllByRecursion (λ r. p < r.site.point) later) where
   near : AllByRecursion (λ r. r.site.point < p + 1) own
-  near = all_weaker (IsAt p) (λ r. r.site.point < p + 1) (λ r h. let e : r.site.point ≡ p = h.0 in omega (arith, e)) own (are_each p 0 own at)
+  near = all_weaker (IsAt p) (λ r. r.site.point < p + 1) (λ r e. omega (arith, e)) own (are_each p 0 own at)
 
   -- the entry of a point, and those of later ones
   of_parts : (mine others : List Rig) → AllByRecursion (λ r. r.site.point < p + 1) mine → AllByRecursion (λ r. p < r.site.point) others
@@ -445,40 +533,66 @@ module _ (set : List ℕ) (n p : ℕ) (name : List ℕ) (names : List (List ℕ)
       (chosen_all (λ r. p < r.site.point) set (n + length own) later past))
       ∙ ap (entries_from p (name ∷ names)) (sym (chosen_append set n own later))
 
-kept_entries : (set : List ℕ) (n p : ℕ) (names : List (List ℕ)) (rs : List Rig) → AreOnce rs → AllByRecursion (λ r. p ≤ r.site.point) rs
+positive : (p : ℕ) (ts : List Rig) → AreInPlace ts → AllByRecursion (λ r. p ≤ r.site.point) ts → AllByRecursion (λ r. (p ≤ r.site.point) × (r.site.point ≡ p → 0 < r.site.hit)) ts
+positive p [] o a = tt
+positive p (t ∷ ts) o a = ((a.0, λ same. o.0), positive p ts o.4 a.1)
+
+kept_entries : (set : List ℕ) (n p : ℕ) (names : List (List ℕ)) (rs : List Rig) → AreInPlace rs → AllByRecursion (λ r. p ≤ r.site.point) rs
     → tidied (kept_from set n (entries_from p names rs)) ≡ entries_from p names (chosen set n rs)
 unfolding kept_from
 kept_entries set n p [] rs o a = refl
 kept_entries set n p (name ∷ names) rs o a =
-    let q = parted p 0 rs o (positive rs o a) in
+    let q = parted p 0 rs o (positive p rs o a) in
     let reach : AllByRecursion (λ r. p + 1 ≤ r.site.point) q.later = all_weaker (λ (r : Rig). p < r.site.point) (λ r. p + 1 ≤ r.site.point) (λ r h. omega (arith, h)) q.later q.past in
     ap (λ (l : List Rig). tidied (kept_from set n (entries_from p (name ∷ names) l))) q.is
-    ∙ parts_kept set n p name names q.own q.later q.at q.past (kept_entries set (n + length q.own) (p + 1) names q.later q.once reach)
+    ∙ parts_kept set n p name names q.own q.later q.at q.past (kept_entries set (n + length q.own) (p + 1) names q.later q.in_place reach)
     ∙ ap (λ (l : List Rig). entries_from p (name ∷ names) (chosen set n l)) (sym q.is)
-  where
-    positive : (ts : List Rig) → AreOnce ts → AllByRecursion (λ r. p ≤ r.site.point) ts → AllByRecursion (λ r. (p ≤ r.site.point) × (r.site.point ≡ p → 0 < r.site.hit)) ts
-    positive [] o a = tt
-    positive (t ∷ ts) o a = ((a.0, λ same. o.0), positive ts o.4 a.1)
 
-pub kept_rigs : (names : List (List ℕ)) (set : List ℕ) (rs : List Rig) → AreOnce rs → tidied (kept set (rigged_scenario names rs)) ≡ rigged_scenario names (chosen set 0 rs)
+pub kept_rigs : (names : List (List ℕ)) (set : List ℕ) (rs : List Rig) → AreInPlace rs → tidied (kept set (rigged_scenario names rs)) ≡ rigged_scenario names (chosen set 0 rs)
 unfolding rigged_scenario
-kept_rigs names set rs o = kept_entries set 0 0 names rs o (from_zero rs)
-  where
-    from_zero : (ts : List Rig) → AllByRecursion (λ r. 0 ≤ r.site.point) ts
-    from_zero [] = tt
-    from_zero (t ∷ ts) = (omega arith, from_zero ts)
+kept_rigs names set rs o = kept_entries set 0 0 names rs o (all_of (λ (r : Rig). 0 ≤ r.site.point) (λ r. omega arith) rs)
+
+-- ---- how many faults the scenario has
+
+entry_faults : (name : List ℕ) (c : List Term) (es : Entries) → all_faults (entry name c ++ es) ≡ faults_in c + all_faults es
+entry_faults name [] es = omega arith
+entry_faults name (t ∷ ts) es = refl
+
+own_faults : (p : ℕ) (rs : List Rig) → AreAt p 0 rs → faults_in (chain_from p 0 rs) ≡ length rs
+own_faults p rs a = let counted = after_is 0 (chain_from p 0 rs) in let own = after_own 0 p 0 rs a in omega (arith, counted, own)
+
+entries_faults : (p : ℕ) (names : List (List ℕ)) (rs : List Rig) → AreInPlace rs → AllByRecursion (λ r. p ≤ r.site.point) rs
+    → AllByRecursion (λ r. r.site.point < p + length names) rs → all_faults (entries_from p names rs) ≡ length rs
+entries_faults p [] [] o low high = refl
+entries_faults p [] (r ∷ rs) o low high = let a = low.0 in let b = high.0 in absurd (omega (arith, a, b))
+entries_faults p (name ∷ names) rs o low high =
+    let q = parted p 0 rs o (positive p rs o low) in
+    let past : AllByRecursion (λ r. p + 1 ≤ r.site.point) q.later = all_weaker (λ (r : Rig). p < r.site.point) (λ r. p + 1 ≤ r.site.point) (λ r h. omega (arith, h)) q.later q.past in
+    let within : AllByRecursion (λ r. r.site.point < p + 1 + length names) q.later =
+    all_weaker (λ (r : Rig). r.site.point < p + suc (length names)) (λ r. r.site.point < p + 1 + length names) (λ r h. omega (arith, h)) q.later
+    (all_right (λ r. r.site.point < p + suc (length names)) q.own q.later (subst (AllByRecursion (λ (r : Rig). r.site.point < p + suc (length names))) q.is high)) in
+    let mine = own_faults p q.own q.at in
+    let rest = entries_faults (p + 1) names q.later q.in_place past within in
+    let both = length-append q.own q.later in
+    ap (λ (l : List Rig). all_faults (entries_from p (name ∷ names) l)) q.is
+    ∙ ap (λ (es : Entries). all_faults es) (of_parts [] 0 p name names q.own q.later q.at q.past q.own q.later (near [] 0 p name names q.own q.later q.at q.past) q.past)
+    ∙ entry_faults name (chain_from p 0 q.own) (entries_from (p + 1) names q.later)
+    ∙ (let goal : faults_in (chain_from p 0 q.own) + all_faults (entries_from (p + 1) names q.later) ≡ length (q.own ++ q.later) = omega (arith, mine, rest, both) in goal)
+    ∙ ap (λ (l : List Rig). length l) (sym q.is)
+
+pub rigged_faults : (names : List (List ℕ)) (rs : List Rig) → AreInPlace rs → AllByRecursion (λ r. r.site.point < length names) rs → all_faults (rigged_scenario names rs) ≡ length rs
+unfolding rigged_scenario
+rigged_faults names rs o within =
+    entries_faults 0 names rs o (all_of (λ (r : Rig). 0 ≤ r.site.point) (λ r. omega arith) rs)
+    (all_weaker (λ (r : Rig). r.site.point < length names) (λ r. r.site.point < 0 + length names) (λ r h. omega (arith, h)) rs within)
 
 -- ---- what can be rigged
 
-pub are_once : (rs : List Rig) → AreInOrder (map (λ (r : Rig). r.site) rs) → AllByRecursion (λ r. r.site.hit < 2 ^ 32) rs → AllByRecursion (λ r. is_onward r.kind ≡ false) rs → AreOnce rs
-are_once [] o h k = tt
-are_once (r ∷ rs) o h k = (o.0, h.0, k.0, behind rs o.1, are_once rs o.2 h.1 k.1)
-  where
-    behind : (ts : List Rig) → AllByRecursion (IsBefore r.site) (map (λ (t : Rig). t.site) ts) → AllByRecursion (λ t. IsBefore r.site t.site) ts
-    behind [] a = tt
-    behind (t ∷ ts) a = (a.0, behind ts a.1)
+pub unmapped : (P : Site → Type 0) (rs : List Rig) → AllByRecursion P (map (λ (r : Rig). r.site) rs) → AllByRecursion (λ r. P r.site) rs
+unmapped P [] a = tt
+unmapped P (r ∷ rs) a = (a.0, unmapped P rs a.1)
 
-chosen_order : (set : List ℕ) (n : ℕ) (rs : List Rig) → AreOnce rs → AreInOrder (map (λ (r : Rig). r.site) (chosen set n rs))
+chosen_order : (set : List ℕ) (n : ℕ) (rs : List Rig) → AreInPlace rs → AreInOrder (map (λ (r : Rig). r.site) (chosen set n rs))
 chosen_order set n [] o = tt
 chosen_order set n (r ∷ rs) o = by_test (holds set n) (chosen_order set (n + 1) rs o.4) (chosen_all (λ t. IsBefore r.site t.site) set (n + 1) rs o.3)
   where
@@ -491,5 +605,5 @@ chosen_order set n (r ∷ rs) o = by_test (holds set n) (chosen_order set (n + 1
     by_test true rest late = (o.0, sites (chosen set (n + 1) rs) late, rest)
     by_test false rest late = rest
 
-pub chosen_in_order : (set : List ℕ) (rs : List Rig) → AreOnce rs → AreInOrder (map (λ (r : Rig). r.site) (chosen set 0 rs))
+pub chosen_in_order : (set : List ℕ) (rs : List Rig) → AreInPlace rs → AreInOrder (map (λ (r : Rig). r.site) (chosen set 0 rs))
 chosen_in_order set rs o = chosen_order set 0 rs o

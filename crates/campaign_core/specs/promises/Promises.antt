@@ -3,7 +3,6 @@
 use Rattle.std.specs.Prelude.{◌≡◌, ◌≢◌, ℕ, suc, ◌≤◌, ◌<◌, ◌⊎◌, Option, Some, List, ◌∷◌, ◌++◌, All, AllPairs, Contains, length, map, slice_get}
 use Rattle.std.specs.List.{AllByRecursion, range_with_len}
 use Rattle.action_eval.specs.Answers.{Return}
-use Rattle.target_trait.specs.declared.judgement.Verdict.{Verdict}
 use Rattle.target_trait.specs.declared.judgement.Verdict.TheVariants.{Fail}
 use Rattle.grown_plans.specs.Runs.{Met, acting}
 use Rattle.grown_plans.specs.GrownPlans.{Subject, most}
@@ -27,6 +26,12 @@ pub record IsCause (t : Subject) (told : Told) (c : CauseFacts) : Type 0 where
   pub least : c.number < count_of_levels told → (found hits : List Met) (left : Met) → HasBehaviour told c.number found → Contains (faults found) left
       → IsBehaviour t hits → AnsweredWithout left (faults found) hits → verdict_at_end t hits ≢ Fail c.code
 
+-- Fewer than d faults act, and then a hit returns, with or without a text, and so does each later hit of its point; no other fault acts later.
+abbrev pub IsSticky : ℕ → List Met → Type 0
+IsSticky d hits =
+    (before : List Met) × (hit : Met) × (after : List Met) × (text : Option (List ℕ)) × (hits ≡ before ++ hit ∷ after)
+    × (acting before < d) × (hit.reply ≡ Return text) × ReturnsOnward text hit.site.point after
+
 -- Of a report to depth d.
 pub record Sound (t : Subject) (d : ℕ) (told : Told) : Type 0 where
   -- Each number has a behaviour. It is one of the component's, each fault in it is of a kind that is tried at its point, and the number's verdict is
@@ -42,6 +47,8 @@ pub record Sound (t : Subject) (d : ℕ) (told : Told) : Type 0 where
   -- In the behaviour of a number of level n exactly n faults act.
   pub by_level : (number : ℕ) (hits : List Met) → number < count_of_levels told → HasBehaviour told number hits
       → acting hits ≡ level_at told.growth.levels number
+  -- A number behind the levels has a sticky fault.
+  pub sticky : (number : ℕ) (hits : List Met) → count_of_levels told ≤ number → HasBehaviour told number hits → IsSticky d hits
   -- How often a point is reached is told of each point. If it is reached at all, one of the behaviours hits it so often.
   pub points : length told.growth.reached ≡ length t.names
   pub reached : (point times : ℕ) → slice_get told.growth.reached point ≡ Some times → 0 < times
@@ -78,11 +85,8 @@ pub record Complete (t : Subject) (d : ℕ) (told : Told) (IsUnseen : List Met �
   -- Each behaviour in which at most d faults act is that of exactly one number of the levels, with its verdict.
   pub nothing_skipped : (hits : List Met) → IsBehaviourOfKinds t hits → acting hits ≤ d
       → IsToldOrUnseen t told IsUnseen (count_of_levels told) hits
-  -- Sticky faults are tried: if fewer than d faults act, and then a return at one hit and at each later hit of its point, the behaviour is that of
-  -- exactly one number, with its verdict.
-  pub from_then_on : (before after : List Met) (hit : Met) (text : Option (List ℕ)) → hit.reply ≡ Return text → IsBehaviourOfKinds t (before ++ hit ∷ after)
-      → acting before < d → ReturnsOnward text hit.site.point after
-      → IsToldOrUnseen t told IsUnseen (count_of_all told) (before ++ hit ∷ after)
+  -- Each behaviour with a sticky fault is that of exactly one number, with its verdict.
+  pub from_then_on : (hits : List Met) → IsBehaviourOfKinds t hits → IsSticky d hits → IsToldOrUnseen t told IsUnseen (count_of_all told) hits
   -- If the report says that no plan lies beyond, no behaviour is skipped, however many faults act in it.
   pub whole : told.growth.beyond ≡ 0 → (hits : List Met) → IsBehaviourOfKinds t hits → IsToldOrUnseen t told IsUnseen (count_of_levels told) hits
   -- Each code with which a number fails has a finding. Each number of a level that fails has a listed cause, or one that nobody has seen.

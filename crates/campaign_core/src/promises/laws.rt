@@ -1,6 +1,6 @@
 //! Laws of behaviours, as contracts of functions that do nothing.
-ghost use Rattle.std.specs.Prelude.{◌≡◌, ◌≢◌, ℕ, suc, Contains, List, [], ◌∷◌, Some, length, slice_get};
-ghost use Rattle.scenario_values.specs.Scenario.{Entries};
+ghost use Rattle.std.specs.Prelude.{◌≡◌, ◌≢◌, ◌<◌, ◌≤◌, ℕ, suc, Contains, List, [], ◌∷◌, Some, length, slice_get};
+ghost use Rattle.scenario_values.specs.Scenario.{Entries, all_faults};
 ghost use Rattle.action_eval.specs.Answers.{given_of};
 ghost use Rattle.target_trait.specs.Outcomes.{verdict_with};
 ghost use Rattle.grown_plans.specs.Runs.{run, IsUnpaused, Met};
@@ -10,10 +10,10 @@ ghost use Rattle.std.specs.List.{AllByRecursion};
 ghost use Rattle.campaign_core.specs.promises.Behaviours.{IsBehaviour, verdict_at_end};
 ghost use Rattle.campaign_core.specs.Findings.{reduction};
 ghost use Rattle.campaign_core.specs.promises.Promises.{Complete, Promises, Sound};
-ghost use Rattle.campaign_core.specs.promises.Further.{Further, verdict_of};
+ghost use Rattle.campaign_core.specs.promises.Further.{Further, IsLeast, verdict_of, without};
 ghost use Rattle.report.specs.Reports.{CauseFacts, FindingFacts};
 ghost use Rattle.target_trait.specs.declared.judgement.Verdict.TheVariants.{Fail, Pass};
-ghost use Rattle.campaign_core.specs.promises.Told.{HasVerdict, Told};
+ghost use Rattle.campaign_core.specs.promises.Told.{HasBehaviour, HasVerdict, Told, count_of_all, count_of_levels};
 ghost use Rattle.campaign_core.specs.promises.WrongReports.{first_returns, flawed, quiet, second_returns};
 
 /// A scenario plays a behaviour: under any seed and stream number, if no pause stops its run, the run is a behaviour, and the scenario's verdict is
@@ -43,8 +43,9 @@ pub fn no_made_up_run_is_told()
 
 /// A report isn't sound that prints another fact than those of its runs: beside a cause or a finding a scenario that passes; another depth than the one
 /// that was asked for, or a level more; of the component that hits nothing, that its point is reached or in the census, that it fails without faults,
-/// or that its run without faults is of level 1. Nor does a report keep its promises that says that no run is unseen where one is, or that prints
-/// beside a number another verdict than its scenario's, or beside a reduction another count of tests than ddmin's.
+/// or that its run without faults is of level 1; or behind the levels a run without a fault. Nor does a report keep its promises that says that no run
+/// is unseen where one is, or that prints beside a number another verdict than its scenario's, or beside a reduction another count of tests than
+/// ddmin's; or one that lists a cause of which a fault can be left out, that leaves a cause out, or that lists one twice.
 pub fn no_made_up_fact_is_told()
     ensures cause { (t : Subject) (d : ℕ) (told : Told) (cause : CauseFacts) → Contains told.growth.causes cause
         → verdict_of t told cause.number cause.scenario ≡ Pass → Sound t d told → (scenarios : List Entries) → Further t scenarios told → ⊥ }
@@ -56,9 +57,17 @@ pub fn no_made_up_fact_is_told()
     ensures clean { (d : ℕ) (told : Told) → told.report.clean ≡ Fail 0 → Sound quiet d told → ⊥ }
     ensures census { (d times : ℕ) (told : Told) → slice_get told.report.census 0 ≡ Some (suc times) → Promises quiet d told → ⊥ }
     ensures no_fault { (d : ℕ) (told : Told) → told.growth.levels ≡ 0 ∷ (1 ∷ []) → Sound quiet d told → ⊥ }
+    ensures sticky { (t : Subject) (d number : ℕ) (told : Told) → count_of_levels told ≤ number → HasBehaviour told number [] → Sound t d told → ⊥ }
     ensures unseen { (t : Subject) (d : ℕ) (told : Told) (unseen : List Met) → told.growth.unseen ≡ 0 → Complete t d told (λ hits. hits ≡ unseen) → ⊥ }
     ensures verdict { (t : Subject) (scenarios : List Entries) (told : Told) (number code : ℕ) (scenario : Entries) → slice_get scenarios number ≡ Some scenario
         → verdict_of t told number scenario ≡ Pass → HasVerdict told number (Fail code) → Further t scenarios told → ⊥ }
     ensures tests { (t : Subject) (scenarios : List Entries) (told : Told) (found : FindingFacts) → Contains told.report.findings found
         → found.tests ≢ (reduction (verdict_of t told) found.number found.code found.scenario).tests → Further t scenarios told → ⊥ }
+    ensures needless { (t : Subject) (scenarios : List Entries) (told : Told) (cause : CauseFacts) (fault : ℕ) → Contains told.growth.causes cause
+        → fault < all_faults cause.scenario → verdict_of t told cause.number (without fault cause.scenario) ≡ Fail cause.code → Further t scenarios told → ⊥ }
+    ensures missing { (t : Subject) (scenarios : List Entries) (told : Told) (number code : ℕ) (scenario : Entries) → told.growth.causes ≡ []
+        → number < count_of_all told → slice_get scenarios number ≡ Some scenario → verdict_of t told number scenario ≡ Fail code
+        → IsLeast t told number code scenario → Further t scenarios told → ⊥ }
+    ensures twice { (t : Subject) (scenarios : List Entries) (told : Told) (cause : CauseFacts) → told.growth.causes ≡ cause ∷ (cause ∷ [])
+        → Further t scenarios told → ⊥ }
 {}

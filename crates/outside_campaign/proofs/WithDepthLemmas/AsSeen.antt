@@ -1,5 +1,5 @@
 -- A report by answers keeps its promises of each behaviour that doesn't begin like a run recorded without its hits.
-use Rattle.std.proofs.Common.{◌≡◌, ℕ, zero, suc, ◌+◌, ◌<◌, ◌≤◌, ◌⊎◌, inl, inr, Bool, true, false, cond, Some, List, [], ◌∷◌, ◌++◌, get_or, length, map, refl, ap, sym, ◌∙◌, subst, arith}
+use Rattle.std.proofs.Common.{◌≡◌, ℕ, zero, suc, ◌+◌, ◌<◌, ◌≤◌, ◌^◌, ◌⊎◌, inl, inr, Bool, true, false, cond, Some, List, [], ◌∷◌, ◌++◌, get_or, length, map, refl, ap, sym, ◌∙◌, subst, arith}
 use Rattle.std.specs.Prelude.{All, Contains, None, Option, flat_map, slice_get, slice_index_or, sum}
 use Rattle.std.specs.List.{AllByRecursion, filter, range_with_len}
 use Rattle.std.proofs.lemmas.List.{append-nil, get_or_append_left, get_or-map, length-append, length-map}
@@ -8,13 +8,12 @@ use Rattle.std.proofs.lemmas.List.FromFn.{map-range_with_len_more}
 use Rattle.std.proofs.lemmas.Option.{get_or_from_slice_get, slice_get-get_or, slice_get_within}
 use Rattle.scenario_values.specs.Scenario.{DistinctNames, Entries, IsScenario}
 use Rattle.action_eval.specs.declared.rig.Rig.{Rig}
-use Rattle.action_eval.specs.Answers.{Return}
 use Rattle.target_trait.specs.declared.judgement.Verdict.{Verdict}
 use Rattle.target_trait.specs.declared.judgement.Verdict.TheVariants.{Fail, Unresolved}
 use Rattle.action_eval.specs.Answers.{given_of}
 use Rattle.grown_plans.specs.Runs.{Met, acting, run}
-use Rattle.grown_plans.specs.GrownPlans.{Subject, given_for, grown, level, levels, levels_to, onward, run_of_plan, scenario_of}
-use Rattle.grown_plans.specs.Promises.{IsCause, IsLawful, IsOfKinds, ReturnsOnward, run_in, verdict_of_plan}
+use Rattle.grown_plans.specs.GrownPlans.{Subject, given_for, grown, rigs_of, level, levels, levels_to, onward, run_of_plan, scenario_of}
+use Rattle.grown_plans.specs.Promises.{IsCause, IsLawful, IsOfKinds, run_in, verdict_of_plan}
 use Rattle.grown_plans.proofs.Apart.{IsGrownTo, levels_grown}
 use Rattle.grown_plans.proofs.Causes.{has_causes}
 use Rattle.grown_plans.proofs.Faults.{faults as faults_of}
@@ -40,9 +39,9 @@ use Rattle.result_book.specs.FirstFailures.{first_failures}
 use Rattle.result_book.proofs.EachCodeLemmas.{firsts_of}
 use Rattle.report.specs.Reports.{CauseFacts, GrowthFacts}
 use Rattle.campaign_core.specs.promises.Behaviours.{IsBehaviourOfKinds, faults, times_hit, verdict_at_end}
-use Rattle.campaign_core.specs.promises.Promises.{HasCause, HasUnseenCause, IsToldOrUnseen, PromisesAsSeen, Sound}
+use Rattle.campaign_core.specs.promises.Promises.{HasCause, HasUnseenCause, IsSticky, IsToldOrUnseen, PromisesAsSeen, Sound}
 use Rattle.campaign_core.specs.promises.Promises.{IsCause as IsToldCause}
-use Rattle.campaign_core.specs.promises.Further.{Further, IsOfItsNumber}
+use Rattle.campaign_core.specs.promises.Further.{Further}
 use Rattle.campaign_core.specs.promises.Told.{HasBehaviour, HasVerdict, Told, count_of_all, count_of_levels, level_at}
 use Rattle.campaign_core.proofs.PromisesLemmas.Cases.{case_for, case_runs}
 use Rattle.campaign_core.proofs.PromisesLemmas.ByLevel.{by_level, levels_flat}
@@ -50,15 +49,18 @@ use Rattle.campaign_core.proofs.PromisesLemmas.Counted.{has_acting}
 use Rattle.campaign_core.proofs.PromisesLemmas.Facts.{at_point, census_counts, first_level, long_range, reached_by, without_faults}
 use Rattle.campaign_core.proofs.PromisesLemmas.Faults.{faults_among}
 use Rattle.campaign_core.proofs.PromisesLemmas.Kinds.{each_of_kinds}
+use Rattle.campaign_core.proofs.PromisesLemmas.InPlace.{grown_can_be_left}
 use Rattle.campaign_core.proofs.PromisesLemmas.Least.{no_lesser}
+use Rattle.campaign_core.proofs.PromisesLemmas.LeastCauses.{each_least, in_order, least_causes, listed}
+use Rattle.campaign_core.proofs.PromisesLemmas.LeftOut.{CanBeLeft}
 use Rattle.campaign_core.proofs.PromisesLemmas.Listed.{Lists, all_are, all_counted, by_case, each_behaves, each_judged, has_behaviour, no_two, told_once}
+use Rattle.campaign_core.proofs.PromisesLemmas.Sticky.{each_sticky, onward_sticky}
 use Rattle.campaign_core.proofs.PromisesLemmas.Numbers.{all_at, at_contained, contains_at, get_front, get_in_front, get_map, get_unmapped, sum_more}
 use Rattle.campaign_core.specs.Findings.{IsCauseAmong, ReducesToMinimal, cause_of}
 use Rattle.campaign_core.specs.Headline.{Campaign, grower, say}
 use Rattle.campaign_core.proofs.Causes.{each_is}
-use Rattle.campaign_core.proofs.Findings.{first_at, found_of, further, once_each, verdict_at}
+use Rattle.campaign_core.proofs.Findings.{Causes, first_at, found_of, further, once_each, verdict_at}
 use Rattle.campaign_core.proofs.Firsts.{each_fails, findings_minimal}
-use Rattle.campaign_core.proofs.Promised.{cause_here, in_flat}
 use Rattle.answer_text.specs.Runs.{told_in}
 use Rattle.answered_runs.specs.Answered.{runs_in}
 use Rattle.answered_runs.specs.Components.{AgreesWithRuns, IsComponent}
@@ -112,7 +114,7 @@ known_flat t known d = ap (λ (l : List (List Rig)). filter (is_reached known) l
 -- ---- the promises
 
 module _ (c : Campaign) (depth : ℕ) (known : KnownRuns) (l : IsLawful (grower c)) (done : to_run (grower c) depth known ≡ [])
-    (lawful : AllByRecursion (λ s. IsScenario s) (plans_seen c depth known)) where
+    (few : c.given.max_hits < 2 ^ 32) (low_depth : depth ≤ 64) (lawful : AllByRecursion (λ s. IsScenario s) (plans_seen c depth known)) where
   abbrev t : Subject
   t = grower c
 
@@ -178,12 +180,10 @@ module _ (c : Campaign) (depth : ℕ) (known : KnownRuns) (l : IsLawful (grower 
   whole_told none hits b =
       in_front (count_of_levels told) first behind refl (sizes_known t known depth) hits b (whole t l depth known done none (case_for t l hits b))
 
-  onward_told : (before after : List Met) (hit : Met) (text : Option (List ℕ)) → hit.reply ≡ Return text → IsBehaviourOfKinds t (before ++ hit ∷ after)
-      → acting before < depth → ReturnsOnward text hit.site.point after → IsToldOrUnseen t told IsUnseen (count_of_all told) (before ++ hit ∷ after)
-  onward_told before after hit text ret b few on =
-      let hits : List Met = before ++ hit ∷ after in
+  sticky_told : (hits : List Met) → IsBehaviourOfKinds t hits → IsSticky depth hits → IsToldOrUnseen t told IsUnseen (count_of_all told) hits
+  sticky_told hits b s =
       in_front (count_of_all told) (first ++ behind) [] (sym (append-nil (first ++ behind))) (all_are t l first behind told lists) hits b
-      (from_then_on t l depth known done (case_for t l hits b) before after hit text (case_runs t l hits b) ret few on)
+      (from_then_on t l depth known done (case_for t l hits b) s.0 s.2 s.1 s.3 (case_runs t l hits b ∙ s.4) s.6 s.5 s.7)
 
   -- ---- plans by their numbers
 
@@ -225,14 +225,6 @@ module _ (c : Campaign) (depth : ℕ) (known : KnownRuns) (l : IsLawful (grower 
             no_lesser t l depth seed x.number x.code plan found hits left (grown_to plan (in_levels x.number plan levels_low at)) runs h.least has behaves answered;
       }
 
-  listed_cause : (n code : ℕ) (plan : List Rig) → slice_get (first ++ behind) n ≡ Some plan → IsCause t seed n code plan → Contains told.growth.causes (cause_of plans (n, code))
-  listed_cause n code plan at cause =
-      let size : n < length (first ++ behind) = slice_get_within (first ++ behind) n plan at in
-      let zero_plus : 0 + n ≡ n = omega arith in
-      let one : cause_at t seed (0 + n) plan ≡ (n, code) ∷ [] = ap (λ i. cause_at t seed i plan) zero_plus ∙ cause_here t seed n code plan cause in
-      contains_map (cause_of plans) (over (cause_at t seed) (first ++ behind) 0 (length (first ++ behind))) (n, code)
-      (in_flat (cause_at t seed) [] (first ++ behind) 0 (length (first ++ behind)) n plan (n, code) size (ap (λ i. slice_get (first ++ behind) i) zero_plus ∙ at) one)
-
   -- faults of a plan are those of its run
   faults_in : (plan cause : List Rig) (hits found : List Met) → IsGrownTo t depth plan → IsGrownTo t depth cause → run_of_plan t plan ≡ hits → run_of_plan t cause ≡ found
       → AllByRecursion (Contains plan) cause → AllByRecursion (Contains (faults hits)) (faults found)
@@ -261,7 +253,7 @@ module _ (c : Campaign) (depth : ℕ) (known : KnownRuns) (l : IsLawful (grower 
           let at : slice_get (first ++ behind) n ≡ Some cause = get_front first behind n cause place.2 in
           inl (record {
             cause = cause_of plans (n, code);
-            listed = listed_cause n code cause at (is n);
+            listed = listed t told plans (first ++ behind) refl n code cause at (is n);
             code_is = refl;
             among = λ found told_so.
                 faults_in plan cause hits found own grew runs (some_is (run_of_plan t cause) found (sym (has_behaviour t l first behind told lists n cause at) ∙ told_so)) among;
@@ -350,6 +342,7 @@ module _ (c : Campaign) (depth : ℕ) (known : KnownRuns) (l : IsLawful (grower 
         (λ plan there. contains_filtered (λ (plan : List Rig). are_told (hits_of known plan)) (first ++ behind) plan there) point times (at_point (reached_known t depth known) (length t.names) point times at) many;
     findings = first_at c c.label counts plans (Some grew) grew told.behaviours minimal_seen;
     once = once_each c c.label counts plans (Some grew) grew told.behaviours minimal_seen;
+    sticky = each_sticky t l first behind told lists depth (filtered (is_reached_onward known) (λ plan. IsSticky depth (run_of_plan t plan)) (onward t depth) (onward_sticky t l depth));
     causes = cause_at_place;
   }
 
@@ -358,7 +351,7 @@ module _ (c : Campaign) (depth : ℕ) (known : KnownRuns) (l : IsLawful (grower 
     sound = sound;
     complete = record {
       nothing_skipped = skipped_none;
-      from_then_on = onward_told;
+      from_then_on = sticky_told;
       whole = whole_told;
       found = found_of c c.label counts plans (Some grew) grew told.behaviours minimal_seen;
       caused = caused_of;
@@ -367,12 +360,18 @@ module _ (c : Campaign) (depth : ℕ) (known : KnownRuns) (l : IsLawful (grower 
     };
   }
 
-  -- a cause stands beside its plan
-  named_at : (n : ℕ) (none : CauseFacts) → n < length told.growth.causes → IsOfItsNumber plans (slice_index_or told.growth.causes n none)
-  named_at n none low =
-      let among : IsCauseAmong t seed (first ++ behind) (slice_index_or told.growth.causes n none) = among_all n none low in
-      let number : ℕ = (slice_index_or told.growth.causes n none).number in
-      plan_at number (slice_index_or (first ++ behind) number []) (slice_get-get_or (first ++ behind) number [] among.among) ∙ ap (λ (s : Entries). Some s) (sym among.scenario)
+  -- the causes
+  can : AllByRecursion (λ plan. CanBeLeft t (rigs_of plan)) (first ++ behind)
+  can = of_known (λ plan. CanBeLeft t (rigs_of plan)) (grown_can_be_left t l few depth low_depth)
+
+  causes_are : Causes t plans told
+  causes_are = record {
+    least = least_causes t l told plans (first ++ behind) can plan_at among_all;
+    each = λ number code s below.
+        let all = all_are t l first behind told lists in
+        each_least t l told plans (first ++ behind) can plan_at refl number code s (omega (arith, below, all));
+    in_order = in_order t told plans (first ++ behind) refl;
+  }
 
   -- the run of a plan's scenario is the plan's
   plays_at : (number : ℕ) (s : Entries) (hits : List Met) → slice_get plans number ≡ Some s → slice_get told.behaviours number ≡ Some hits
@@ -386,7 +385,7 @@ module _ (c : Campaign) (depth : ℕ) (known : KnownRuns) (l : IsLawful (grower 
       ∙ of.2
 
   pub further_seen : Further t plans told
-  further_seen = further c c.label counts plans (Some grew) grew told.behaviours minimal_seen plays_at named_at
+  further_seen = further c c.label counts plans (Some grew) grew told.behaviours minimal_seen plays_at causes_are
 
 -- ---- the scenarios of each component's list
 

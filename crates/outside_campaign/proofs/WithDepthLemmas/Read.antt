@@ -77,9 +77,9 @@ as_seen form outside given a depth text first low same is_text is_first lawful t
       text_is = text_is;
       first_is = first_is;
       whole = λ none.
-          is_whole c depth (runs_in a) refl own_done none own_lawful is.few low (minimal_seen c depth (runs_in a) own_lawful own_done scenarios) form (told_in a.book) text first text_is first_is;
-      promises = keeps_promises c depth (runs_in a) own_lawful own_done scenarios;
-      further = further_seen c depth (runs_in a) own_lawful own_done scenarios;
+          is_whole c depth (runs_in a) refl own_done none own_lawful is.few low (minimal_seen c depth (runs_in a) own_lawful own_done is.few low scenarios) form (told_in a.book) text first text_is first_is;
+      promises = keeps_promises c depth (runs_in a) own_lawful own_done is.few low scenarios;
+      further = further_seen c depth (runs_in a) own_lawful own_done is.few low scenarios;
     }
 
 pub reported : (form : Form) (outside : Description) (given : Given) (a : Answered) (depth : ℕ) (answers text : List ℕ) (first : Option ℕ) → depth ≤ 64 → Tells outside answers a

@@ -1,17 +1,18 @@
-use Rattle.std.proofs.Common.{◌≡◌, ◌⊎◌, inl, inr, ℕ, suc, map, Option, Some, List, [], ◌∷◌, ap, sym, ◌∙◌, refl, subst, arith}
-use Rattle.std.specs.Prelude.{◌<◌, slice_get, sum}
+use Rattle.std.proofs.Common.{◌≡◌, ◌⊎◌, inl, inr, ℕ, suc, map, Option, Some, List, [], ◌∷◌, ◌++◌, ap, sym, ◌∙◌, refl, subst, arith}
+use Rattle.std.specs.Prelude.{◌<◌, AllPairs, Contains, slice_get, sum}
 use Rattle.std.specs.List.{range_with_len}
 use Rattle.target_trait.specs.Play.{IsDone}
 use Rattle.target_trait.specs.declared.judgement.Verdict.{Verdict}
 use Rattle.target_trait.specs.declared.judgement.Verdict.TheVariants.{Fail, Pass}
 use Rattle.grown_plans.specs.Runs.{Met, acting}
-use Rattle.grown_plans.proofs.Members.{all_contains}
+use Rattle.grown_plans.proofs.Members.{all_contains, contains_none}
 use Rattle.campaign_core.specs.promises.Behaviours.{IsBehaviourOfKinds, times_hit}
 use Rattle.campaign_core.specs.promises.Promises.{IsCause, IsFirst}
-use Rattle.campaign_core.specs.promises.Further.{Further, IsOfItsNumber, IsReduction, verdict_of}
+use Rattle.campaign_core.specs.promises.Further.{Further, IsLeastCause, IsReduction, verdict_of}
 use Rattle.campaign_core.specs.promises.Told.{HasVerdict, Told, count_of_levels, level_at}
 use Rattle.scenario_values.specs.Scenario.{Entries}
 use Rattle.grown_plans.specs.GrownPlans.{Subject}
+use Rattle.report.specs.Reports.{CauseFacts}
 use Rattle.campaign_core.specs.promises.WrongReports.{quiet}
 use Rattle.campaign_core.proofs.Promised.{all_each}
 use Rattle.campaign_core.proofs.PromisesLemmas.Numbers.{contains_at}
@@ -29,12 +30,16 @@ not_passed : (t : Subject) (scenarios : List Entries) (told : Told) → Further 
 not_passed t scenarios told further number code scenario at passes fails =
     never_both (verdict_of t told number scenario) code passes (some_same (verdict_of t told number scenario) (Fail code) (sym (further.judged number scenario at) ∙ fails))
 
+-- a listed cause
+least_of : (t : Subject) (scenarios : List Entries) (told : Told) (cause : CauseFacts) → Contains told.growth.causes cause → Further t scenarios told → IsLeastCause t scenarios told cause
+least_of t scenarios told cause listed further =
+    all_contains (IsLeastCause t scenarios told) told.growth.causes cause (all_each (IsLeastCause t scenarios told) told.growth.causes further.causes) listed
+
 pub returns-clause-cause : goal.returns-clause-cause
 returns-clause-cause c t d told cause listed passes sound scenarios further =
     let is : IsCause t told cause = all_contains (IsCause t told) told.growth.causes cause (all_each (IsCause t told) told.growth.causes sound.causes) listed in
-    let named : IsOfItsNumber scenarios cause =
-    all_contains (IsOfItsNumber scenarios) told.growth.causes cause (all_each (IsOfItsNumber scenarios) told.growth.causes further.causes) listed in
-    not_passed t scenarios told further cause.number cause.code cause.scenario named passes is.fails
+    let least : IsLeastCause t scenarios told cause = least_of t scenarios told cause listed further in
+    not_passed t scenarios told further cause.number cause.code cause.scenario least.scenario passes is.fails
 
 pub returns-clause-finding : goal.returns-clause-finding
 returns-clause-finding c t d told found listed passes sound scenarios further =
@@ -90,6 +95,14 @@ returns-clause-no_fault c d told empty sound =
     let none : acting clean.0 ≡ 0 = clean.2 in
     omega (arith, acts, none)
 
+none_behind : (before : List Met) (hit : Met) (after : List Met) → [] ≡ before ++ hit ∷ after → ⊥
+none_behind [] hit after e = absurd cc
+none_behind (first ∷ before) hit after e = absurd cc
+
+pub returns-clause-sticky : goal.returns-clause-sticky
+returns-clause-sticky c t d number told behind b sound =
+    let s = sound.sticky number [] behind b in none_behind s.0 s.1 s.2 s.4
+
 pub returns-clause-unseen : goal.returns-clause-unseen
 returns-clause-unseen c t d told unseen none complete = complete.none_unseen none unseen refl
 
@@ -101,3 +114,17 @@ returns-clause-tests c t scenarios told found listed others further =
     let is : IsReduction t scenarios told found =
     all_contains (IsReduction t scenarios told) told.report.findings found (all_each (IsReduction t scenarios told) told.report.findings further.findings) listed in
     others is.tests
+
+pub returns-clause-needless : goal.returns-clause-needless
+returns-clause-needless c t scenarios told cause fault listed low fails further = (least_of t scenarios told cause listed further).minimal fault low fails
+
+pub returns-clause-missing : goal.returns-clause-missing
+returns-clause-missing c t scenarios told number code scenario none low at fails least further =
+    let is : CauseFacts = record { number = number; code = code; scenario = scenario } in
+    contains_none is (subst (λ (causes : List CauseFacts). Contains causes is) none (further.each_cause number code scenario low at fails least))
+
+pub returns-clause-twice : goal.returns-clause-twice
+returns-clause-twice c t scenarios told cause both further =
+    let order : AllPairs (λ c d. c.number < d.number) (cause ∷ (cause ∷ [])) = subst (AllPairs (λ (c d : CauseFacts). c.number < d.number)) both further.in_order in
+    let less = order 0 1 cause (omega arith) (omega arith) in
+    omega (arith, less)
