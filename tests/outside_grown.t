@@ -75,6 +75,18 @@ No level waits for the one before, and the report waits for the first plan in or
   strict: 1 of 9 plans unresolved
   [1]
 
+A point that plans reach only behind the depth is one that no run reaches, unless a listed scenario does: here `c` cleans up after both fail.
+
+  $ sed 's/depth = 2/depth = 1/' three.toml > both.toml
+  $ for at in a b; do for kind in return panic; do line pass "$at=1*$kind" "$([ $at-$kind = a-panic ] && echo a || echo 'a;b')"; done; done > each
+  $ line pass none 'a;b' | cat - each > both
+  $ paklour report --strict both.toml < both > /dev/null
+  strict: no run reaches c
+  [5]
+  $ sed -i '2a scenarios = ["a=return;b=return"]' both.toml
+  $ line pass 'a=return;b=return' 'a;b;c' >> both
+  $ paklour report --strict both.toml < both > /dev/null
+
 Each run that is told is explained, hit by hit; any spelling of its scenario does.
 
   $ paklour report --explain none three.toml < answers

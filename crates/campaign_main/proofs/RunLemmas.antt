@@ -5,13 +5,10 @@ use Rattle.std.proofs.lemmas.List.FromFn.{get_or-range_with_len, length-range_wi
 use Rattle.std.specs.List.{range_with_len}
 use Rattle.action_eval.specs.declared.rig.Kind.{Kind}
 use Rattle.answer_text.specs.Runs.{KnownRuns, known_runs, told_in}
-use Rattle.plan_gen.specs.declared.list.PlanFault.TheVariants as planning
 use Rattle.answered_runs.specs.Answered.{Answered}
 use Rattle.campaign_given.specs.Description.{Description}
 use Rattle.campaign_given.specs.Given.{Given}
-use Rattle.outside_campaign.specs.declared.refusal.OutsideFault.TheVariants as outside
 use Rattle.outside_campaign.specs.with_depth.Kinds.{listed_kinds}
-use Rattle.outside_campaign.specs.declared.with_depth.fault.QuestionFault.TheVariants as fault
 use Rattle.campaign_main.specs.QuestionNotes.{run_doubts, strict_doubts}
 
 abbrev kept : Bool → ℕ → List ℕ → List ℕ

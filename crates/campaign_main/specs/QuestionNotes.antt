@@ -1,8 +1,8 @@
 -- The notes on the answer to a question on a component that somebody else runs: names in listed scenarios and in answers that no point of it has, and
 -- what a strict report doesn't show.
-use Rattle.std.specs.Prelude.{ℕ, ◌+◌, ◌==◌, ◌++◌, Bool, false, List, [], ◌∷◌, Option, None, Some, codes, count_by, length, nat_lt, option_map, if◌then◌else◌, map, is_some}
+use Rattle.std.specs.Prelude.{ℕ, ◌==◌, ◌&&◌, ◌++◌, Bool, false, not, List, [], ◌∷◌, Option, None, Some, codes, count_by, length, nat_lt, option_map, if◌then◌else◌, map, is_some}
 use Rattle.std.specs.Fmt.{decimal}
-use Rattle.std.specs.List.{filter, range_with_len}
+use Rattle.std.specs.List.{filter, list_any, range_with_len}
 use Rattle.std.specs.Option.{option_map_or}
 use Rattle.scenario_values.specs.Scenario.{Entries}
 use Rattle.scenario_values.specs.Tidied.{tidied}
@@ -11,6 +11,7 @@ use Rattle.report.specs.ReportText.{text_of}
 use Rattle.answer_text.specs.Known.{KnownVerdicts, verdicts_in}
 use Rattle.answer_text.specs.Runs.{KnownRuns, known_runs, known_strangers, reading_of}
 use Rattle.answer_text.specs.declared.runs.Stranger.{Stranger}
+use Rattle.answer_text.specs.declared.runs.ToldRun.{ToldRun}
 use Rattle.action_eval.specs.declared.rig.Kind.{Kind}
 use Rattle.action_eval.specs.declared.rig.Rig.{Rig}
 use Rattle.plan_gen.specs.Census.{counts_of}
@@ -115,10 +116,20 @@ doubts_told points listed known depth given = record {
   unstormed = draws_nothing given.plans;
 }
 
--- The numbers of the points that no recorded run of a plan that grew hits.
-abbrev pub unreached_told : List (List ℕ) → List (List Kind) → KnownRuns → ℕ → List ℕ
-unreached_told points listed known depth =
-    filter (λ p. reached_told (plan_runs points known) (plans_told points listed known depth) p == 0) (range_with_len 0 (length points))
+-- Whether a recorded run hits a point.
+abbrev pub is_hit_in : ℕ → Option ToldRun → Bool
+is_hit_in point None = false
+is_hit_in point (Some run) = option_map_or (list_any (λ s. s.point == point)) run.hits false
+
+-- Whether the recorded run of one of these scenarios hits a point.
+abbrev pub is_hit_by : KnownRuns → List Entries → ℕ → Bool
+is_hit_by known scenarios point = list_any (λ s. is_hit_in point (known (tidied s))) scenarios
+
+-- The numbers of the points that no recorded run hits: neither that of a plan that grew, nor that of a scenario behind them.
+abbrev pub unreached_told : List (List ℕ) → List (List Kind) → KnownRuns → ℕ → List Entries → List ℕ
+unreached_told points listed known depth further =
+    filter (λ p. (reached_told (plan_runs points known) (plans_told points listed known depth) p == 0) && not (is_hit_by known further p))
+    (range_with_len 0 (length points))
 
 -- How many plans that grew are recorded without their hits.
 abbrev pub unseen_told : List (List ℕ) → List (List Kind) → KnownRuns → ℕ → ℕ
@@ -134,7 +145,7 @@ abbrev pub run_doubts : List (List ℕ) → List (List Kind) → KnownRuns → �
 run_doubts points listed known depth given =
     doubt_notes (doubts_told points listed known depth given)
     ++ (unseen_notes (unseen_told points listed known depth) (length (list_told points listed known depth given.plans))
-    ++ text_of (unreached_lines points (unreached_told points listed known depth)))
+    ++ text_of (unreached_lines points (unreached_told points listed known depth (further_by points given.plans (plan_runs points known [])))))
 
 -- ---- with or without a depth
 
