@@ -11,7 +11,7 @@
 const char *const point_names[POINTS] = {
     OWN "open",  OWN "read",  OWN "write",   OWN "fsync",   OWN "truncate", OWN "rename", OWN "link", OWN "unlink",
     OWN "mkdir", OWN "rmdir", OWN "symlink", OWN "connect", OWN "accept",   OWN "send",   OWN "recv", "power::keep",
-    "order::next",
+    "order::next", "work::next",
 };
 const char *const task_names[TASKS] = {"off", "return", "sleep", "panic", "print", "pause", "yield", "delay"};
 
@@ -186,10 +186,19 @@ static bool read_piece(struct scenario *scenario, char *piece) {
 
 static bool moves_bytes(enum point point) { return point == READ || point == WRITE || point == SEND || point == RECV; }
 
+/* Finds the operation that a return at work::next gives, by its number. */
+static bool find_operation(struct term *term) {
+    uint64_t number;
+    if (!term->argument || !read_digits(term->argument, MOST_OPERATIONS, &number) || !number || number > MOST_OPERATIONS) return false;
+    term->operation = (unsigned)number;
+    return true;
+}
+
 /* Finds the error of a return at a point. Returns false if there is no error of that name, or if the point's work has no half. Without a name it is
    the error of a broken disk or line. Points of a power cut and of the order take each return as it is. */
 static bool find_error(struct term *term, enum point point) {
     const char *name = term->argument ? term->argument : "";
+    if (point == WORK) return find_operation(term);
     if (point >= KEEP) return true;
     if (!strcmp(name, "HALF")) return moves_bytes(point);
     if (!strcmp(name, "DROP")) {

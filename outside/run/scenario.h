@@ -5,13 +5,14 @@
 #include <stdbool.h>
 #include <stdint.h>
 
-/* The calls that are points, in the order of the catalogue, then the point of a power cut, and the one of the order of threads. `census` has
-   the same order. */
+/* The calls that are points, in the order of the catalogue, then the point of a power cut, the one of the order of threads, and the one at which a
+   program asks for its next operation. `census` has the same order. */
 enum point {
     OPEN, READ, WRITE, FSYNC, TRUNCATE, RENAME, LINK, UNLINK, MKDIR, RMDIR, SYMLINK, /* of files */
     CONNECT, ACCEPT, SEND, RECV,                                                      /* of sockets */
     KEEP,
     NEXT,
+    WORK,
     POINTS
 };
 extern const char *const point_names[POINTS];
@@ -20,7 +21,7 @@ enum task { OFF, RETURN, SLEEP, PANIC, PRINT, PAUSE, YIELD, DELAY, TASKS };
 extern const char *const task_names[TASKS];
 
 enum { MOST_BYTES = 65536, MOST_ENTRIES = 256, MOST_TERMS = 256, MOST_FAULTS = 4096, WHOLE_SHARE = 1000000,
-    MOST_MILLIS = 1000000000 };
+    MOST_MILLIS = 1000000000, MOST_OPERATIONS = 64 };
 
 /* What a return may do in place of an error: half of a read or write, or nothing, with the result that all was sent. */
 enum { HALF_DONE = 0, DROPPED = -1 };
@@ -33,6 +34,7 @@ struct term {
     uint32_t millis;      /* the time of sleep and delay */
     const char *argument; /* the argument of return, panic and print, or null */
     int error;            /* the error of a return: its number, or one of the two above */
+    unsigned operation;   /* the operation that a return gives, from 1; 0 at any point but work::next */
 };
 
 struct chain {

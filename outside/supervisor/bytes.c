@@ -1,5 +1,6 @@
 /* Reads and writes of files. The supervisor makes them with the thread's own descriptor, so it knows their results. */
 #define _GNU_SOURCE
+#include "operations.h"
 #include "parts.h"
 #include "pin.h"
 #include "streams.h"
@@ -117,7 +118,7 @@ void serve_read(struct call *call) {
     struct opened opened;
     struct parts parts;
     if (!open_of(call, call->row->file, &opened)) {
-        if (!serve_random_read(call, &opened)) serve_stream(call, &opened, RECV);
+        if (!serve_operation(call, &opened) && !serve_random_read(call, &opened)) serve_stream(call, &opened, RECV);
         return;
     }
     if (!S_ISREG(opened.facts.file.key.mode) && !S_ISDIR(opened.facts.file.key.mode)) return serve_stream(call, &opened, READ);

@@ -3,6 +3,7 @@
 #include "../run/whole.h"
 #include "crashes.h"
 #include "marks.h"
+#include "operations.h"
 #include "order.h"
 #include "supervisor.h"
 
@@ -77,6 +78,8 @@ void hit_result(struct call *call, long result) {
 static enum answer act(struct call *call, const struct term *term) {
     switch (term->task) {
     case RETURN:
+        call->hit.operation = term->operation;
+        if (term->operation) return GIVE;
         if (term->error == HALF_DONE) return HALF;
         if (term->error == DROPPED) return DROP;
         call->hit.error = term->error;
@@ -111,7 +114,7 @@ static void count(struct call *call, enum point point, const char *path, const c
     call->hit.result_at = -1;
     mark_hit(state->number);
     result_place = trace_line(line, &(struct hit_line){.number = state->number, .counter = counter, .term = term, .path = path,
-        .process = call->thread->process, .flags = flags});
+        .process = call->thread->process, .flags = term && term->operation ? operation_named(term->operation) : flags});
     call->hit.answer = term ? act(call, term) : GO;
 }
 

@@ -2,6 +2,7 @@
 #include "keeper.h"
 
 #include "crashes.h"
+#include "operations.h"
 
 #include "../run/whole.h"
 #include "variables.h"
@@ -161,6 +162,7 @@ static _Noreturn void run_command(char **words, const struct looks *looks) {
     if (shared->listener < 0 || !is_heard()) _exit(REFUSED);
     close(shared->listener); /* so that calls fail, and don't wait, if the supervisor is killed from now on */
     sigprocmask(SIG_SETMASK, &signals_before, NULL);
+    take_input();
     execvp(words[0], words);
     char line[4 * PATH_MAX + 128], *end = escaped(stpcpy(line, "faults: "), strndupa(words[0], PATH_MAX));
     end += sprintf(end, ": %s\n", strerror(errno));

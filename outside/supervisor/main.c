@@ -6,6 +6,7 @@
 #include "../run/whole.h"
 #include "crashes.h"
 #include "keeper.h"
+#include "operations.h"
 #include "order.h"
 #include "pin.h"
 #include "supervisor.h"
@@ -296,8 +297,11 @@ static void take_more_descriptors(void) {
     if (!getrlimit(RLIMIT_NOFILE, &limit)) setrlimit(RLIMIT_NOFILE, &(struct rlimit){limit.rlim_max, limit.rlim_max});
 }
 
-/* Whether a call has come before a wait is over. This is only asked if other calls wait meanwhile. */
-static bool has_come(void) { return !waits_at_all() || poll(&(struct pollfd){listener, POLLIN, 0}, 1, 0) > 0; }
+/* Whether something may be done before the next call comes. */
+static bool looks_meanwhile(void) { return waits_at_all() || awaits_operation(); }
+
+/* Whether a call has come before a wait is over. This is only asked if something else may come first. */
+static bool has_come(void) { return !looks_meanwhile() || poll(&(struct pollfd){listener, POLLIN, 0}, 1, 0) > 0; }
 
 /* Whether no thread of the run is left. */
 static bool is_deserted(void) {
@@ -308,7 +312,7 @@ static bool is_deserted(void) {
 static _Noreturn void watch(const char *name) {
     int status;
     for (;;) {
-        if (waits_at_all()) wait_for_any(listener);
+        if (looks_meanwhile()) wait_for_any(listener);
         if (!child_ended && has_come() && receive()) continue;
         child_ended = false;
         if (is_deserted()) wait_for_end();
@@ -340,6 +344,7 @@ int main(int count, char **words) {
     read_variables();
     struct looks looks = {.sockets = sees_sockets, .random = is_pinned, .order = is_ordered()};
     know_root();
+    make_input();
     listener = start_command(words + first, &looks);
     set_signals();
     take_more_descriptors();

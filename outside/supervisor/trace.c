@@ -37,7 +37,7 @@ const char *flag_names(int flags, char *text) {
 
 /* The name of a point, with its file if points are named by file. Bytes that scenarios or settings can't have are replaced. */
 const char *point_name(const struct scenario *scenario, enum point point, const char *file, char *name) {
-    if (!scenario->by_file || point == NEXT) return point_names[point];
+    if (!scenario->by_file || point > KEEP) return point_names[point];
     char *end = stpcpy(stpcpy(name, point_names[point]), "@");
     for (; *file && end < name + MOST_POINT; file++) {
         bool fits = *file > ' ' && *file < 127 && !strchr(";=\"\\", *file);
@@ -61,7 +61,7 @@ char *trace_line(char *to, const struct hit_line *hit) {
     end = column(written_answer(end, hit->term));
     end = column(escaped(end, hit->path));
     end = column(written_number(end, (unsigned)hit->process));
-    end = column(stpcpy(end, hit->flags ? hit->flags : "-"));
+    end = column(escaped(end, hit->flags ? hit->flags : "-"));
     memset(end, ' ', RESULT_WIDTH);
     *end = '-';
     end[RESULT_WIDTH] = '\n';

@@ -17,7 +17,8 @@ const char *flag_names(int flags, char *text);
 /* The name of a point, with its file if the scenario names points by file. `name` has room for MOST_POINT bytes and one. */
 const char *point_name(const struct scenario *scenario, enum point point, const char *file, char *name);
 
-/* A hit: its number, the counts of its point, the term that acts (or null), its file, the process, and the flags of an open (or null). */
+/* A hit: its number, the counts of its point, the term that acts (or null), its file, the process, and the flags of an open, the operation that is
+   given, or null. */
 struct hit_line {
     uint64_t number;
     const struct counter *counter;

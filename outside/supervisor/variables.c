@@ -2,6 +2,8 @@
 #define _GNU_SOURCE
 #include "variables.h"
 
+#include "operations.h"
+
 #include "../run/whole.h"
 
 #include <errno.h>
@@ -104,6 +106,7 @@ void read_variables(void) {
     scenario.by_file = is_word("FAULTS_POINTS", "file");
     sees_sockets = is_word("FAULTS_SOCKETS", "1");
     read_failpoints();
+    read_operations();
     if (!where || !in) refuse(where ? "FAULTS_RUN" : "FAULTS_ROOT", "this variable isn't set");
     forgets = word_of("FAULTS_FSYNC", (const char *const[]){"again", "once", NULL}) != 0;
     if (!realpath(in, run_folder)) refuse("FAULTS_RUN isn't a folder that powercut begin made", in);

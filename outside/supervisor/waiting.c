@@ -2,6 +2,7 @@
 #include "waiting.h"
 
 #include "futexes.h"
+#include "operations.h"
 #include "order.h"
 
 #include <errno.h>
@@ -44,7 +45,7 @@ static void sooner(uint64_t *least, uint64_t time, uint64_t then) {
 }
 
 static uint64_t time_left(void) {
-    uint64_t time = now(), least = LONGEST_WAIT * A_MILLISECOND;
+    uint64_t time = now(), least = (awaits_operation() ? 1 : LONGEST_WAIT) * A_MILLISECOND;
     for (size_t i = 0; i < length; i++) {
         sooner(&least, time, list[i].hit.wakes);
         sooner(&least, time, list[i].gives_up);
@@ -139,10 +140,13 @@ static void take_turn(int listener) {
 }
 
 /* If nothing has happened for some time: lets those waits for futexes end that a signal ends, or whose word has changed though nobody was seen who
-   woke them. */
-static void look_at_waits(void) {
+   woke them; and if a thread waits by poll, perhaps for the input, offers the next operation. Any call that has come meanwhile is served first. */
+static void look_at_waits(int listener) {
     see_signals();
-    if (!first_turn() && sees_change() && all_at_rest(waits_here)) wake_changed();
+    if (first_turn()) return;
+    if (sees_change() && all_at_rest(waits_here)) return wake_changed();
+    if (!awaits_operation() || !all_at_rest(waits_here) || !any_polls()) return;
+    if (poll(&(struct pollfd){listener, POLLIN, 0}, 1, 0) == 0) offer_operation();
 }
 
 /* A call that comes is received before those that wait are looked at, but they are looked at each millisecond: until it is received, a signal ends it. */
@@ -162,6 +166,6 @@ void wait_for_any(int listener) {
         if (over || may_be_served(&list[i], files[i].revents)) serve_again(i);
         else interrupt_one(i);
     }
-    if (is_quiet) look_at_waits();
+    if (is_quiet) look_at_waits(listener);
     if (!files[count].revents) take_turn(listener);
 }
