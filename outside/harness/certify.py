@@ -172,7 +172,7 @@ class Certifier:
                 raise Unfit(record.why)
             for cut in place.cuts(chance) if not record.why else []:  # what pushes a run may make it take too long
                 try:
-                    yield number + 1, cut, place.after(cut, record.said())
+                    yield number + 1, cut, place.after(cut, record)
                 except Unmountable:
                     place.unmountable += 1
 

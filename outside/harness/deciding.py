@@ -15,6 +15,7 @@ from . import tree
 from .crashes import noted_crash, told_crash
 from .definition import ALL_STATES, LASTING, LIVE, Harness
 from .judging import CRASHED, HUNG, PASS, UNRESOLVED, Judge, Judgement, LooksUp
+from .operations import WORK, Promises
 from .outcome import Outcome
 from .record import Record
 from .records import Key, key_of, lasting_faults
@@ -169,17 +170,17 @@ class Decider:
         with self.runner.on_disk() as runner:
             return self.works(runner)
 
-    def sees_nothing(self, said: bytes) -> bool:
+    def sees_nothing(self, promised: Promises) -> bool:
         """Whether the judge passes what lay there before the run without faults, though that run changes it, and everything was promised."""
-        return self.room.within(lambda: self.passes_what_was_before(said))
+        return self.room.within(lambda: self.passes_what_was_before(promised))
 
-    def passes_what_was_before(self, said: bytes) -> bool:
+    def passes_what_was_before(self, promised: Promises) -> bool:
         record = self.runner.make("none")
         data = record.folder / "data"
         is_changed = tree.digest(data) != tree.digest(self.runner.prepared)
         tree.remove(data)
         tree.copy(str(self.runner.prepared), str(data))
-        passes = is_changed and self.judge.ask(record.folder, said).verdict == PASS
+        passes = is_changed and self.judge.ask(record.folder, promised).verdict == PASS
         tree.remove(record.folder)
         self.room.end(record.folder, 0)
         return passes
@@ -222,7 +223,8 @@ class Decider:
         """The outcome of a run that ends at a hit. If there is no change between two hits, such as two reads, a run that ends at either leaves the same."""
         if "again" in self.harness.steps or hit > len(record.points):
             return self.finish(record, hit, text, LooksUp.ALL)
-        place = key, *record.place(hit), noted_crash(record.run, hit), *(piece for piece in text.split(";") if piece.strip().startswith(POWER))
+        given = record.points[:hit - 1].count(WORK)  # an operation that was given may be done, though nothing has changed since
+        place = key, given, *record.place(hit), noted_crash(record.run, hit), *(piece for piece in text.split(";") if piece.strip().startswith(POWER))
         if place in self.places:
             return self.places[place].outcome_at(hit, text, trace_of(record.run)[:hit])
         outcome = self.finish(record, hit, text, LooksUp.ALL)
@@ -290,15 +292,16 @@ class Decider:
                 return None
             said = said if length < 0 else said[:length]
         record.is_cut = True
+        promised = self.runner.promises(record, run, said)
         if "again" in self.harness.steps:
-            outcome = self.go_on(record, run, text, said, looks_up)
+            outcome = self.go_on(record, run, text, promised, looks_up)
             if outcome.verdict == PASS and self.is_killed(outcome, min(hit, len(record.points))):
-                self.go_on_killed(record, hit, outcome, said, looks_up)
+                self.go_on_killed(record, hit, outcome, promised, looks_up)
         else:
-            outcome = self.cut_and_judge(record.folder, run, text, said, looks_up)
+            outcome = self.cut_and_judge(record.folder, run, text, promised, looks_up)
         return self.with_crash(outcome, run, self.crash(record, hit))
 
-    def go_on(self, record: Record, run: Path, text: str, said: bytes, looks_up: LooksUp) -> Outcome:
+    def go_on(self, record: Record, run: Path, text: str, promised: Promises, looks_up: LooksUp) -> Outcome:
         """Runs recovery under the same scenario, from what the power cut left."""
         more, errors = record.said_again, record.folder / "errors"
         more.unlink(missing_ok=True)
@@ -311,7 +314,7 @@ class Decider:
         if why:
             return self.ended_early(text, why, run)
         crash = noted_crash(run) or told_crash("again", status, errors, begun, length_of(errors))
-        outcome = self.cut_and_judge(record.folder, run, text, said + more.read_bytes(), looks_up)
+        outcome = self.cut_and_judge(record.folder, run, text, promised.with_more(more.read_bytes()), looks_up)
         return self.with_crash(outcome, run, crash)
 
     @property
@@ -325,7 +328,7 @@ class Decider:
         ends = hit > 0 and outcome.trace[hit - 1][3].startswith("panic") and all(each[3] == "go" for each in outcome.trace[hit:])
         return ends and LIVE in (self.harness.states or ALL_STATES)
 
-    def go_on_killed(self, record: Record, hit: int, outcome: Outcome, said: bytes, looks_up: LooksUp) -> None:
+    def go_on_killed(self, record: Record, hit: int, outcome: Outcome, promised: Promises, looks_up: LooksUp) -> None:
         """Judges recovery after the program alone was killed at that hit, so that all it did is there. As nothing acts in this recovery, its hits belong to
         no answer, and the judgement to the scenario that keeps nothing."""
         run, more, errors = record.killed, record.folder / "said_killed", record.folder / "errors"
@@ -344,24 +347,24 @@ class Decider:
             return
         begun = length_of(errors)
         self.tools.cut(run, record.data, LIVE)
-        judgement = self.judged(record.folder, said + more.read_bytes(), looks_up, LIVE)
+        judgement = self.judged(record.folder, promised.with_more(more.read_bytes()), looks_up, LIVE)
         if judgement.verdict != PASS:
             outcome.judgement, outcome.pending, outcome.errors = judgement, pending, last_lines(errors, begun)
 
-    def cut_and_judge(self, folder: Path, run: Path, text: str, said: bytes, looks_up: LooksUp) -> Outcome:
+    def cut_and_judge(self, folder: Path, run: Path, text: str, promised: Promises, looks_up: LooksUp) -> Outcome:
         """Judges each state that a power cut may leave, up to the first that breaks a promise."""
         errors, begun = folder / "errors", length_of(folder / "errors")
         if self.asks and not self.tools.cut(run, folder / "data", "keep", text):
             return Outcome(text, Judgement(UNRESOLVED, "the scenario has a pause"), trace_of(run))
         trace = trace_of(run)
-        judgements = [self.judged(folder, said, looks_up, "")] if self.asks else []
+        judgements = [self.judged(folder, promised, looks_up, "")] if self.asks else []
         for name, state in self.states(run, trace):
             if judgements and judgements[-1].verdict != PASS:
                 break
             self.tools.cut(run, folder / "data", state)
-            judgements.append(self.judged(folder, said, looks_up, name))
+            judgements.append(self.judged(folder, promised, looks_up, name))
         judgement = replace(judgements[-1], is_known=all(each.is_known for each in judgements))
-        outcome = Outcome(text, judgement, trace, said=said)
+        outcome = Outcome(text, judgement, trace, promised=promised)
         if outcome.verdict.startswith("fail"):
             outcome.pending = self.tools.pending(run)
             outcome.errors = last_lines(errors, begun)
@@ -369,9 +372,9 @@ class Decider:
             outcome.errors = last_lines(errors, end=begun)
         return outcome
 
-    def judged(self, folder: Path, said: bytes, looks_up: LooksUp, state: str) -> Judgement:
+    def judged(self, folder: Path, promised: Promises, looks_up: LooksUp, state: str) -> Judgement:
         """The judgement of a state of this name. A loss that is known is none."""
-        judgement = self.judge.judge(folder, said, looks_up)
+        judgement = self.judge.judge(folder, promised, looks_up)
         if self.harness.knows(judgement.verdict):
             self.losses[judgement.verdict.removeprefix("fail ")] += 1
             return replace(judgement, verdict=PASS)

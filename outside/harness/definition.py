@@ -1,5 +1,5 @@
-"""A harness, which says how a program is prepared, run, run again after a power cut, and judged. It is a folder with up to four programs of these
-names, or a file of Python that defines them as functions or commands. A file of Python in the folder may add to the programs beside it."""
+"""A harness, which says how a program is prepared, run, run again after a power cut, and judged. It is a folder with programs of these names, or a file of
+Python that defines them as functions or commands. A file of Python in the folder may add to the programs beside it."""
 
 import json
 import os
@@ -11,6 +11,7 @@ from pathlib import Path
 
 from .answers import Stopped
 from .identity import Identity, digest_of, digests, files_in
+from .operations import MOST_LENGTH, USUAL_LENGTH, checked, lines_of
 from .step import STEPS
 
 STEP = Path(__file__).resolve().with_name("step.py")
@@ -40,10 +41,22 @@ class Harness:
     unjudged: tuple[str, ...] = ()  # patterns of names of files into which the judge doesn't look, such as logs with times
     allowed: tuple[str, ...] = ()  # those of FAILURES that are none of this program
     known: tuple[str, ...] = ()  # the codes of losses that are known: a run that breaks no other promise passes
+    operations: tuple[str, ...] = ()  # what a session may be asked to do
+    length: int = USUAL_LENGTH  # of so many of them at most in one run
 
     @property
     def is_folder(self) -> bool:
         return not self.file or self.file.name == PYTHON_FILE
+
+    @property
+    def begins(self) -> str:
+        """The step that is run under faults."""
+        return "session" if "session" in self.steps else "run"
+
+    @property
+    def looks(self) -> bool:
+        """Whether runs are judged by looking."""
+        return "look" in self.steps
 
     @property
     def is_killed_only(self) -> bool:
@@ -58,10 +71,12 @@ class Harness:
         """What answers depend on, for a campaign that writes its own files into that folder."""
         files = [*files_in(self.folder, into)] if self.is_folder else [self.file]
         named = {name: os.environ[name] for name in VARIABLES if name in os.environ}
-        version = {"version": self.version} if self.version else {}
+        more = {"version": self.version} if self.version else {}
+        if self.operations and self.file:
+            more |= {"operations": list(self.operations), "length": self.length}
         return {"power cut": digest_of(PROFILES), "files": digests(self.folder, [*files, *self.others]), "commands": self.commands,
             "variables": named | self.variables, "states": list(self.states or ALL_STATES), "order": self.order, "pin": self.pins,
-            "unjudged": list(self.unjudged), "allowed": sorted(self.allowed), "known": sorted(self.known)} | version
+            "unjudged": list(self.unjudged), "allowed": sorted(self.allowed), "known": sorted(self.known)} | more
 
 
 def read(path: str) -> Harness:
@@ -73,10 +88,23 @@ def read(path: str) -> Harness:
     if file.exists():
         read_file(file, harness)
     refuse_unknown(path, "failure", harness.allowed, FAILURES)
-    for needed in ("run", "judge"):
-        if needed not in harness.steps:
-            raise Stopped(f"{path}: `{needed}` is missing: a harness has a program of this name, or a file of Python that defines it")
+    refuse_lacking(path, harness)
     return harness
+
+
+def refuse_lacking(path: str, harness: Harness) -> None:
+    """Refuses a harness that doesn't say how its program is run and how it is judged."""
+    begins, judges = ("session", "look") if harness.operations else ("run", "judge")
+    lacking = [] if harness.begins in harness.steps else [begins]
+    lacking += [] if {"judge", "look"} & harness.steps.keys() else [judges]
+    if lacking:
+        raise Stopped(f"{path}: `{lacking[0]}` is missing: a harness has a program of this name, or a file of Python that defines it")
+    if {"run", "session"} <= harness.steps.keys():
+        raise Stopped(f"{path}: a harness has `run` or `session`, and not both")
+    if bool(harness.operations) != (harness.begins == "session"):
+        raise Stopped(f"{path}: `session` and `operations`, which lists what it may be asked to do, need each other")
+    if not 1 <= harness.length <= MOST_LENGTH:
+        raise Stopped(f"{path}: `length` must be a number from 1 to {MOST_LENGTH}")
 
 
 def read_folder(place: Path) -> Harness:
@@ -86,6 +114,10 @@ def read_folder(place: Path) -> Harness:
             raise Stopped(f"{file} isn't executable: call chmod +x {shlex.quote(str(file))}")
     harness = Harness(place.name, place, {file.name: [str(file)] for file in files})
     harness.unjudged, harness.allowed = words_in(place / "unjudged"), words_in(place / "allowed")
+    if (place / "operations").exists():
+        harness.operations = lines_of((place / "operations").read_text("utf-8", "surrogateescape"), str(place / "operations"))
+    if length := words_in(place / "length"):
+        harness.length = int(length[0]) if length[0].isascii() and length[0].isdigit() else 0
     return harness
 
 
@@ -116,6 +148,9 @@ def read_file(file: Path, harness: Harness) -> None:
     harness.version = str(told.get("version", ""))
     harness.unjudged += tuple(told.get("unjudged", ()))
     harness.allowed += tuple(told.get("allowed", ()))
+    harness.operations += checked(told["operations"], str(file)) if "operations" in told else ()
+    if "length" in told:
+        harness.length = told["length"] if isinstance(told["length"], int) else 0
     refuse_unknown(file, "state", harness.states, ALL_STATES)
     refuse_unknown(file, "order", (harness.order,), ORDERS)
 

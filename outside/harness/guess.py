@@ -4,6 +4,7 @@ import re
 
 from .definition import LIVE
 from .judging import CRASHED, HUNG
+from .operations import given_in
 from .outcome import Outcome
 from .telling import KEEP, acts, call_of
 
@@ -31,13 +32,14 @@ def never_synced(pending: list[str]) -> list[str]:
 
 
 def not_looked_at(outcome: Outcome) -> list[str]:
-    """`run` has ended with 0, so somebody takes a call that failed for done."""
+    """`run` or `session` has ended with 0, so somebody takes a call that failed for done."""
     failed = [hit for hit in outcome.trace if acts(hit) and hit[1] != KEEP and hit[3].startswith("return")]
     if outcome.status or not failed or outcome.verdict in (CRASHED, HUNG):
         return []
+    step = "session" if given_in(outcome.trace) else "run"
     if failed[0][3] == "return(HALF)":
-        return [f"perhaps nobody writes the rest: the {call_of(failed[0])} did half, and `run` ended with 0"]
-    return [f"perhaps nobody looks at what a call returns: the {call_of(failed[0])} failed, and `run` ended with 0"]
+        return [f"perhaps nobody writes the rest: the {call_of(failed[0])} did half, and `{step}` ended with 0"]
+    return [f"perhaps nobody looks at what a call returns: the {call_of(failed[0])} failed, and `{step}` ended with 0"]
 
 
 def without_a_power_cut(outcome: Outcome) -> list[str]:

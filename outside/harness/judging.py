@@ -8,6 +8,8 @@ from pathlib import Path
 
 from . import tree
 from .compared import Comparison, compared
+from .looking import looks_in_words
+from .operations import Promises
 from .run import Runner, last_line
 from .settings import MOST_TEXT
 from .shown import last_of, plain
@@ -32,6 +34,7 @@ class Judgement:
     is_known: bool = False  # it was taken from another run
     state: str = ""  # the state of the power cut in which it fails, if that is another one than the scenario says
     evidence: Evidence | None = None  # if it was asked for, and the judge itself found the failure
+    looks: tuple[str, ...] = ()  # if `look` found it: what was expected, and what was seen
 
 
 class LooksUp(Enum):
@@ -50,13 +53,13 @@ class Judge:
         self.count = 0
         self.lock = threading.Lock()
 
-    def judge(self, folder: Path, said: bytes, looks_up: LooksUp) -> Judgement:
+    def judge(self, folder: Path, promised: Promises, looks_up: LooksUp) -> Judgement:
         """Judges the data of a run's folder, or returns the known judgement of the same promises and state."""
-        key = hashlib.sha256(said).digest() + tree.digest(folder / "data", self.runner.harness.unjudged)
+        key = hashlib.sha256(repr(promised).encode()).digest() + tree.digest(folder / "data", self.runner.harness.unjudged)
         known = self.known.get(key) if looks_up != LooksUp.NONE else None
         if known and (looks_up == LooksUp.ALL or known.verdict == PASS):
             return known
-        judgement = self.ask(folder, said)
+        judgement = self.ask(folder, promised)
         with self.lock:
             self.count += 1
             self.known.setdefault(key, Judgement(judgement.verdict, judgement.why, is_known=True))
@@ -65,10 +68,29 @@ class Judge:
     def files(self, folder: Path) -> Comparison:
         return compared(self.runner.prepared, folder / "data", self.runner.harness.unjudged)
 
-    def ask(self, folder: Path, said: bytes) -> Judgement:
+    def ask(self, folder: Path, promised: Promises) -> Judgement:
+        """The judgement of `judge` if the harness has one, and if that passes, the one by looking."""
+        files = self.files(folder) if self.keeps_evidence else None  # now, since the judge may change them
+        judgement = self.ask_judge(folder, promised.said, files) if "judge" in self.runner.harness.steps else Judgement(PASS)
+        return self.look(folder, promised, files) if self.runner.looks and judgement.verdict == PASS else judgement
+
+    def look(self, folder: Path, promised: Promises, files: Comparison | None) -> Judgement:
+        """What `look` prints has to be what it prints after a run without faults of some operations, among them all that were acknowledged."""
+        status, why, seen = self.runner.looked(folder)
+        evidence = Evidence(promised.said, files, "") if files else None
+        if why:
+            return Judgement(UNRESOLVED, f"look: {why}")
+        if status:
+            return Judgement("fail unopenable", evidence=evidence)
+        looks = self.runner.looks
+        done = next((done for done in promised.choices() if looks.after(promised.numbers(done)).seen == seen), None)
+        if done is not None and promised.allows(done):
+            return Judgement(PASS)
+        return Judgement("fail torn" if done is None else "fail lost", evidence=evidence, looks=looks_in_words(looks.expected(promised), seen))
+
+    def ask_judge(self, folder: Path, said: bytes, files: Comparison | None) -> Judgement:
         promises, output = folder / "promises", folder / "judged"
         promises.write_bytes(said)
-        files = self.files(folder) if self.keeps_evidence else None  # now, since the judge may change them
         output.unlink(missing_ok=True)
         output.touch()
         status, why = self.runner.judged(folder, output, SAID=str(promises), PREPARED=str(self.runner.prepared))

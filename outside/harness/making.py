@@ -12,10 +12,11 @@ from .answers import WRITE_FAILED, Stopped, stopped_by
 from .identity import WRITTEN, is_passed_over
 from .programs import check_built
 from .shown import ERRORS, from_here, show, until_nobody_reads, write_out
+from .step import STEPS
 from .trial import CANNOT, expect, leave, try_alone, try_server
 from .words import ASK_HELP, Usage, as_called, refused, write_help
 
-NAMES = {"prepare", "run", "again", "judge", "unjudged", "allowed", "harness.py", "settings.toml", "message",  # that mean something in a harness
+NAMES = {*STEPS, "operations", "length", "unjudged", "allowed", "harness.py", "settings.toml", "message",  # that mean something in a harness
     "expected", "left", "journaled", *WRITTEN}
 FORMS = {"--server": "server", "--mail": "mail"}
 FLAGS = {"--mail", "--expect"}

@@ -120,8 +120,8 @@ class OnDisk:
                 self.runner.processes.end()
                 raise
 
-    def judged(self, said: bytes) -> Judgement:
-        return self.judge.judge(self.folder, said, LooksUp.ALL)
+    def judged(self, record: Record) -> Judgement:
+        return self.judge.judge(self.folder, self.runner.promises(record, record.run, record.said()), LooksUp.ALL)
 
     def made(self, scenario: str) -> Record:
         for name in ("run", "rewound"):
@@ -142,7 +142,7 @@ class OnDisk:
             with self.laid(root):
                 record = self.made(scenario)
                 self.words = words_of(self.folder / DATA, self.runner.prepared)
-                found.append(Judgement(UNRESOLVED, record.why) if record.why else self.judged(record.said()))
+                found.append(Judgement(UNRESOLVED, record.why) if record.why else self.judged(record))
 
         self.disk.run(action, touched=False)
         return found[0]
@@ -221,7 +221,7 @@ class OnDisk:
         cuts += [Cut(chance.randint(over, len(records)), chance.choice(SHARES), chance.getrandbits(32)) for _ in range(MORE_CUTS)]
         return list({hash(tuple(self.disk.written(cut.moment, cut.share, random.Random(cut.seed)))): cut for cut in reversed(cuts)}.values())[::-1]
 
-    def after(self, cut: Cut, said: bytes) -> Judgement:
+    def after(self, cut: Cut, record: Record) -> Judgement:
         """The judgement of what a cut leaves."""
         with self.disk.left(cut.moment, cut.share, random.Random(cut.seed)) as root, self.laid(root):
-            return self.judged(said)
+            return self.judged(record)

@@ -3,6 +3,7 @@
 from dataclasses import dataclass, field
 
 from .judging import PASS, Judgement
+from .operations import Promises
 from .scenario import hits_text
 from .trace import MOST_HITS
 
@@ -27,7 +28,7 @@ class Outcome:
     pending: list[list[str]] = field(default_factory=list)  # the pending changes at its cuts, in order, if it fails
     follows: bool = False  # it was derived from another run, or from a judgement of the same state
     status: int = 0  # how `run` ended, as a shell has it
-    said: bytes = b""  # the promises
+    promised: Promises = Promises(b"")
     errors: str = ""  # the last lines on standard error: of the judge if it fails, otherwise of the program
     knows_hits: bool = True
     is_late: bool = False  # its run was ended at its time, so its hits are those up to that moment
@@ -41,7 +42,7 @@ class Outcome:
     @property
     def works(self) -> bool:
         """Whether the program did what it is there for, as it has to without faults: it ended with 0, promised something, and kept it."""
-        return self.verdict == PASS and not self.status and bool(self.said)
+        return self.verdict == PASS and not self.status and not self.promised.lack
 
     @property
     def hits(self) -> str:

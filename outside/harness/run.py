@@ -15,13 +15,15 @@ from . import programs, tree
 from .answers import Stopped
 from .definition import Harness
 from .disk import disk_of
+from .looking import Looks
+from .operations import Promises, promises_of, scenario_for
 from .processes import WITHIN, Processes
 from .programs import Tools
 from .record import Record
 from .room import Room, TooLarge
 from .served import Served
 from .shown import last_lines, show
-from .trace import POINTS, length_of, trace_of
+from .trace import POINTS, length_of, marks_of, trace_of
 from .work import CLOSED, OPEN, Work, is_taken_away
 
 PREPARED = "prepared"  # the folder in which `prepare` was run
@@ -45,7 +47,8 @@ class Runner:
         self.count = 0
         self.syncs_disk = False  # a simulated power cut goes by the notes alone
         self.first: Record | None = None  # the run without faults that was made to see where runs have to lie
-        self.served = Served(harness.file, processes) if "judge" in harness.functions else None
+        self.served = Served(harness.file, processes) if harness.functions & {"judge", "look"} else None
+        self.looks = Looks(self) if harness.looks else None
         self.lock = threading.Lock()
 
     @property
@@ -103,12 +106,19 @@ class Runner:
             raise Stopped(f"{words[-1]} can't be run: {in_a_line(last_lines(folder / 'errors'))}")
         return process.returncode, ""
 
-    def judged(self, folder: Path, output: Path, **variables: str) -> tuple[int, str]:
-        """Runs `judge` in the same way. It runs without the supervisor, so if it is a function of Python, it needs no new Python."""
-        if not self.served:
-            return self.start(self.harness.steps["judge"], folder, output, **variables)
+    def judged(self, folder: Path, output: Path, step: str = "judge", **variables: str) -> tuple[int, str]:
+        """Runs `judge` or `look` in the same way. It runs without the supervisor, so if it is a function of Python, it needs no new Python."""
+        if step not in self.harness.functions:
+            return self.start(self.harness.steps[step], folder, output, **variables)
         with self.step(folder, **variables) as environment:
-            return self.served.call("judge", folder, output, environment, self.room)
+            return self.served.call(step, folder, output, environment, self.room)
+
+    def looked(self, folder: Path) -> tuple[int, str, bytes]:
+        """Runs `look`. Returns what it printed too."""
+        output = folder / "looked"
+        output.unlink(missing_ok=True)
+        output.touch()
+        return *self.judged(folder, output, "look"), output.read_bytes()
 
     def prepare(self) -> None:
         """Makes the data with which each run begins. They are made once, and copied, so that each run finds the same bytes."""
@@ -124,17 +134,22 @@ class Runner:
         self.room.end(folder, 0)
         if self.work.disk and not self.work.is_decided:
             self.decide_place()
+        if self.looks:
+            self.room.within(self.looks.learn)
 
     def decide_place(self) -> None:
         """Makes the run without faults in memory, and lets runs lie on a disk if the program maps its files. For example, MariaDB takes a log in memory
         for persistent memory, and never syncs it."""
-        self.first = self.room.within(lambda: self.make("none"))
+        operations = range(1, min(len(self.harness.operations), self.harness.length) + 1)  # a session that is asked for nothing maps nothing
+        self.first = self.room.within(lambda: self.make(scenario_for(operations)))
         with open(self.first.folder / "errors", "rb") as errors:
             maps = any(MAPPED in line for line in errors)
         self.work.decide(needs_disk=maps)
-        if maps:
+        if maps or operations:
             self.room.end(self.first.folder, 0)
+            tree.remove(self.first.folder)
             self.first = None
+        if maps:
             self.count = 0
             self.work.move(PREPARED)
             self.room.lie_on(disk_of(self.work.place))
@@ -157,13 +172,23 @@ class Runner:
         order = [] if self.harness.order == "arrival" else ["--order", self.harness.order]
         before = length_of(folder / "errors")
         words = [str(programs.FAULTS), *order, *["--pin"] * self.harness.pins, *["--sync"] * self.syncs_disk, "--", *self.harness.steps[step]]
-        status, why = self.start(words, folder, said, FAILPOINTS=scenario, FAULTS_ROOT=str(folder / "data"), FAULTS_RUN=str(run),
-            POINTS_TRACE=str(folder / POINTS))
+        variables = {"FAILPOINTS": scenario, "FAULTS_ROOT": str(folder / "data"), "FAULTS_RUN": str(run), "POINTS_TRACE": str(folder / POINTS)}
+        if step == "session":
+            operations = folder / "operations"
+            operations.write_bytes("".join(f"{line}\n" for line in self.harness.operations).encode("utf-8", "surrogateescape"))
+            variables |= {"FAULTS_OPERATIONS": str(operations), "FAULTS_LENGTH": str(self.harness.length)}
+        status, why = self.start(words, folder, said, **variables)
         if status == programs.REFUSED:
             why = why_refused(step, last_lines(folder / "errors", before))
         if status == programs.PAUSED:
             why = "the scenario has a pause"
         return status, why
+
+    def promises(self, record: Record, run: Path, said: bytes) -> Promises:
+        """What a run has promised that goes by the trace in this folder, and has printed that."""
+        if self.harness.operations:
+            return promises_of(trace_of(run), marks_of(record.run), said, reads_ahead=bool(self.looks and self.looks.reads_ahead))
+        return self.looks.promises(said) if self.looks else Promises(said)
 
     def make(self, scenario: str) -> Record:
         """Makes a run under a scenario, from the prepared data to its end, or to the hit at which the scenario ends it."""
@@ -174,10 +199,14 @@ class Runner:
                 self.room.begin(first.folder)
                 return first
             self.count += 1
+        return self.made_in(self.new_data(), scenario)
+
+    def new_data(self) -> Path:
+        """A new folder of a run, with the prepared data."""
         folder = self.work.new()
         self.room.begin(folder)
         tree.copy(self.prepared, folder / "data")
-        return self.made_in(folder, scenario)
+        return folder
 
     def made_in(self, folder: Path, scenario: str) -> Record:
         """The same in a run's folder that has the prepared data."""
@@ -185,7 +214,7 @@ class Runner:
             self.tools.begin(folder / "run", folder / "data")
         except TooLarge as found:
             raise Stopped(f"the files that prepare made: {found}") from found
-        status, why = self.under("run", folder / "run", folder, scenario, folder / "said")
+        status, why = self.under(self.harness.begins, folder / "run", folder, scenario, folder / "said")
         points = [sys.intern(hit[1]) for hit in trace_of(folder / "run")]  # interned, since each run keeps such a list of the same few texts
         return Record(folder, scenario, status, why, points, length_of(folder / "errors"))
 

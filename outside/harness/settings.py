@@ -4,12 +4,14 @@ import json
 import os
 import re
 import tomllib
+from dataclasses import dataclass
 from pathlib import Path
 
 from . import tree
 from .answers import Answers, Stopped
 from .definition import FAILURES, Harness
-from .shown import from_here, plain, show
+from .operations import WORK
+from .shown import from_here, plain, show, so_many
 
 MADE_BY = "# Made by paklour-loop."
 MADE = f"{MADE_BY} It writes this file again for each campaign. If you delete this line, the settings are your own and stay as they are."
@@ -17,12 +19,14 @@ FILES = ["open", "read", "write", "fsync", "truncate", "rename", "link", "unlink
 POINTS = [f"sys::{name}" for name in FILES]
 CUT_POINTS = ["power::keep"]
 NEXT = "order::next"  # if settings list this point, it is planned, as faults are, which thread goes first
-OWN_POINTS = re.compile(r"(sys|libc|power|order)::")
-KNOWN_POINTS = re.compile(r"sys::(" + "|".join([*FILES, "connect", "accept", "send", "recv"]) + r")(@.*)?|power::keep|" + NEXT, re.S)
+OWN_POINTS = re.compile(r"(sys|libc|power|order|work)::")
+KNOWN_POINTS = re.compile(rf"sys::({'|'.join([*FILES, 'connect', 'accept', 'send', 'recv'])})(@.*)?|power::keep|{NEXT}|{WORK}", re.S)
 WRITES = ["return", "return(ENOSPC)", "return(HALF)", "panic"]
 NO_POINT = "there is no such point; remove it from the points"
 NO_PLACE = "a point of the program's own can't be in settings with a depth; remove it, or remove the depth"
 MOST_TEXT, MOST_CODES = 200, 64  # bytes of a label or a code, and how many codes settings may have
+MOST_KINDS = 8  # of faults that settings may have at one point
+OPERATIONS_DEPTH = 2  # so that two operations are tried together, and each fault in one
 LOWERED = "settings.lowered.toml"  # settings of one's own with a lower depth
 SAYS_MADE = ", settings by paklour-loop"
 SAYS_KILLED = ", killed without a power cut"
@@ -40,11 +44,29 @@ def label_of(harness: Harness) -> str:
     return plain(os.fsencode(harness.name), MOST_TEXT - len(less.encode())) + less
 
 
-def made_text(label: str, codes: list[str], depth: int, has_kinds: bool, has_cuts: bool) -> str:
+def made_text(label: str, codes: list[str], depth: int, made: "Made") -> str:
     lines = [MADE, 'target = "outside"', f"depth = {depth}", "", "[outside]", f"label = {toml(label)}", f"codes = {toml(codes)}",
-        f"points = {toml(POINTS + CUT_POINTS * has_cuts)}"]
-    kinds = [f'"sys::write" = {toml(WRITES)}'] * has_kinds
+        f"points = {toml(POINTS + [WORK] * bool(made.operations) + CUT_POINTS * made.has_cuts)}"]
+    given = [f"return({number})" for number in range(1, made.operations + 1)]
+    kinds = [f'"sys::write" = {toml(WRITES)}'] * made.has_kinds + [f'"{WORK}" = {toml(given)}'] * bool(given)
     return "\n".join([*lines, *["", "[outside.kinds]", *kinds] * bool(kinds)]) + "\n"
+
+
+@dataclass(frozen=True)
+class Made:
+    """What settings that the loop makes have beside a depth."""
+
+    has_kinds: bool  # full disks and half writes
+    has_cuts: bool
+    operations: int = 0  # so many may be asked for
+    length: int = 0  # and so many of them in one run
+
+    def told(self, depth: int) -> str:
+        kinds = ", full disks and half writes" if self.has_kinds else ""
+        cuts = ", what a power cut keeps" if self.has_cuts else ", without power cuts"
+        given = so_many(self.operations, "operation")
+        operations = f", {given} to choose from, up to {self.length} in a run, each of which counts as a fault" if self.operations else ""
+        return f"depth {depth}{operations}, all points of files{cuts}{kinds}"
 
 
 def text_of(settings: Path) -> str:
@@ -68,9 +90,10 @@ class Settings:
             raise Stopped(f"{self.path} has settings of your own: change the depth and the kinds there, in place of --depth and --no-kinds")
         makes = self.is_made and not (keeps and self.path.exists())
         if makes:
-            self.depth = depth or 1
-            self.has_kinds = has_kinds
-            self.has_cuts = not harness.is_killed_only
+            self.made = Made(has_kinds, not harness.is_killed_only, len(harness.operations), harness.length)
+            if self.made.operations > MOST_KINDS:
+                raise Stopped(f"a campaign chooses among up to {MOST_KINDS} operations, and this harness has {self.made.operations}: let another one have the rest")
+            self.depth = depth or (OPERATIONS_DEPTH if self.made.operations else 1)
             self.label = label_of(harness)
             self.codes = sorted({code_of(line) for line in answers.lines() if line.startswith("fail ")})
             self.write()
@@ -85,13 +108,10 @@ class Settings:
             self.codes = self.table.get("outside", {}).get("codes", [])
 
     def show(self) -> None:
-        kinds = ", full disks and half writes" if self.has_kinds else ""
-        cuts = ", what a power cut keeps" if self.has_cuts else ", without power cuts"
-        tried = f"depth {self.depth}, all points of files{cuts}{kinds}"
-        show(f"loop: wrote the settings {from_here(self.path)}: {tried}; codes are added as the judge prints them")
+        show(f"loop: wrote the settings {from_here(self.path)}: {self.made.told(self.depth)}; codes are added as the judge prints them")
 
     def write(self) -> None:
-        tree.write(self.path, made_text(self.label, self.codes or ["lost"], self.depth, self.has_kinds, self.has_cuts).encode())
+        tree.write(self.path, made_text(self.label, self.codes or ["lost"], self.depth, self.made).encode())
 
     def lower(self) -> None:
         """Takes a depth that is lower by one. Settings of one's own stay as they are: the lower depth stands in a copy, beside the answers."""

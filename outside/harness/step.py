@@ -13,7 +13,7 @@ import signal
 import sys
 import traceback
 
-STEPS = ("prepare", "run", "again", "judge")
+STEPS = ("prepare", "run", "session", "again", "judge", "look")
 RAISED, LATE = 2, "late"
 C_LIBRARY, CLONE_NEWIPC = ctypes.CDLL(None), 0x08000000  # Python itself has `unshare` since 3.12
 
@@ -27,7 +27,7 @@ def defined(path: str) -> dict:
 def described(names: dict, path: str) -> dict:
     """What the loop uses of these names: functions as null, values as they are, and the modules in the harness's folder or below."""
     functions = {name: None for name in STEPS if callable(names.get(name))}
-    values = {name: value for name, value in names.items() if isinstance(value, (str, bool, list, tuple, dict))}
+    values = {name: value for name, value in names.items() if isinstance(value, (str, bool, int, list, tuple, dict))}
     files = [getattr(module, "__file__", None) or "" for module in sys.modules.values()]
     beside = os.path.join(os.path.dirname(path), "")
     return functions | values | {"modules": sorted(file for file in files if file.startswith(beside) and file != __file__)}

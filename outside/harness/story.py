@@ -7,6 +7,7 @@ from dataclasses import dataclass, field
 
 from .compared import Comparison, Side
 from .deciding import OF_BYTES
+from .operations import WORK, is_given
 from .outcome import Outcome
 from .shown import escaped
 from .telling import AND_BEFORE, KEEP, acts, failure
@@ -84,17 +85,24 @@ def changes_of(outcome: Outcome, state: str) -> list[Change]:
 
 
 def hits_of(outcome: Outcome) -> list[str]:
-    """What each hit is about: a file, or at a power cut what it asks."""
-    return [text_of(hit[4].partition(" ")[2] if hit[1] == KEEP else hit[4]) for hit in outcome.trace[:MOST_HITS]]
+    """What each hit is about."""
+    return [text_of(about(hit)) for hit in outcome.trace[:MOST_HITS]]
+
+
+def about(hit: list[str]) -> str:
+    """A file, or at a power cut what it asks, or the operation that was given."""
+    if hit[1] == WORK:
+        return hit[6] if is_given(hit) else "no more"
+    return hit[4].partition(" ")[2] if hit[1] == KEEP else hit[4]
 
 
 def story_of(outcome: Outcome, words: str, only: str = "") -> Story:
     """The story of an outcome that fails. `words` are the command of the campaign, and `only` is the state if no other one is judged: then it isn't told."""
     state = outcome.judgement.state or only
     evidence = outcome.judgement.evidence
-    said = (evidence.said if evidence else outcome.said).decode("utf-8", "surrogateescape").splitlines()
+    said = (evidence.said if evidence else outcome.promised.said).decode("utf-8", "surrogateescape").splitlines()
     errors = [text_of(line) for line in outcome.errors.splitlines()]
-    printed = [text_of(line) for line in evidence.printed.splitlines()] if evidence else []
+    printed = [text_of(line) for line in [*outcome.judgement.looks, *evidence.printed.splitlines()]] if evidence else []
     return Story(outcome.scenario, text_of(outcome.verdict), text_of(failure(outcome)), state, changes_of(outcome, state),
         [text_of(line) for line in said[-MOST_LINES:]], max(0, len(said) - MOST_LINES), evidence.files if evidence else None,
         printed + errors if evidence else [], [] if evidence else errors, hits_of(outcome), again(words, outcome.scenario))

@@ -3,6 +3,7 @@
 import re
 from collections import Counter
 
+from .operations import given_in, is_given
 from .outcome import Outcome
 from .scenario import Scenario, Unreadable
 from .shown import escaped
@@ -38,8 +39,8 @@ def call_of(hit: list[str]) -> str:
 
 
 def acts(hit: list[str]) -> bool:
-    """Whether a fault acted at this hit. At a power cut only a return does anything."""
-    return hit[3] != "go" and (hit[1] != KEEP or hit[3].startswith("return"))
+    """Whether a fault acted at this hit. At a power cut only a return does anything, and an operation that is given is no fault."""
+    return hit[3] != "go" and (hit[1] != KEEP or hit[3].startswith("return")) and not is_given(hit)
 
 
 def endless(scenario: str) -> dict[str, int]:
@@ -76,7 +77,12 @@ def faults_in_words(outcome: Outcome) -> str:
     told = [place for place, (point, number) in numbers.items() if number <= for_ever.get(point, number)]
     first_of_ever = {place for place, (point, number) in numbers.items() if for_ever.get(point) == number}
     parts = [fault_in_words(outcome, place, place in first_of_ever) for place in told]
-    return ", ".join([*(parts or ["without any fault"]), *state_in_words(outcome)])
+    return operations_in_words(outcome) + ", ".join([*(parts or ["without any fault"]), *state_in_words(outcome)])
+
+
+def operations_in_words(outcome: Outcome) -> str:
+    """What a session was asked to do, before what happened to it."""
+    return f"{', '.join(given)}: " if (given := given_in(outcome.trace)) else ""
 
 
 def state_in_words(outcome: Outcome) -> list[str]:
@@ -99,7 +105,7 @@ def group_of(outcome: Outcome) -> tuple[str, str]:
     hits = [hit for hit in outcome.trace if acts(hit)]
     parts = [kept_alike(hit[4].partition(" ")[2]) if hit[1] == KEEP else f"{call(hit)} {what(hit[3])}" for hit in hits]
     parts = [*(dict.fromkeys(parts) or ["without any fault"]), *state_in_words(outcome)]
-    return escaped(outcome.verdict.removeprefix("fail ")), escaped(", ".join(parts))
+    return escaped(outcome.verdict.removeprefix("fail ")), escaped(operations_in_words(outcome) + ", ".join(parts))
 
 
 def in_order(groups: Counter[tuple[str, str]]) -> list[tuple[str, str]]:

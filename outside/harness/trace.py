@@ -8,12 +8,18 @@ SHORTEST = 40  # the fewest bytes that a line has
 POINTS = "points"  # in a run's folder: the trace of a client
 # In the folder of a run's notes: for each hit its number, and how long the notes and the output were. The supervisor writes to it only if it is there.
 MARKS = "marks"
+Marks = list[tuple[int, int]]  # for each hit its number, and how long the output was when it began
 
 
 def trace_of(run: Path) -> list[list[str]]:
     """The columns of each hit: number, point, which hit of it, task, file, process, flags, result. At most one hit more than allowed is read."""
     with open(run / "trace", encoding="utf-8", errors="surrogateescape", newline="\n") as lines:
         return [line.removesuffix("\n").split("\t") for line in itertools.islice(lines, MOST_HITS + 1)]
+
+
+def marks_of(run: Path) -> Marks:
+    lines = [line.split("\t") for line in (run / MARKS).read_text().splitlines()]
+    return [(int(number), int(length)) for number, _, length in lines]
 
 
 def points_trace(folder: Path, before: int) -> list[list[str]]:

@@ -67,7 +67,7 @@ def try_out(folder: Path, place: Path) -> Files:
     tree.remove(place / "tmp")  # each step has a new one
     (place / "tmp").mkdir()
     of_run = {"FAILPOINTS": "none", "FAULTS_ROOT": str(place / "data"), "FAULTS_RUN": str(place / "notes"), "POINTS_TRACE": str(place / POINTS)}
-    if status := run_in(place, [*followed(harness, place), *harness.steps["run"]], environment | of_run):
+    if status := run_in(place, [*followed(harness, place), *harness.steps[harness.begins]], environment | of_run):
         refuse_failed(folder, "run", status, last_lines(place / "errors"))
     return before
 

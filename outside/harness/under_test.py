@@ -12,7 +12,7 @@ from .identity import digest_of
 from .step import STEPS
 from .story import text_of
 
-MOST_LINES = 12  # of a `run` that is a script
+MOST_LINES = 12  # of a `run` or a `session` that is a script
 TOLD_OF_DIGEST = 12  # so many digits tell two versions of a program apart
 
 
@@ -50,19 +50,19 @@ def command_lines(script: Path) -> list[str]:
 
 
 def run_lines(harness: Harness) -> list[str]:
-    if "run" in harness.functions:
-        return [f"the function run of {text_of(harness.file.name)}"]
-    command = harness.commands.get("run")
+    if harness.begins in harness.functions:
+        return [f"the function {harness.begins} of {text_of(harness.file.name)}"]
+    command = harness.commands.get(harness.begins)
     if command is None:
-        return command_lines(harness.folder / "run")
+        return command_lines(harness.folder / harness.begins)
     return [text_of(line) for line in (command if isinstance(command, str) else shlex.join(map(str, command))).splitlines()]
 
 
 def files_of(harness: Harness) -> list[Path]:
     """The files of the program that are known: those to which links in the harness's folder lead, and the one that its file of Python names."""
     linked = [path for path in sorted(harness.folder.iterdir()) if path.is_symlink() and path.is_file()] if harness.is_folder else []
-    named = Path(harness.steps["run"][0])
-    is_named = "run" in harness.commands and "run" not in harness.functions and named.is_absolute() and named.is_file() and str(named) != sys.executable
+    named = Path(harness.steps[harness.begins][0])
+    is_named = harness.begins in harness.commands and harness.begins not in harness.functions and named.is_absolute() and named.is_file() and str(named) != sys.executable
     return linked + [named] * is_named
 
 

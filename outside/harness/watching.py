@@ -6,21 +6,16 @@ from pathlib import Path
 from .certify import Certifier
 from .deciding import Decider
 from .judging import LooksUp
+from .operations import is_given
 from .outcome import Outcome
 from .programs import REFUSED, Tools
 from .record import Record
 from .run import tell_errors
 from .shown import escaped, write_out
 from .telling import KEEP, acts, faults_in_words, what
-from .trace import MARKS
+from .trace import Marks, marks_of
 
-Marks = list[tuple[int, int]]  # for each hit its number, and how long the output was when it began
 Lines = defaultdict[int, list[str]]  # what is written before the hit of that number
-
-
-def marks_of(run: Path) -> Marks:
-    marks = [line.split("\t") for line in (run / MARKS).read_text().splitlines()]
-    return [(int(number), int(length)) for number, _, length in marks]
 
 
 def add_said(lines: Lines, said: bytes, marks: Marks, behind: int) -> None:
@@ -52,7 +47,7 @@ def hit_line(hit: list[str]) -> str:
     did = "is kept" if hit[1] == KEEP else what(hit[3])
     came = did if acts(hit) else hit[7].strip()
     came += f" [{hit[3]}]" * (hit[3] != "go")
-    return f"{hit[0]:>5} {hit[1]} {hit[2]} ({hit[4]}) {came}"
+    return f"{hit[0]:>5} {hit[1]} {hit[2]} ({hit[6] if is_given(hit) else hit[4]}) {came}"
 
 
 def write(lines: list[str]) -> None:
@@ -81,5 +76,6 @@ def tell_end(record: Record, outcome: Outcome, tools: Tools, losses: list[str]) 
     """Shows what was pending at the last cut, the losses that are known, the verdict, and what the programs wrote to standard error."""
     why = f": {outcome.judgement.why}" if outcome.judgement.why else ""
     last = record.rewound if record.said_again.exists() else record.run
-    write([*pending_lines(tools, last), *[f"known: {code}" for code in losses], f"{outcome.verdict}{why}: {faults_in_words(outcome)}"])
+    write([*pending_lines(tools, last), *[f"known: {code}" for code in losses], f"{outcome.verdict}{why}: {faults_in_words(outcome)}",
+        *outcome.judgement.looks])
     tell_errors(record.folder / "errors")

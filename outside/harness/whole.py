@@ -109,7 +109,7 @@ class Whole:
 
     def tell_size(self, asked: list[str]) -> None:
         """Prints how many plans there are, once the first round of them is known."""
-        if asked == ["none"] or self.has_told_size:
+        if asked == ["none"] or self.has_told_size or self.harness.operations:  # which lead to more, and nobody knows how many
             return
         self.has_told_size = True
         hits = len(asked) // 2
@@ -159,14 +159,14 @@ class Whole:
             *_, last = ["", *outcome.errors.splitlines()]
             missing = f", as a shell does if a program isn't there: {last}" * (outcome.status == NOT_FOUND)
             refuse(f"the run without faults is refused: `run` ended with {outcome.status}{missing}", outcome)
-        if not outcome.said:
+        if outcome.promised.lack:
             refuse("the run without faults is refused: it printed no line, so it promised nothing, and every plan would pass", outcome)
         self.tell_failure(outcome)
         self.certify([outcome])
         self.found = ["none"]  # then no other failure means anything
         for change in outcome.pending:
             show(f"pending: {' '.join(change)}")
-        show("\n".join(f"judge: {line}" for line in outcome.errors.splitlines()))
+        show("\n".join([*outcome.judgement.looks, *[f"judge: {line}" for line in outcome.errors.splitlines()]]))
         show("\n".join(f"loop: {line}" for line in guesses(outcome, "again" in self.harness.steps)))
         if outcome.verdict != CRASHED and not on_disk:
             self.tell_trust(is_pending=bool(outcome.pending))
@@ -197,6 +197,8 @@ class Whole:
         campaign = Campaign(self.paklour, self.answers, self, self.asked.shows_progress)
         for point, why in self.settings.refused_points():
             raise Stopped(f"{self.settings.path}: {point}: {why}")
+        if self.decider.runner.looks:
+            self.decider.room.within(self.decider.runner.looks.check)
         try:
             if self.asked.failing:
                 self.try_failing()
@@ -347,10 +349,10 @@ class Whole:
     def tell_untried(self) -> None:
         """If all plans pass, a person takes the program for sound. A run that begins with nothing has no old data, which are what most programs lose, and a
         judge may not look at the data."""
-        if "again" not in self.harness.steps and not any(self.decider.runner.prepared.iterdir()):
+        if "again" not in self.harness.steps and not self.harness.operations and not any(self.decider.runner.prepared.iterdir()):
             show("loop: each run began with an empty folder, so nothing that was there before could be lost: have a second harness whose `prepare` makes "
                 "some, as paklour-new --begins again writes one")
-        if self.decider.sees_nothing(self.confirmed["none"].said):
+        if "judge" in self.harness.steps and self.decider.sees_nothing(self.confirmed["none"].promised):
             show("loop: the judge also passes what lay there before the run, though everything was promised: if all that the run stored were lost, it "
                 "wouldn't say so")
 
@@ -367,6 +369,7 @@ class Whole:
         lines = {scenario_in(line): line for line in self.answers.lines()}
         groups: Counter[tuple[str, str]] = Counter()
         perhaps: dict[tuple[str, str], list[str]] = {}
+        looks: dict[tuple[str, str], tuple[str, ...]] = {}
         told = set(scenarios[:MOST_STORIES])
         self.decider.judge.keeps_evidence = True
         for outcome in self.workers.run_again(["none", *scenarios]):
@@ -383,11 +386,13 @@ class Whole:
                 groups[group_of(outcome)] += 1
                 guessed = guesses(outcome, "again" in self.harness.steps)
                 perhaps.setdefault(group_of(outcome), guessed)
+                looks.setdefault(group_of(outcome), outcome.judgement.looks)
                 if outcome.scenario in told:
                     self.stories[outcome.scenario] = story_of(outcome, self.asked.words, self.decider.only_state)
                     self.stories[outcome.scenario].further += map(text_of, guessed)
         for group in in_order(groups):
             show(f"{so_many(groups[group], 'failure')}: {': '.join(group)}")
+            show("\n".join(f"  {line}" for line in looks[group]))
             for line in perhaps[group]:
                 show_once(f"  {line}")
         return len(groups)

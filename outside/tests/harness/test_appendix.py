@@ -16,7 +16,7 @@ from harness.appendix import Appendix, in_script, into_junit, into_page
 from harness.compared import MOST_FILES, SMALL, compared
 from harness.judging import Judgement
 from harness.outcome import Outcome
-from harness.settings import made_text
+from harness.settings import Made, made_text
 from harness.story import Change, Story, changes_of, hits_of, lines_of
 from harness.under_test import Program
 
@@ -178,7 +178,7 @@ class Added(Campaigns):
 
     def test_settings_of_ones_own_have_the_title(self):
         folder = self.harness(run=SAVES, judge=JUDGES)
-        (folder / "settings.toml").write_text(made_text("no word is lost", ["lost"], 1, True, True).partition("\n")[2])
+        (folder / "settings.toml").write_text(made_text("no word is lost", ["lost"], 1, Made(True, True)).partition("\n")[2])
         self.assertEqual(self.loop("-j", 2, folder).status, 0)
         self.assertEqual(appendix_in(folder / "page.html")["title"], "no word is lost")
 
