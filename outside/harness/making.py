@@ -18,8 +18,8 @@ from .words import ASK_HELP, Usage, as_called, refused, write_help
 
 NAMES = {*STEPS, "operations", "length", "unjudged", "allowed", "harness.py", "settings.toml", "message",  # that mean something in a harness
     "expected", "left", "journaled", *WRITTEN}
-FORMS = {"--server": "server", "--mail": "mail"}
-FLAGS = {"--mail", "--expect"}
+FORMS = {"--server": "server", "--mail": "mail", "--session": "session"}
+FLAGS = {"--mail", "--session", "--expect"}
 STANDARD_INPUT = 0
 ASKED = {  # the options that a terminal is asked for if they lack, with the question and the answers, of which the first is the default
     "--promises": ("Does the program promise that what it acknowledged is on the disk, or only that a kill loses nothing?", ("sync", "kill")),
@@ -161,6 +161,26 @@ This line is the last.
 """
 
 
+OPERATIONS = "put a 1\nput b 2\n"
+
+SESSION = """#!/bin/sh
+# Does what it is asked to do, in the folder of the data: it reads operations, a line each, of those in the file `operations`, and prints each line as soon
+# as that is done. From then on it must stay done, whatever happens. A program that reads operations by itself, and prints a line for each, may stand here
+# alone, as in: exec program
+while read -r operation; do
+    {command} $operation < /dev/null >&2 && echo "$operation"
+done
+exit 0
+"""
+
+LOOK = """#!/bin/sh
+# Prints what the store holds, in any form, in the folder as a power cut left it, and ends with 0, also if the store is empty. What it prints has to be what
+# it prints after a run without faults of all operations that were acknowledged, and of the others each or not. So let it leave out times, and all else
+# that two such runs don't have alike.
+{command} list
+"""
+
+
 @dataclass(frozen=True)
 class Wanted:
     folder: Path
@@ -230,8 +250,10 @@ def wanted_of(words: list[str]) -> Wanted:
         if len(rest) != 1 or len(options) > 1:
             raise Usage
         return Wanted(Path(rest[0]).resolve(), [], options)
-    if len(rest) < 2 or "--server" in options and "--mail" in options:
+    if len(rest) < 2 or len(options.keys() & FORMS.keys()) > 1:
         raise Usage
+    if "--session" in options and options.setdefault("--begins", "empty") != "empty":
+        raise Usage("--begins again: with --session what was there before comes from earlier operations")
     if not shutil.which(rest[1]):
         raise Stopped(f"there is no such program: {rest[1]}", CANNOT)
     return Wanted(Path(rest[0]).resolve(), rest[1:], options)
@@ -311,6 +333,10 @@ def fill(wanted: Wanted, answers: dict[str, str]) -> None:
         write(folder / "run", MAIL_RUN.format(command=wanted.command))
         write(folder / "judge", MAIL_JUDGE)
         tree.write(folder / "message", MESSAGE.encode())
+    elif wanted.form == "session":
+        write(folder / "session", SESSION.format(command=wanted.command))
+        write(folder / "look", LOOK.format(command=wanted.command))
+        tree.write(folder / "operations", OPERATIONS.encode())
     for path in filter(None, wanted.paths):
         link(path, folder)
     said: dict[str, str] = {}
@@ -325,6 +351,9 @@ def fill(wanted: Wanted, answers: dict[str, str]) -> None:
 def tell_next(wanted: Wanted, answers: dict[str, str], new: str) -> None:
     """Says what is still to be written by a person, and which other harness finds more."""
     folder = from_here(wanted.folder)
+    if wanted.form == "session":
+        return show(f"new: now let {folder}/operations list what the program may be asked to do, in place of the two lines there, {folder}/session do it, and "
+            f"{folder}/look print what the store holds")
     show(f"new: now let {folder}/prepare make what is there before, {folder}/run print a line for each promise, and {folder}/judge check these lines")
     if wanted.form == "command" and answers["--begins"] != "again":
         said = [word for option, answer in answers.items() if answer != ASKED[option][1][0] for word in (option, answer)]

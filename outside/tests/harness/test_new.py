@@ -30,6 +30,11 @@ class New(Campaigns):
         self.assertEqual(made.stdout, f"{OUTSIDE}/loop {self.here}/made\n")
         return self.loop("-j", 2, "--seconds", 10, self.here / "made")
 
+    def made_anew(self, text):
+        """The campaign of the same harness, whose program is another one now."""
+        (self.here / "program").write_text(text)
+        return self.loop("-j", 2, "--seconds", 10, self.here / "made")
+
     def test_a_command(self):
         done = self.made(SAFE)
         self.assertEqual(done.status, 0, done.told)
@@ -319,6 +324,19 @@ class New(Campaigns):
         done = self.made(DELIVERS.format(syncs=""), "--mail")
         self.assertEqual(done.status, 1)
         self.assertRegex(done.told, "fail (lost|torn): ")
+
+    def test_a_session(self):
+        """A file for each key, the name of which is never synced. The guesses for its operations and its look are right here."""
+        done = self.made('#!/bin/sh\ncase $1 in put) echo "$3" > "$2" && sync "$2" ;; list) grep -H . * || : ;; esac\n', "--session")
+        self.assertEqual(done.status, 0, done.told)
+        done = self.made_anew('#!/bin/sh\ncase $1 in put) echo "$3" > "$2" ;; list) grep -H . * || : ;; esac\n')
+        self.assertEqual(done.status, 1)
+        self.assertIn("1 failure: lost: put a 1: without any fault\n  expected one of: a:1\n  found: nothing\n", done.told)
+
+    def test_a_session_begins_with_nothing(self):
+        made = subprocess.run([OUTSIDE / "new", "--session", "--begins", "again", self.here / "made", "true"], capture_output=True, text=True, check=False)
+        self.assertEqual((made.returncode, made.stderr), (2, "new: --begins again: with --session what was there before comes from earlier operations "
+            f"({OUTSIDE}/new --help lists the options)\n"))
 
     def test_a_program_that_is_changed(self):
         """It is linked into the harness, so its old answers say nothing."""

@@ -45,7 +45,7 @@ class Words(Campaigns):
 
     def test_too_few_words(self):
         """Then it says how it is used."""
-        for name, lines in {"loop": 3, "new": 4, "census": 2}.items():
+        for name, lines in {"loop": 3, "new": 5, "census": 2}.items():
             told = self.told(name)
             self.assertTrue(told.startswith(f"Usage: paklour-{name} "), told)
             self.assertEqual(len(told.splitlines()), lines)

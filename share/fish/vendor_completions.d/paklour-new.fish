@@ -2,6 +2,7 @@
 complete -c paklour-new -a '(__fish_complete_command)'
 complete -c paklour-new -l server -x -d 'for a server that stays in the foreground, and is ready once it prints LINE'
 complete -c paklour-new -l mail -d 'for a program that delivers the message on its standard input, under the folder in which it is started'
+complete -c paklour-new -l session -d 'for a program that does one operation, whose words stand behind those of COMMAND, as in `kv db put a 1`'
 complete -c paklour-new -l promises -x -d 'what the program promises'
 complete -c paklour-new -l file-system -x -d 'the letter of the standard alone, by which a name lasts with the sync of its folder'
 complete -c paklour-new -l abort -x -d 'whether an error may end it by a signal, such as an abort'
