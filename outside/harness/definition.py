@@ -11,7 +11,7 @@ from pathlib import Path
 
 from .answers import Stopped
 from .identity import Identity, digest_of, digests, files_in
-from .operations import MOST_LENGTH, USUAL_LENGTH, checked, lines_of
+from .operations import MOST_OPEN, USUAL_LENGTH, checked, lines_of
 from .step import STEPS
 
 STEP = Path(__file__).resolve().with_name("step.py")
@@ -42,6 +42,7 @@ class Harness:
     allowed: tuple[str, ...] = ()  # those of FAILURES that are none of this program
     known: tuple[str, ...] = ()  # the codes of losses that are known: a run that breaks no other promise passes
     operations: tuple[str, ...] = ()  # what a session may be asked to do
+    is_workload: bool = False  # it is asked to do all of them, in this order
     length: int = USUAL_LENGTH  # of so many of them at most in one run
 
     @property
@@ -52,6 +53,11 @@ class Harness:
     def begins(self) -> str:
         """The step that is run under faults."""
         return "session" if "session" in self.steps else "run"
+
+    @property
+    def has_choice(self) -> bool:
+        """Whether a campaign chooses what the program is asked to do."""
+        return bool(self.operations) and not self.is_workload
 
     @property
     def looks(self) -> bool:
@@ -73,7 +79,7 @@ class Harness:
         named = {name: os.environ[name] for name in VARIABLES if name in os.environ}
         more = {"version": self.version} if self.version else {}
         if self.operations and self.file:
-            more |= {"operations": list(self.operations), "length": self.length}
+            more |= {"operations": list(self.operations), "workload": self.is_workload, "length": self.length}
         return {"power cut": digest_of(PROFILES), "files": digests(self.folder, [*files, *self.others]), "commands": self.commands,
             "variables": named | self.variables, "states": list(self.states or ALL_STATES), "order": self.order, "pin": self.pins,
             "unjudged": list(self.unjudged), "allowed": sorted(self.allowed), "known": sorted(self.known)} | more
@@ -102,9 +108,9 @@ def refuse_lacking(path: str, harness: Harness) -> None:
     if {"run", "session"} <= harness.steps.keys():
         raise Stopped(f"{path}: a harness has `run` or `session`, and not both")
     if bool(harness.operations) != (harness.begins == "session"):
-        raise Stopped(f"{path}: `session` and `operations`, which lists what it may be asked to do, need each other")
-    if not 1 <= harness.length <= MOST_LENGTH:
-        raise Stopped(f"{path}: `length` must be a number from 1 to {MOST_LENGTH}")
+        raise Stopped(f"{path}: `session` needs `operations`, which lists what it may be asked to do, or `workload`, and each of these needs `session`")
+    if not 1 <= harness.length <= MOST_OPEN:
+        raise Stopped(f"{path}: `length` must be a number from 1 to {MOST_OPEN}")
 
 
 def read_folder(place: Path) -> Harness:
@@ -114,11 +120,19 @@ def read_folder(place: Path) -> Harness:
             raise Stopped(f"{file} isn't executable: call chmod +x {shlex.quote(str(file))}")
     harness = Harness(place.name, place, {file.name: [str(file)] for file in files})
     harness.unjudged, harness.allowed = words_in(place / "unjudged"), words_in(place / "allowed")
-    if (place / "operations").exists():
-        harness.operations = lines_of((place / "operations").read_text("utf-8", "surrogateescape"), str(place / "operations"))
+    for file in (place / "operations", place / "workload"):
+        if file.exists():
+            take_operations(harness, lines_of(file.read_text("utf-8", "surrogateescape"), str(file)), file.name)
     if length := words_in(place / "length"):
         harness.length = int(length[0]) if length[0].isascii() and length[0].isdigit() else 0
     return harness
+
+
+def take_operations(harness: Harness, operations: tuple[str, ...], name: str) -> None:
+    if harness.operations:
+        raise Stopped(f"{harness.name}: a harness has `operations` or `workload`, each once")
+    harness.operations = operations
+    harness.is_workload = name == "workload"
 
 
 def words_in(file: Path) -> tuple[str, ...]:
@@ -148,7 +162,8 @@ def read_file(file: Path, harness: Harness) -> None:
     harness.version = str(told.get("version", ""))
     harness.unjudged += tuple(told.get("unjudged", ()))
     harness.allowed += tuple(told.get("allowed", ()))
-    harness.operations += checked(told["operations"], str(file)) if "operations" in told else ()
+    for name in {"operations", "workload"} & told.keys():
+        take_operations(harness, checked(told[name], str(file)), name)
     if "length" in told:
         harness.length = told["length"] if isinstance(told["length"], int) else 0
     refuse_unknown(file, "state", harness.states, ALL_STATES)

@@ -9,7 +9,7 @@ from pathlib import Path
 from . import tree
 from .compared import Comparison, compared
 from .looking import looks_in_words
-from .operations import Promises
+from .operations import MOST_CHOICES, Promises
 from .run import Runner, last_line
 from .settings import MOST_TEXT
 from .shown import last_of, plain
@@ -82,6 +82,8 @@ class Judge:
             return Judgement(UNRESOLVED, f"look: {why}")
         if status:
             return Judgement("fail unopenable", evidence=evidence)
+        if promised.are_too_many:
+            return Judgement(UNRESOLVED, f"look: there are more than {MOST_CHOICES} choices of operations that may be done or not")
         looks = self.runner.looks
         done = next((done for done in promised.choices() if looks.after(promised.numbers(done)).seen == seen), None)
         if done is not None and promised.allows(done):

@@ -10,7 +10,7 @@ from typing import TYPE_CHECKING
 
 from . import tree
 from .answers import Stopped
-from .operations import Promises, asks_ahead, scenario_for
+from .operations import MOST, Promises, asks_ahead, scenario_for
 from .shown import escaped, last_lines, show
 from .trace import marks_of, trace_of
 
@@ -37,8 +37,8 @@ class Looks:
     """Runs without faults, each made once."""
 
     def __init__(self, runner: "Runner"):
-        self.runner = runner
-        self.harness = runner.harness
+        self.runner = runner.with_harness(is_workload=False, length=MOST)  # of a workload any part may be asked for
+        self.harness = self.runner.harness
         self.known: dict[Operations, Clean] = {}
         self.reads_ahead = False  # whether a session asks for more before it has done what it was given
         self.lock = threading.Lock()

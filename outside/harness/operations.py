@@ -4,6 +4,7 @@ For example, a session that was given `put a 1` and `compact`, and ended after o
 what it leaves of `put a 1`, or of both."""
 
 import itertools
+import math
 from collections.abc import Iterable, Iterator
 from dataclasses import dataclass, replace
 
@@ -13,7 +14,8 @@ from .trace import Marks
 
 WORK = "work::next"  # the point at which a session asks for its next operation
 MOST, LONGEST = 64, 200  # lines of `operations`, and bytes of each
-USUAL_LENGTH, MOST_LENGTH = 3, 8  # so many operations a run is given at most: which of them were done is tried out, and of 8 there are 256 choices
+USUAL_LENGTH = 3  # so many operations a run is given at most
+MOST_OPEN, MOST_CHOICES = 8, 256  # which of the operations were done that weren't acknowledged is tried out, and of 8 there are so many choices
 Places = tuple[int, ...]  # of operations among those that a run was given
 
 
@@ -39,14 +41,33 @@ class Promises:
         """Whether just these operations may be done, in this order."""
         return self.acknowledged <= set(done) and len(done) >= self.least
 
+    @property
+    def open(self) -> list[int]:
+        """The places of those that may be done or not."""
+        return [place for place in range(len(self.given)) if place not in self.acknowledged]
+
+    @property
+    def are_too_many(self) -> bool:
+        """Whether not all choices can be tried."""
+        return sum(math.comb(len(self.open), size) for size in range(len(self.open) - self.least + 1)) > MOST_CHOICES
+
     def choices(self) -> Iterator[Places]:
-        """Which operations may be done, and then which may not be."""
-        some = [done for size in reversed(range(len(self.given) + 1)) for done in itertools.combinations(range(len(self.given)), size)]
-        yield from filter(self.allows, some)
-        yield from itertools.filterfalse(self.allows, some)
+        """Which operations may be done, and then which may not be: of a long workload those in which it has only begun, or lacks one operation."""
+        places = tuple(range(len(self.given)))
+        for size in range(len(self.open) - self.least + 1):
+            yield from (without(places, missing) for missing in itertools.combinations(self.open, size))
+        if len(places) <= MOST_OPEN:
+            lacking = [done for size in reversed(places) for done in itertools.combinations(places, size)]
+        else:
+            lacking = [*(places[:size] for size in reversed(places)), *(without(places, (place,)) for place in places)]
+        yield from itertools.filterfalse(self.allows, lacking)
 
     def numbers(self, done: Places) -> tuple[int, ...]:
         return tuple(self.given[place] for place in done)
+
+
+def without(places: Places, missing: Places) -> Places:
+    return tuple(place for place in places if place not in missing)
 
 
 def lines_of(text: str, name: str) -> tuple[str, ...]:
@@ -65,7 +86,8 @@ def checked(operations: Iterable[str], name: str) -> tuple[str, ...]:
 
 
 def is_given(hit: list[str]) -> bool:
-    return hit[1] == WORK and hit[3].startswith("return(")
+    """Whether a hit has given an operation: a workload's without a fault, or another one by a return."""
+    return hit[1] == WORK and hit[6] != "-" and (hit[3] == "go" or hit[3].startswith("return("))
 
 
 def given_in(trace: list[list[str]]) -> list[str]:
@@ -78,10 +100,6 @@ def scenario_for(operations: Iterable[int]) -> str:
     return scenario_of(Fault(WORK, hit, f"return({number})") for hit, number in enumerate(operations, 1))
 
 
-def number_of(hit: list[str]) -> int:
-    return int(hit[3].removeprefix("return(").removesuffix(")"))
-
-
 def promises_of(trace: list[list[str]], marks: Marks, said: bytes, reads_ahead: bool) -> Promises:
     """The promises of a session. A line that it prints before it asks for more acknowledges the operation that it was given last, and further lines
     those before it which weren't acknowledged."""
@@ -92,7 +110,7 @@ def promises_of(trace: list[list[str]], marks: Marks, said: bytes, reads_ahead: 
     for hit, end in zip(hits, ends):
         if is_given(hit):
             open_ones.append(len(given))
-            given.append(number_of(hit))
+            given.append(int(hit[3][len("return("):-1]) if hit[3] != "go" else len(given) + 1)
         for _ in range(said[printed[int(hit[0])]:end].count(b"\n")):
             if open_ones:
                 acknowledged.add(open_ones.pop())

@@ -48,8 +48,13 @@ class Runner:
         self.syncs_disk = False  # a simulated power cut goes by the notes alone
         self.first: Record | None = None  # the run without faults that was made to see where runs have to lie
         self.served = Served(harness.file, processes) if harness.functions & {"judge", "look"} else None
-        self.looks = Looks(self) if harness.looks else None
         self.lock = threading.Lock()
+        self.looks = Looks(self) if harness.looks else None
+
+    @property
+    def runs(self) -> int:
+        """How many it has made, also those that looks are held to."""
+        return self.count + (self.looks.runner.count if self.looks else 0)
 
     @property
     def prepared(self) -> Path:
@@ -141,11 +146,11 @@ class Runner:
         """Makes the run without faults in memory, and lets runs lie on a disk if the program maps its files. For example, MariaDB takes a log in memory
         for persistent memory, and never syncs it."""
         operations = range(1, min(len(self.harness.operations), self.harness.length) + 1)  # a session that is asked for nothing maps nothing
-        self.first = self.room.within(lambda: self.make(scenario_for(operations)))
+        self.first = self.room.within(lambda: self.make("none" if self.harness.is_workload else scenario_for(operations)))
         with open(self.first.folder / "errors", "rb") as errors:
             maps = any(MAPPED in line for line in errors)
         self.work.decide(needs_disk=maps)
-        if maps or operations:
+        if maps or operations and not self.harness.is_workload:
             self.room.end(self.first.folder, 0)
             tree.remove(self.first.folder)
             self.first = None
@@ -176,7 +181,7 @@ class Runner:
         if step == "session":
             operations = folder / "operations"
             operations.write_bytes("".join(f"{line}\n" for line in self.harness.operations).encode("utf-8", "surrogateescape"))
-            variables |= {"FAULTS_OPERATIONS": str(operations), "FAULTS_LENGTH": str(self.harness.length)}
+            variables |= {"FAULTS_WORKLOAD" if self.harness.is_workload else "FAULTS_OPERATIONS": str(operations), "FAULTS_LENGTH": str(self.harness.length)}
         status, why = self.start(words, folder, said, **variables)
         if status == programs.REFUSED:
             why = why_refused(step, last_lines(folder / "errors", before))

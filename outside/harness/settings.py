@@ -47,8 +47,8 @@ def label_of(harness: Harness) -> str:
 def made_text(label: str, codes: list[str], depth: int, made: "Made") -> str:
     lines = [MADE, 'target = "outside"', f"depth = {depth}", "", "[outside]", f"label = {toml(label)}", f"codes = {toml(codes)}",
         f"points = {toml(POINTS + [WORK] * bool(made.operations) + CUT_POINTS * made.has_cuts)}"]
-    given = [f"return({number})" for number in range(1, made.operations + 1)]
-    kinds = [f'"sys::write" = {toml(WRITES)}'] * made.has_kinds + [f'"{WORK}" = {toml(given)}'] * bool(given)
+    given = ["panic"] if made.is_workload else [f"return({number})" for number in range(1, made.operations + 1)]
+    kinds = [f'"sys::write" = {toml(WRITES)}'] * made.has_kinds + [f'"{WORK}" = {toml(given)}'] * bool(made.operations)
     return "\n".join([*lines, *["", "[outside.kinds]", *kinds] * bool(kinds)]) + "\n"
 
 
@@ -60,13 +60,18 @@ class Made:
     has_cuts: bool
     operations: int = 0  # so many may be asked for
     length: int = 0  # and so many of them in one run
+    is_workload: bool = False  # all of them, in their order
+
+    @property
+    def has_choice(self) -> bool:
+        return self.operations > 0 and not self.is_workload
 
     def told(self, depth: int) -> str:
         kinds = ", full disks and half writes" if self.has_kinds else ""
         cuts = ", what a power cut keeps" if self.has_cuts else ", without power cuts"
-        given = so_many(self.operations, "operation")
-        operations = f", {given} to choose from, up to {self.length} in a run, each of which counts as a fault" if self.operations else ""
-        return f"depth {depth}{operations}, all points of files{cuts}{kinds}"
+        given = f", {so_many(self.operations, 'operation')}" if self.operations else ""
+        choice = f" to choose from, up to {self.length} in a run, each of which counts as a fault" if self.has_choice else ""
+        return f"depth {depth}{given}{choice}, all points of files{cuts}{kinds}"
 
 
 def text_of(settings: Path) -> str:
@@ -90,10 +95,10 @@ class Settings:
             raise Stopped(f"{self.path} has settings of your own: change the depth and the kinds there, in place of --depth and --no-kinds")
         makes = self.is_made and not (keeps and self.path.exists())
         if makes:
-            self.made = Made(has_kinds, not harness.is_killed_only, len(harness.operations), harness.length)
-            if self.made.operations > MOST_KINDS:
+            self.made = Made(has_kinds, not harness.is_killed_only, len(harness.operations), harness.length, harness.is_workload)
+            if self.made.has_choice and self.made.operations > MOST_KINDS:
                 raise Stopped(f"a campaign chooses among up to {MOST_KINDS} operations, and this harness has {self.made.operations}: let another one have the rest")
-            self.depth = depth or (OPERATIONS_DEPTH if self.made.operations else 1)
+            self.depth = depth or (OPERATIONS_DEPTH if self.made.has_choice else 1)
             self.label = label_of(harness)
             self.codes = sorted({code_of(line) for line in answers.lines() if line.startswith("fail ")})
             self.write()

@@ -7,7 +7,7 @@ from dataclasses import dataclass, field
 
 from .compared import Comparison, Side
 from .deciding import OF_BYTES
-from .operations import WORK, is_given
+from .operations import WORK
 from .outcome import Outcome
 from .shown import escaped
 from .telling import AND_BEFORE, KEEP, acts, failure
@@ -92,7 +92,7 @@ def hits_of(outcome: Outcome) -> list[str]:
 def about(hit: list[str]) -> str:
     """A file, or at a power cut what it asks, or the operation that was given."""
     if hit[1] == WORK:
-        return hit[6] if is_given(hit) else "no more"
+        return hit[6] if hit[6] != "-" else "no more"
     return hit[4].partition(" ")[2] if hit[1] == KEEP else hit[4]
 
 

@@ -3,12 +3,13 @@
 import re
 from collections import Counter
 
-from .operations import given_in, is_given
+from .operations import WORK, given_in, is_given
 from .outcome import Outcome
 from .scenario import Scenario, Unreadable
 from .shown import escaped
 
 KEEP = "power::keep"
+MOST_GIVEN = 8  # operations of a run that are told
 AND_BEFORE = ", and all before it"
 UNDONE = re.compile(",? undone$")
 STATES = {  # of the power cut, besides that in which it loses all that is pending
@@ -67,6 +68,8 @@ def fault_in_words(outcome: Outcome, place: int, is_for_ever: bool) -> str:
         change, becomes = change_of(words)
         which = "the change" if becomes == "is undone" else f"pending change {number}"
         return f"{which} ({change}){' and each later one' if is_for_ever else ''} {becomes}"
+    if hit[1] == WORK:
+        return f"the run ends before {hit[6]}"
     later = f" and each later {hit[1]}" if is_for_ever else ""
     return f"the {call_of(hit)}{later} {what(hit[3])}"
 
@@ -81,8 +84,11 @@ def faults_in_words(outcome: Outcome) -> str:
 
 
 def operations_in_words(outcome: Outcome) -> str:
-    """What a session was asked to do, before what happened to it."""
-    return f"{', '.join(given)}: " if (given := given_in(outcome.trace)) else ""
+    """What a session was asked to do, before what happened to it. Of a long workload the middle is left out."""
+    given = given_in(outcome.trace)
+    if len(given) > MOST_GIVEN:
+        given = [*given[:2], f".. {len(given) - MOST_GIVEN + 1} more", *given[3 - MOST_GIVEN:]]
+    return f"{', '.join(given)}: " if given else ""
 
 
 def state_in_words(outcome: Outcome) -> list[str]:
@@ -103,7 +109,8 @@ def kept_alike(words: str) -> str:
 def group_of(outcome: Outcome) -> tuple[str, str]:
     """What a failure came to, and the calls that it consists of, without their numbers."""
     hits = [hit for hit in outcome.trace if acts(hit)]
-    parts = [kept_alike(hit[4].partition(" ")[2]) if hit[1] == KEEP else f"{call(hit)} {what(hit[3])}" for hit in hits]
+    parts = [kept_alike(hit[4].partition(" ")[2]) if hit[1] == KEEP else f"the run ends before {hit[6]}" if hit[1] == WORK else f"{call(hit)} {what(hit[3])}"
+        for hit in hits]
     parts = [*(dict.fromkeys(parts) or ["without any fault"]), *state_in_words(outcome)]
     return escaped(outcome.verdict.removeprefix("fail ")), escaped(operations_in_words(outcome) + ", ".join(parts))
 

@@ -109,7 +109,7 @@ class Whole:
 
     def tell_size(self, asked: list[str]) -> None:
         """Prints how many plans there are, once the first round of them is known."""
-        if asked == ["none"] or self.has_told_size or self.harness.operations:  # which lead to more, and nobody knows how many
+        if asked == ["none"] or self.has_told_size or self.harness.has_choice:  # of operations, which lead to more
             return
         self.has_told_size = True
         hits = len(asked) // 2
@@ -322,7 +322,7 @@ class Whole:
 
     @property
     def runs(self) -> int:
-        return self.decider.runner.count
+        return self.decider.runner.runs
 
     def tell_counts(self) -> None:
         for kind, count in self.failing.items():
@@ -343,13 +343,13 @@ class Whole:
             show(f"loop: known: {code}: {f'{count} judgements came to it, and count as passed' if count else 'no judgement came to it'}")
         derived = "1 plan was" if decider.followed == 1 else f"{decider.followed} plans were"
         tried = "1 of them was" if decider.tried == 1 else f"{decider.tried} of them were"
-        made = f"{so_many(decider.runner.count, 'run')} and {so_many(decider.judge.count, 'judgement')}"
+        made = f"{so_many(self.runs, 'run')} and {so_many(decider.judge.count, 'judgement')}"
         show(f"loop: {made}; {derived} derived from other runs, {tried} run as a check")
 
     def tell_untried(self) -> None:
         """If all plans pass, a person takes the program for sound. A run that begins with nothing has no old data, which are what most programs lose, and a
         judge may not look at the data."""
-        if "again" not in self.harness.steps and not self.harness.operations and not any(self.decider.runner.prepared.iterdir()):
+        if "again" not in self.harness.steps and not self.harness.has_choice and not any(self.decider.runner.prepared.iterdir()):
             show("loop: each run began with an empty folder, so nothing that was there before could be lost: have a second harness whose `prepare` makes "
                 "some, as paklour-new --begins again writes one")
         if "judge" in self.harness.steps and self.decider.sees_nothing(self.confirmed["none"].promised):

@@ -27,6 +27,7 @@ const char help[] =
     "  FAULTS_OPERATIONS   a file of operations, a line each. The program's standard input has what the scenario gives: when the program asks for its next\n"
     "                      line, work::next is hit, `return(3)` there gives it the third one, and without a fault its input ends\n"
     "  FAULTS_LENGTH       how many operations the program may be given. Default: 3\n"
+    "  FAULTS_WORKLOAD     a file of operations that the program is given one after the other. A return at work::next gives another one in its place\n"
     "  FAULTS_SYNC         the disk: what a sync makes last, and what a power cut may leave. `linux` (the default): what each of ext4, XFS and Btrfs\n"
     "                      keeps, and what any of them may leave. `ext4`, `xfs`, `btrfs`: that one. `posix`: the letter of the standard\n"
     "  FAULTS_BLOCK        what the disk writes as a whole, in bytes. Default: 4096. 512 is a disk whose sectors may be torn\n"

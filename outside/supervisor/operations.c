@@ -15,15 +15,17 @@ enum { LONGEST = 200, USUAL_LENGTH = 3, LONGEST_FILE = MOST_OPERATIONS * (LONGES
 
 static char lines[LONGEST_FILE + 1];
 static const char *operations[MOST_OPERATIONS];
-static unsigned count;  /* how many there are to choose from; 0 if the program's standard input is its own */
+static unsigned count;  /* how many there are; 0 if the program's standard input is its own */
 static unsigned length; /* how many it gets at most */
 static unsigned given;
+static const char *variable; /* the one that names the file of operations */
+static bool is_workload;     /* whether it gets one after the other, where no return gives another */
 
 /* ---- the variables */
 
 static void take_line(char *line) {
     char what[64];
-    snprintf(what, sizeof what, "FAULTS_OPERATIONS line %u", count + 1);
+    snprintf(what, sizeof what, "%s line %u", variable, count + 1);
     if (count == MOST_OPERATIONS) refuse(what, "there may be 64 lines");
     if (!*line) refuse(what, "it is empty");
     if (strlen(line) > LONGEST) refuse(what, "it has more than 200 bytes");
@@ -33,13 +35,12 @@ static void take_line(char *line) {
 static void read_lines(const char *name) {
     int file = open(name, O_RDONLY | O_CLOEXEC);
     ssize_t size = file < 0 ? -1 : read(file, lines, LONGEST_FILE + 1);
-    if (size < 0) refuse("FAULTS_OPERATIONS", strerror(errno));
+    if (size < 0) refuse(variable, strerror(errno));
     close(file);
     char *next = lines;
-    if (size > LONGEST_FILE) refuse("FAULTS_OPERATIONS may have 64 lines of 200 bytes", name);
-    if (memchr(lines, 0, (size_t)size)) refuse("FAULTS_OPERATIONS has a byte 0", name);
+    if (size > LONGEST_FILE || memchr(lines, 0, (size_t)size)) refuse(variable, "it may have 64 lines of 200 bytes, and no byte 0");
     for (char *line; (line = strsep(&next, "\n")) && (*line || next);) take_line(line);
-    if (!count) refuse("FAULTS_OPERATIONS has no line", name);
+    if (!count) refuse(variable, "it has no line");
 }
 
 static void read_length(const char *text) {
@@ -54,16 +55,20 @@ static void check_scenario(void) {
     char what[64];
     const struct chain *chain = chain_named(&scenario, point_names[WORK]);
     for (unsigned i = 0; chain && i < chain->length; i++) {
-        snprintf(what, sizeof what, "scenario: FAULTS_OPERATIONS has no line %u", chain->terms[i].operation);
+        snprintf(what, sizeof what, "scenario: %s has no line %u", variable, chain->terms[i].operation);
         if (chain->terms[i].operation > count) refuse(what, chain->name);
     }
 }
 
 void read_operations(void) {
-    const char *file = getenv("FAULTS_OPERATIONS");
-    if (!file) return;
-    read_lines(file);
-    read_length(getenv("FAULTS_LENGTH"));
+    const char *file = getenv("FAULTS_OPERATIONS"), *workload = getenv("FAULTS_WORKLOAD");
+    if (!file && !workload) return;
+    if (file && workload) refuse("FAULTS_OPERATIONS and FAULTS_WORKLOAD", "a program is given operations by one of these");
+    is_workload = workload;
+    variable = is_workload ? "FAULTS_WORKLOAD" : "FAULTS_OPERATIONS";
+    read_lines(is_workload ? workload : file);
+    if (is_workload) length = count;
+    else read_length(getenv("FAULTS_LENGTH"));
     check_scenario();
 }
 
@@ -109,9 +114,9 @@ static void give_operation(unsigned number) {
 /* Gives the next operation or ends the input. Returns false if the call has to wait. */
 static bool ask(struct call *call) {
     if (given == length) return end_input(), true;
-    enum answer answer = hit(call, WORK, "-", NULL);
+    enum answer answer = hit(call, WORK, "-", is_workload ? operation_named(given + 1) : NULL);
     if (answer == NOT_YET) return false;
-    if (answer == GIVE) give_operation(call->hit.operation);
+    if (answer == GIVE || is_workload) give_operation(answer == GIVE ? call->hit.operation : given + 1);
     else end_input();
     return true;
 }
@@ -141,5 +146,7 @@ void offer_operation(void) {
     asked.chosen = true;
     asked.hit.result_at = -1;
     ask(&asked);
-    if (asked.hit.seen) hit_result(&asked, asked.hit.answer == GIVE ? (long)strlen(operation_named(asked.hit.operation)) + 1 : 0);
+    int bytes = 0;
+    ioctl(input[0], FIONREAD, &bytes);
+    if (asked.hit.seen) hit_result(&asked, bytes);
 }

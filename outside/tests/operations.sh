@@ -40,7 +40,7 @@ session() {
     scenario=$1
     shift
     new
-    under FAULTS_OPERATIONS="$here/operations" FAULTS_LENGTH="${LENGTH-3}" FAILPOINTS="$scenario" timeout -s KILL 60 "$supervisor" $ORDER "$@" \
+    under $FROM="$here/operations" FAULTS_LENGTH="${LENGTH-3}" FAILPOINTS="$scenario" timeout -s KILL 60 "$supervisor" $ORDER "$@" \
         > "$here/said" 2> "$here/faults"
     status=$?
     said=$(paste -s -d , "$here/said")
@@ -50,6 +50,7 @@ session() {
 given() { grep work::next "$here/run/trace" | cut -f 7 | paste -s -d ,; }
 came() { ./census --hits "$here/run/trace" | sed 's/sys:://g; s/work:://g'; }
 
+FROM=FAULTS_OPERATIONS
 two='work::next=1*return(3)->1*return(1)'
 one_by_one='next;open;write;next;open;write;next'
 for ORDER in '' '--order settled'; do
@@ -81,6 +82,20 @@ new
 run none sh -c 'read -r line || echo ended; : > a' < /dev/null
 is 'without operations the input is its own' '0 ended open' "$status $said $(came)"
 
+# A workload: one line after the other, and another one where a return says so.
+FROM=FAULTS_WORKLOAD
+session none sh -c 'while read -r line; do echo "$line" >> log; done'
+is 'a workload is given as it stands' '0 put a 1,put b 2,compact next;open;write;next;open;write;next;open;write' "$status $(given) $(came)"
+session 'sys::write=1*off->1*return;work::next=2*off->1*panic' sh -c 'while read -r line; do echo "$line" >> log; done'
+is 'with a fault in the second, and the end before the third' '99 go,go,panic EIO' \
+    "$status $(grep work::next "$here/run/trace" | cut -f 4 | paste -s -d ,) $(grep write "$here/run/trace" | cut -f 8 | tr -d ' ' | tail -n 1)"
+session 'work::next=1*return(3)' sh -c 'while read -r line; do echo "$line" >> log; done'
+is 'another operation in place of the first' '0 compact,put b 2,compact' "$status $(given)"
+FROM=FAULTS_OPERATIONS
+new
+is 'both at once' '98 faults: FAULTS_OPERATIONS and FAULTS_WORKLOAD: a program is given operations by one of these' \
+    "$(under FAILPOINTS=none FAULTS_OPERATIONS="$here/operations" FAULTS_WORKLOAD="$here/operations" "$supervisor" true 2> "$here/faults"; echo "$?") $(cat "$here/faults")"
+
 # refuses NAME SCENARIO LENGTH LINE: with the operations of `operations`, these are refused with that line
 refuses() {
     new
@@ -96,7 +111,7 @@ done
 printf 'put a 1\n\ncompact\n' > "$here/operations"
 refuses 'an empty line' none 3 'FAULTS_OPERATIONS line 2: it is empty'
 : > "$here/operations"
-refuses 'no line' none 3 "FAULTS_OPERATIONS has no line: $here/operations"
+refuses 'no line' none 3 'FAULTS_OPERATIONS: it has no line'
 seq 65 > "$here/operations"
 refuses 'too many lines' none 3 'FAULTS_OPERATIONS line 65: there may be 64 lines'
 printf '%0201d\n' 0 > "$here/operations"

@@ -2,6 +2,7 @@
 not."""
 
 import json
+import shutil
 import unittest
 
 from harness.operations import WORK, Promises, asks_ahead, promises_of
@@ -23,7 +24,8 @@ STORES = LINES.format(perform='echo "$line" >> log && sync log && sync .')
 
 def trace_of(*hits):
     """A trace whose hits are operations by their numbers, other calls, and the end of the input, which is 0."""
-    return [[str(number), WORK, "", f"return({hit})" if hit else "go"] if isinstance(hit, int) else [str(number), hit, "", "go"] for number, hit in enumerate(hits, 1)]
+    return [[str(number), WORK, "", f"return({hit})" if hit else "go", "-", "", "an operation" if hit else "-"] if isinstance(hit, int)
+        else [str(number), hit, "", "go", "log", "", "-"] for number, hit in enumerate(hits, 1)]
 
 
 class WhatWasPromised(unittest.TestCase):
@@ -57,12 +59,27 @@ class WhatWasPromised(unittest.TestCase):
 
     def test_what_may_be_done(self):
         promised = Promises(b"", (4, 1, 2), frozenset([1]))
-        self.assertEqual([done for done in promised.choices() if promised.allows(done)], [(0, 1, 2), (0, 1), (1, 2), (1,)])
+        choices = list(promised.choices())
+        self.assertEqual((set(choices[:4]), set(choices[4:])), ({(0, 1, 2), (0, 1), (1, 2), (1,)}, {(), (0,), (2,), (0, 2)}))
         self.assertEqual(promised.numbers((0, 1)), (4, 1))
 
     def test_of_one_that_reads_ahead_only_the_count_is_known(self):
         promised = self.promised([1, 2, 0, "sys::write", "sys::write"], [0, 0, 0, 0, 2], b"x\n", reads_ahead=True)
-        self.assertEqual([done for done in promised.choices() if promised.allows(done)], [(0, 1), (0,), (1,)])
+        self.assertEqual({done for done in promised.choices() if promised.allows(done)}, {(0, 1), (0,), (1,)})
+
+    def test_of_a_long_workload(self):
+        """Those that may be done, and then those in which it has only begun or lacks one."""
+        promised = Promises(b"", tuple(range(1, 11)), frozenset(range(9)))
+        choices = list(promised.choices())
+        self.assertEqual(choices[:2], [tuple(range(10)), tuple(range(9))])
+        self.assertEqual(choices[2:11], [tuple(range(size)) for size in range(8, -1, -1)])
+        self.assertEqual(choices[11:], [tuple(other for other in range(10) if other != place) for place in range(9)])
+
+    def test_too_many_choices(self):
+        self.assertFalse(Promises(b"", tuple(range(20)), frozenset(range(12))).are_too_many)
+        self.assertTrue(Promises(b"", tuple(range(20)), frozenset(range(11))).are_too_many)
+        self.assertFalse(Promises(b"", tuple(range(20)), least=19).are_too_many)
+        self.assertTrue(Promises(b"", tuple(range(64)), least=62).are_too_many)
 
     def test_who_reads_ahead(self):
         self.assertTrue(asks_ahead(trace_of(1, 0, "sys::write"), [(1, 0), (2, 0), (3, 0)]))
@@ -140,7 +157,7 @@ class Refused(Campaigns):
 
     def test_parts_that_lack(self):
         folder = self.harness(run=SAVES, look=LOOK)
-        both = "`session` and `operations`, which lists what it may be asked to do, need each other"
+        both = "`session` needs `operations`, which lists what it may be asked to do, or `workload`, and each of these needs `session`"
         for name, text, line in (("operations", "a\n", both),
                 ("session", STORES, "a harness has `run` or `session`, and not both"),
                 ("run", None, None), ("length", "9\n", "`length` must be a number from 1 to 8"), ("length", "two\n", "`length` must be a number from 1 to 8"),
@@ -231,3 +248,24 @@ class Sessions(Campaigns):
         done, fails = self.campaign(self.harness(session=STORES, operations="a\n", look="#!/bin/sh\ncat log\n"))
         self.assertEqual((done.status, fails), (1, ["fail unopenable: without any fault"]), done.told)
         self.assertIn("judge: cat: log: No such file or directory\n", done.told)
+
+    def test_a_workload(self):
+        """A list that is done as it stands, so that only faults count."""
+        folder = self.harness(session=f'#!/bin/sh\nexec "{OUTSIDE}/out/keys" "${{FLAW:-sound}}" session\n', look=f'#!/bin/sh\nexec "{OUTSIDE}/out/keys" sound list\n',
+            workload="put a 1\nput b 2\ncompact\ndel a\nput c 3\n")
+        done, fails = self.campaign(folder)
+        self.assertEqual((done.status, fails), (0, []), done.told)
+        self.assertIn('"work::next" = ["panic"]', (self.here / "into" / "settings.toml").read_text())
+        shutil.rmtree(self.here / "into")
+        done, fails = self.campaign(folder, FLAW="no_folder_sync")
+        self.assertEqual((done.status, fails), (1, ["fail lost: put a 1, put b 2, compact, del a, put c 3: without any fault"]), done.told)
+        self.assertIn("expected one of: b 2; c 3\nfound: a 1; b 2\n", done.told)
+
+    def test_a_workload_whose_operations_are_synced_by_the_next(self):
+        """Each is lost if the run ends when it asks for the next one."""
+        session = '#!/bin/sh\n: >> log && sync log .\nwhile read -r line; do\n    sync log\n    echo "$line" >> log\n    echo "$line"\ndone\nsync log\n'
+        folder = self.harness(session=session, look="#!/bin/sh\n[ ! -e log ] || cat log\n", workload="a\nb\nc\n")
+        done, fails = self.campaign(folder)
+        for line in ("fail lost: a: the run ends before b", "fail lost: a, b: the run ends before c"):
+            self.assertIn(line, fails, done.told)
+        self.assertNotIn("without any fault", done.told)
