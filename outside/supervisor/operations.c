@@ -7,11 +7,13 @@
 #include "variables.h"
 
 #include <errno.h>
+#include <poll.h>
 #include <stdio.h>
 #include <stdlib.h>
 #include <sys/ioctl.h>
+#include <sys/select.h>
 
-enum { LONGEST = 200, USUAL_LENGTH = 3, LONGEST_FILE = MOST_OPERATIONS * (LONGEST + 1) };
+enum { LONGEST = 200, USUAL_LENGTH = 3, MOST_POLLED = 256, LONGEST_FILE = MOST_OPERATIONS * (LONGEST + 1) };
 
 static char lines[LONGEST_FILE + 1];
 static const char *operations[MOST_OPERATIONS];
@@ -139,6 +141,67 @@ bool serve_operation(struct call *call, const struct opened *opened) {
 /* ---- programs that wait by poll */
 
 bool awaits_operation(void) { return count && !has_ended_input() && !has_more() && command_runs(); }
+
+static bool is_input_of(pid_t process, long file) {
+    char name[64], leads_to[64], ours[64];
+    snprintf(name, sizeof name, "/proc/%d/fd/%ld", process, file);
+    snprintf(ours, sizeof ours, "pipe:[%lu]", input_told.st_ino);
+    ssize_t length = readlink(name, leads_to, sizeof leads_to);
+    return length == (ssize_t)strlen(ours) && !memcmp(leads_to, ours, (size_t)length);
+}
+
+static bool polls_input(const struct thread *thread, uint64_t at, uint64_t number) {
+    struct pollfd files[MOST_POLLED];
+    size_t read = read_memory(thread, at, files, (number < MOST_POLLED ? number : MOST_POLLED) * sizeof *files) / sizeof *files;
+    for (size_t i = 0; i < read; i++)
+        if (files[i].events & (POLLIN | POLLRDNORM) && is_input_of(thread->process, files[i].fd)) return true;
+    return false;
+}
+
+static bool selects_input(const struct thread *thread, uint64_t number, uint64_t at) {
+    fd_set files;
+    FD_ZERO(&files);
+    if (!at || !read_memory(thread, at, &files, sizeof files)) return false;
+    for (uint64_t file = 0; file < number && file < FD_SETSIZE; file++)
+        if (FD_ISSET(file, &files) && is_input_of(thread->process, (long)file)) return true;
+    return false;
+}
+
+/* The files of an epoll stand in a file of /proc, a line each. */
+static bool epolls_input(const struct thread *thread, uint64_t epoll) {
+    char name[64], line[256];
+    long file;
+    bool found = false;
+    snprintf(name, sizeof name, "/proc/%d/fdinfo/%lu", thread->process, epoll);
+    FILE *lines = fopen(name, "re");
+    while (lines && !found && fgets(line, sizeof line, lines)) found = sscanf(line, "tfd: %ld", &file) == 1 && is_input_of(thread->process, file);
+    if (lines) fclose(lines);
+    return found;
+}
+
+/* Whether a thread sleeps in a call that ends once the input can be read. */
+static bool waits_for_input(const struct thread *thread) {
+    char name[64];
+    long call = -1;
+    uint64_t first = 0, second = 0;
+    snprintf(name, sizeof name, "/proc/%d/syscall", thread->number);
+    FILE *told = fopen(name, "re");
+    if (!told) return false;
+    int fields = fscanf(told, "%ld %lx %lx", &call, &first, &second);
+    fclose(told);
+    if (fields < 3) return false; /* it runs */
+    if (call == SYS_poll || call == SYS_ppoll) return polls_input(thread, first, second);
+    if (call == SYS_select || call == SYS_pselect6) return selects_input(thread, first, second);
+    if (call == SYS_epoll_wait || call == SYS_epoll_pwait || call == SYS_epoll_pwait2) return epolls_input(thread, first);
+    return call == SYS_splice && is_input_of(thread->process, (long)first);
+}
+
+static bool goes_without(pid_t process, pid_t thread) {
+    (void)process;
+    return !waits_for_input(thread_of(thread));
+}
+
+bool is_polled(void) { return !each_thread(goes_without); }
 
 /* The hit is one of the command: nobody sees which of its threads asks. */
 void offer_operation(void) {

@@ -21,9 +21,12 @@ void take_input(void);
 /* Serves a read if it is one of the input. */
 bool serve_operation(struct call *call, const struct opened *opened);
 
-/* Whether all that was given has been read, and the input hasn't ended. A program that waits by poll reads only once there is something to be read, so
-   it asks when all of its threads rest: then offer_operation is called. */
+/* Whether all that was given has been read, and the input hasn't ended. */
 bool awaits_operation(void);
+
+/* A program that waits by poll reads only once there is something to be read, so it asks when all of its threads rest and one of them waits for the input.
+   Then offer_operation is called. */
+bool is_polled(void);
 void offer_operation(void);
 
 #endif

@@ -128,18 +128,11 @@ static uint64_t turn; /* how many turns were waited for */
 static struct looked *unsettled; /* one that isn't at rest */
 static enum patience patience;
 
-/* The number of the call in which a thread sleeps, or -1. */
-static long call_of(int thread) {
-    char text[128], *end;
-    int file = open_proc(thread, "syscall");
-    long number = read_text_of(file, text, sizeof text) ? strtol(text, &end, 10) : -1;
-    close(file);
-    return number >= 0 && end > text ? number : -1;
-}
-
 /* Whether a thread waits for a child that uses its memory. It sleeps in the same way as one that waits for a disk. */
 static bool waits_for_child(int thread) {
-    long number = call_of(thread);
+    char text[128];
+    int file = open_proc(thread, "syscall"), number = read_text_of(file, text, sizeof text) ? atoi(text) : -1;
+    close(file);
     return number == SYS_vfork || number == SYS_clone || number == SYS_clone3;
 }
 
@@ -211,16 +204,6 @@ bool all_at_rest(bool (*waits)(int thread)) {
     has_call = waits;
     patience = FOR_CALL;
     return all_rest();
-}
-
-bool any_polls(void) {
-    static const int polls[] = {SYS_poll, SYS_ppoll, SYS_select, SYS_pselect6, SYS_epoll_wait, SYS_epoll_pwait, SYS_epoll_pwait2, SYS_splice};
-    for (int i = 0; i < count; i++) {
-        long number = call_of(all[i].number);
-        for (size_t each = 0; each < sizeof polls / sizeof *polls; each++)
-            if (number == polls[each]) return true;
-    }
-    return false;
 }
 
 void forget_unsettled(void) { tries = 0; }

@@ -32,9 +32,6 @@ uint64_t time_to_next_look(void);
 /* Whether every thread rests at this moment. */
 bool all_at_rest(bool (*waits)(int thread));
 
-/* Whether a thread of those waits until a descriptor is ready. */
-bool any_polls(void);
-
 /* The place of the call that goes next among these. */
 size_t next_of(struct call *const *calls, size_t count);
 

@@ -140,12 +140,12 @@ static void take_turn(int listener) {
 }
 
 /* If nothing has happened for some time: lets those waits for futexes end that a signal ends, or whose word has changed though nobody was seen who
-   woke them; and if a thread waits by poll, perhaps for the input, offers the next operation. Any call that has come meanwhile is served first. */
+   woke them; and if all threads rest, and one of them waits for the input, offers the next operation. Any call that has come meanwhile is served first. */
 static void look_at_waits(int listener) {
     see_signals();
     if (first_turn()) return;
     if (sees_change() && all_at_rest(waits_here)) return wake_changed();
-    if (!awaits_operation() || !all_at_rest(waits_here) || !any_polls()) return;
+    if (!awaits_operation() || !all_at_rest(waits_here) || !is_polled()) return;
     if (poll(&(struct pollfd){listener, POLLIN, 0}, 1, 0) == 0) offer_operation();
 }
 

@@ -14,11 +14,23 @@ def perform(line):
 
 
 def lines(way):
-    if way == "polled":
+    if way == "selected":
         while select.select([0], [], []) and (line := sys.stdin.readline()):
+            yield line
+    elif way == "polled":
+        polled = select.poll()
+        polled.register(0, select.POLLIN)
+        while polled.poll() and (line := sys.stdin.readline()):
             yield line
     elif way == "unbuffered":
         while line := os.read(0, 4096):
+            yield line.decode()
+    elif way == "beside a wait":
+        import threading
+        import time
+        threading.Thread(target=select.epoll().poll, daemon=True).start()
+        while line := os.read(0, 4096):
+            time.sleep(0.05)
             yield line.decode()
     elif way == "not waiting":
         os.set_blocking(0, False)
@@ -56,7 +68,7 @@ one_by_one='next;open;write;next;open;write;next'
 for ORDER in '' '--order settled'; do
     session "$two" sh -c 'while read -r line; do echo "$line" >> log; echo "ok $line"; done'
     is "a shell is given two operations, then its input ends $ORDER" "0 ok compact,ok put a 1 compact,put a 1,- $one_by_one" "$status $said $(given) $(came)"
-    for way in readline iterated unbuffered polled 'not waiting'; do
+    for way in readline iterated unbuffered polled selected 'not waiting' 'beside a wait'; do
         session "$two" python3 -S "$here/session.py" "$way"
         is "as is Python, $way $ORDER" "0 ok compact,ok put a 1 compact,put a 1,- $one_by_one" "$status $said $(given) $(came)"
     done
