@@ -29,6 +29,7 @@ from .work import CLOSED, OPEN, Work, is_taken_away
 PREPARED = "prepared"  # the folder in which `prepare` was run
 TIME_IS_UP, CANNOT, NOT_FOUND = 124, 125, 127  # how `within` ends. A program of the harness may have these statuses too
 MAPPED = b"each store into the mapping of"  # as the supervisor says that a program maps a file
+OF_SESSION = ("FAULTS_OPERATIONS", "FAULTS_WORKLOAD", "FAULTS_LENGTH")  # which the loop sets for a session alone
 NO_CALL = "any call under FAULTS_ROOT"  # as it says that a step never used its data
 
 
@@ -42,7 +43,7 @@ class Runner:
         self.room = room
         self.seconds = room.bounds.seconds
         self.late = f"it was ended after {self.seconds} seconds (--seconds)"  # why a run is unresolved that took too long
-        self.outer = dict(os.environ)
+        self.outer = {name: value for name, value in os.environ.items() if name not in OF_SESSION}
         self.tools = Tools(room)
         self.count = 0
         self.syncs_disk = False  # a simulated power cut goes by the notes alone
