@@ -186,7 +186,7 @@ static void go_on(struct state *state, const struct replay *replay, const struct
     keep_counts(asking, state);
     state->noted = 0;
     state->started = state->number;
-    state->ended = state->loaded = state->others = state->torn = state->unseen = state->unseen_told = 0;
+    state->ended = state->is_full = state->loaded = state->others = state->torn = state->unseen = state->unseen_told = 0;
     memset(&state->cut, 0, sizeof state->cut);
     memset(state->later, 0, sizeof state->later);
 }

@@ -22,7 +22,7 @@ from .records import Key, key_of, lasting_faults
 from .repeats import Repeats
 from .room import TooLarge
 from .run import Runner
-from .scenario import POWER, Scenario, Unreadable, scenario_of
+from .scenario import ONCE, POWER, Scenario, Unreadable, scenario_of
 from .shown import last_lines
 from .trace import MARKS, length_of, points_trace, trace_of
 
@@ -196,13 +196,18 @@ class Decider:
     def keep(self, key: Key, record: Record, is_steady: bool = True) -> None:
         ends = any(fault.answer.startswith("panic") for fault in key)
         size = tree.size(record.folder)
-        if record.why or ends or len(key) >= self.depth or self.every_run or not is_steady:
+        if record.why or ends or len(key) >= self.depth + self.is_sticky_too(key) or self.every_run or not is_steady:
             tree.remove(record.folder)
             self.room.end(record.folder, size)
         else:
             self.room.end(record.folder, size)
             self.records.give(key, record, size)
             self.room.make_way()
+
+    @staticmethod
+    def is_sticky_too(key: Key) -> bool:
+        """Whether a run with these faults is also that of a plan with its last fault sticky."""
+        return any(fault.answer in ONCE for fault in key)
 
     def follow(self, text: str, key: Key, hit: int) -> Outcome | None:
         """Derives the outcome from a known run, which is made again if its files are gone. None if it can't be derived from that run."""

@@ -10,6 +10,7 @@ from .telling import KEEP, acts, call_of
 
 RENAMED = re.compile(r"rename (.+) -> (.+?)(?:, .*)?")
 OF_FILE = re.compile(r"(?:length of (.+) \d+|block \d+ of (.+) as after .*)(?:, .*)?")
+READS = ("sys::read", "sys::recv")
 NAMES = "names"  # the state of the power cut that has the changes of names alone
 
 
@@ -34,11 +35,14 @@ def never_synced(pending: list[str]) -> list[str]:
 def not_looked_at(outcome: Outcome) -> list[str]:
     """`run` or `session` has ended with 0, so somebody takes a call that failed for done."""
     failed = [hit for hit in outcome.trace if acts(hit) and hit[1] != KEEP and hit[3].startswith("return")]
-    if outcome.status or not failed or outcome.verdict in (CRASHED, HUNG):
+    if outcome.status or not failed or outcome.verdict in (CRASHED, HUNG) or failed[0][3] == "return(TERM)":
         return []
     step = "session" if given_in(outcome.trace) else "run"
     if failed[0][3] == "return(HALF)":
-        return [f"perhaps nobody writes the rest: the {call_of(failed[0])} did half, and `{step}` ended with 0"]
+        does = "reads" if failed[0][1].startswith(READS) else "writes"
+        return [f"perhaps nobody {does} the rest: the {call_of(failed[0])} did half, and `{step}` ended with 0"]
+    if failed[0][3] == "return(KILL)":
+        return [f"perhaps nobody looks at how a process ended: one was killed at the {call_of(failed[0])}, and `{step}` ended with 0"]
     return [f"perhaps nobody looks at what a call returns: the {call_of(failed[0])} failed, and `{step}` ended with 0"]
 
 

@@ -7,6 +7,7 @@ from dataclasses import dataclass
 
 TERM = re.compile(r"(?:(\d+)\*)?([a-z]+)(?:\((.*)\))?", re.S)
 POWER = "power::"
+ONCE = frozenset({"return(EINTR)", "return(FULL)"})  # of several in a row at a point the first acts alone, also of a sticky one
 
 
 class Unreadable(Exception):
@@ -21,7 +22,15 @@ class Term:
 
     @property
     def answer(self) -> str:
+        """What it does, as the trace has it: `off` goes on."""
+        if self.task == "off":
+            return "go"
         return self.task if self.argument is None else f"{self.task}({self.argument})"
+
+    @property
+    def is_endless(self) -> bool:
+        """Whether it acts at each later hit."""
+        return self.count is None and self.answer not in ("go", *ONCE)
 
 
 @dataclass(frozen=True)
@@ -54,25 +63,38 @@ class Scenario:
 
     def is_endless(self) -> bool:
         """Whether it has a sticky fault, except at a power cut."""
-        return any(term.count is None and term.task != "off"
-            for name, chain in self.chains.items() if not name.startswith(POWER) for term in chain)
+        return any(term.is_endless for name, chain in self.chains.items() if not name.startswith(POWER) for term in chain)
 
     def answers(self, points: Iterable[str]) -> list[str]:
         """What it does at these hits, in order: `go`, or its task."""
         used = {name: [0] * len(chain) for name, chain in self.chains.items()}
-        return [acting(self.chains[point], used[point]) if point in used else "go" for point in points]
+        before: dict[str, str] = {}
+        answers = []
+        for point in points:
+            answer = acting(self.chains[point], used[point]) if point in used else "go"
+            answers.append(behind(before.get(point), answer))
+            before[point] = answer
+        return answers
+
+
+def behind(before: str | None, answer: str) -> str:
+    """What an answer does at the hit behind one of its point that had that answer before."""
+    return "go" if answer == before and answer in ONCE else answer
 
 
 def faults_of(name: str, chain: list[Term]) -> list[Fault]:
-    faults, hit = [], 0
+    faults, hit, before = [], 0, "go"
     for term in chain:
+        if term.is_endless:
+            raise Unreadable(name)
+        count = 1 if term.count is None else term.count
+        acts = count if term.answer not in ONCE else min(count, term.answer != before)
+        if term.answer != "go":
+            faults += [Fault(name, hit + each + 1, term.answer) for each in range(acts)]
+        hit += count
         if term.count is None:
-            if term.task != "off":
-                raise Unreadable(name)
             break
-        if term.task != "off":
-            faults += [Fault(name, hit + each + 1, term.answer) for each in range(term.count)]
-        hit += term.count
+        before = term.answer if count else before
     return faults
 
 
@@ -81,7 +103,7 @@ def acting(chain: list[Term], used: list[int]) -> str:
     for number, term in enumerate(chain):
         if term.count is None or used[number] < term.count:
             used[number] += 1
-            return "go" if term.task == "off" else term.answer
+            return term.answer
     return "go"
 
 

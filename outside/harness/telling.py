@@ -26,7 +26,8 @@ def ordinal(number: int) -> str:
 
 def what(answer: str) -> str:
     """What the task that acted did to a call."""
-    return {"return": "fails", "return(HALF)": "does half", "return(DROP)": "is lost", "panic": "ends the run",
+    return {"return": "fails", "return(HALF)": "does half", "return(DROP)": "is lost", "return(KILL)": "kills its process",
+        "return(TERM)": "comes with SIGTERM", "return(FULL)": "finds the disk full", "panic": "ends the run",
         }.get(answer, answer.replace("return(", "fails with ").rstrip(")"))
 
 
@@ -49,7 +50,7 @@ def endless(scenario: str) -> dict[str, int]:
     found = {}
     try:
         for name, chain in Scenario(scenario).chains.items():
-            if chain and chain[-1].count is None and chain[-1].task != "off":
+            if chain and chain[-1].is_endless:
                 found[name] = sum(term.count or 0 for term in chain) + 1
     except Unreadable:
         return {}

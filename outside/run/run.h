@@ -35,6 +35,7 @@ struct state {
     int told;              /* whether the warning about a name that never acts was printed */
     int loaded;            /* how many programs ran under the supervisor since the run began or went on */
     int others;            /* how many programs were started without it */
+    int is_full;           /* whether the disk is full: calls that take room fail, until one has given some back */
     int torn;              /* whether a process was killed under the lock: it may have done something that it didn't note */
     struct identity root;  /* the folder that is cut */
     uint64_t started;      /* the number of hits when the run began or went on */

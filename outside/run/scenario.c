@@ -184,8 +184,6 @@ static bool read_piece(struct scenario *scenario, char *piece) {
     return true;
 }
 
-static bool moves_bytes(enum point point) { return point == READ || point == WRITE || point == SEND || point == RECV; }
-
 /* Finds the operation that a return at work::next gives, by its number. */
 static bool find_operation(struct term *term) {
     uint64_t number;
@@ -194,17 +192,32 @@ static bool find_operation(struct term *term) {
     return true;
 }
 
-/* Finds the error of a return at a point. Returns false if there is no error of that name, or if the point's work has no half. Without a name it is
-   the error of a broken disk or line. Points of a power cut and of the order take each return as it is. */
+#define AT(point) (1u << (point))
+
+/* What a return may do in place of an error, and the points at which it can be done. */
+static const struct {
+    const char *name;
+    int number;
+    unsigned points;
+} deeds[] = {
+    {"HALF", HALF_DONE, AT(READ) | AT(WRITE) | AT(SEND) | AT(RECV)},
+    {"DROP", DROPPED, AT(SEND)},
+    {"KILL", KILLED, AT(KEEP) - 1},
+    {"TERM", TERMINATED, AT(KEEP) - 1},
+    {"FULL", FILLED, AT(OPEN) | AT(WRITE) | AT(FSYNC) | AT(TRUNCATE) | AT(RENAME) | AT(LINK) | AT(MKDIR) | AT(SYMLINK)},
+};
+
+/* Finds the error of a return at a point. Returns false if there is no error of that name, or if it can't be done there. Without a name it is the
+   error of a broken disk or line. Points of a power cut and of the order take each return as it is. */
 static bool find_error(struct term *term, enum point point) {
     const char *name = term->argument ? term->argument : "";
     if (point == WORK) return find_operation(term);
     if (point >= KEEP) return true;
-    if (!strcmp(name, "HALF")) return moves_bytes(point);
-    if (!strcmp(name, "DROP")) {
-        term->error = DROPPED;
-        return point == SEND;
-    }
+    for (size_t i = 0; i < sizeof deeds / sizeof *deeds; i++)
+        if (!strcmp(name, deeds[i].name)) {
+            term->error = deeds[i].number;
+            return deeds[i].points & AT(point);
+        }
     if (!*name) name = point >= CONNECT ? "ECONNRESET" : "EIO";
     for (size_t i = 0; i < sizeof errors / sizeof *errors; i++)
         if (!strcmp(name, errors[i].name)) {
@@ -238,12 +251,21 @@ bool read_scenario(struct scenario *scenario, char *text) {
     return can_do(scenario);
 }
 
+/* Whether a term goes on with what the one before it did at the hit before, where that is something of which one in a row acts. */
+static bool is_repeated(const struct term *before, const struct term *term) {
+    bool acts_once = term->task == RETURN && (term->error == EINTR || term->error == FILLED);
+    return acts_once && before && before->task == RETURN && before->error == term->error;
+}
+
 const struct term *acting_term(const struct chain *chain, uint64_t *used) {
+    const struct term *before = NULL; /* that of the hit before */
     for (unsigned i = 0; chain && i < chain->length; i++) {
         const struct term *term = &chain->terms[i];
-        if (term->share == 0 || (term->counted && used[i] >= term->count)) continue;
+        if (term->share == 0 || (term->counted && term->count == 0)) continue;
+        if (used[i] > 0) before = term;
+        if (term->counted && used[i] >= term->count) continue;
         used[i]++;
-        return term;
+        return is_repeated(before, term) ? NULL : term;
     }
     return NULL;
 }

@@ -23,8 +23,9 @@ extern const char *const task_names[TASKS];
 enum { MOST_BYTES = 65536, MOST_ENTRIES = 256, MOST_TERMS = 256, MOST_FAULTS = 4096, WHOLE_SHARE = 1000000,
     MOST_MILLIS = 1000000000, MOST_OPERATIONS = 64 };
 
-/* What a return may do in place of an error: half of a read or write, or nothing, with the result that all was sent. */
-enum { HALF_DONE = 0, DROPPED = -1 };
+/* What a return may do in place of an error: half of a read or write; or nothing, with the result that all was sent; or the process that makes the call
+   is killed, or gets SIGTERM; or the disk is full from there on. */
+enum { HALF_DONE = 0, DROPPED = -1, KILLED = -2, TERMINATED = -3, FILLED = -4 };
 
 struct term {
     enum task task;
@@ -33,7 +34,7 @@ struct term {
     uint32_t share;       /* the share of hits at which it acts, in millionths */
     uint32_t millis;      /* the time of sleep and delay */
     const char *argument; /* the argument of return, panic and print, or null */
-    int error;            /* the error of a return: its number, or one of the two above */
+    int error;            /* the error of a return: its number, or one of those above */
     unsigned operation;   /* the operation that a return gives, from 1; 0 at any point but work::next */
 };
 
@@ -69,7 +70,8 @@ bool read_scenario(struct scenario *scenario, char *text);
 /* The chain of that name, or null. */
 const struct chain *chain_named(const struct scenario *scenario, const char *name);
 
-/* The first term of the chain that isn't used up, which `used` counts. Returns null if none acts. */
+/* The first term of the chain that isn't used up, which `used` counts. Returns null if none acts: also where the hit before had the same and it acts
+   once: a call that is interrupted is made again, and a disk that is full stays so. */
 const struct term *acting_term(const struct chain *chain, uint64_t *used);
 
 /* Writes what a point does as the trace shows it, `go` for no term. Returns the end of the text, which has at most 4 bytes for each byte of the

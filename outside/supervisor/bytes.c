@@ -25,16 +25,16 @@ struct writing {
     struct call *call;
     const struct opened *opened;
     struct file_facts file; /* as it is now */
-    off_t at;
-    bool appends, syncs;
+    off_t at;       /* where the call says that it writes, or -1 */
+    uint64_t place; /* where in the file the next byte goes */
+    bool syncs;
 };
 
 static long write_noted(struct writing *writing, char *bytes, size_t length) {
     char link[LINK_LENGTH];
     int file = writing->opened->file, flags = flags_of(writing->call);
     const struct key *key = &writing->file.key;
-    off_t here = writing->at >= 0 ? writing->at : lseek(file, 0, SEEK_CUR);
-    uint64_t place = writing->appends ? writing->file.length : (uint64_t)here;
+    uint64_t place = writing->place;
     if (is_kept) copy_later(key, link_of(file, link), place, place + length);
     struct iovec part = {bytes, length};
     take_limit(writing->call->thread);
@@ -47,8 +47,12 @@ static long write_noted(struct writing *writing, char *bytes, size_t length) {
         if (writing->syncs) note_sync(DSYNC_WRITE, key, place, (uint64_t)result);
     }
     mapped_was_written(key, place, bytes, (uint64_t)result);
-    if (place + (uint64_t)result > writing->file.length) writing->file.length = place + (uint64_t)result;
+    if (place + (uint64_t)result > writing->file.length) {
+        writing->file.length = place + (uint64_t)result;
+        set_unallocated(key, !writing->syncs);
+    }
     if (writing->at >= 0) writing->at += result;
+    writing->place += (uint64_t)result;
     return result;
 }
 
@@ -67,25 +71,31 @@ static long write_parts(struct writing *writing, const struct parts *parts, size
     return (long)done;
 }
 
-static void write_file(struct call *call, const struct opened *opened, const struct parts *parts, size_t length) {
-    struct writing writing = {.call = call, .opened = opened, .file = opened->facts.file};
+/* Returns the error of a place that the system refuses, or 0. */
+static int begin_writing(struct writing *writing, struct call *call, const struct opened *opened) {
     int flags = flags_of(call);
-    if (!read_place(call, &writing.at)) return finish(call, -EINVAL);
-    writing.appends = opened->flags & O_APPEND || flags & RWF_APPEND;
-    writing.syncs = opened->flags & O_DSYNC || flags & (RWF_DSYNC | RWF_SYNC);
-    finish(call, write_parts(&writing, parts, length));
+    *writing = (struct writing){.call = call, .opened = opened, .file = opened->facts.file};
+    writing->syncs = opened->flags & O_DSYNC || flags & (RWF_DSYNC | RWF_SYNC);
+    if (!read_place(call, &writing->at)) return -EINVAL;
+    bool appends = opened->flags & O_APPEND || flags & RWF_APPEND;
+    off_t here = appends || writing->at >= 0 ? writing->at : lseek(opened->file, 0, SEEK_CUR);
+    writing->place = appends ? writing->file.length : (uint64_t)here;
+    return 0;
 }
 
 void serve_write(struct call *call) {
     struct opened opened;
     struct parts parts;
+    struct writing writing;
     if (!open_of(call, call->row->file, &opened)) return serve_stream(call, &opened, SEND);
     if (!S_ISREG(opened.facts.file.key.mode) && !S_ISDIR(opened.facts.file.key.mode)) return serve_stream(call, &opened, WRITE);
-    int error = parts_of(call, &parts);
+    int error = parts_of(call, &parts), misplaced = begin_writing(&writing, call, &opened);
+    if (!error) error = misplaced;
+    call->takes_room = !error && parts.length && writing.place + parts.length > writing.file.length;
     enum answer answer = hit(call, WRITE, opened.path, NULL);
-    if (answer == FAIL || answer == NOT_YET) return;
+    if (!is_done(answer)) return;
     if (error) return finish(call, error);
-    write_file(call, &opened, &parts, answer == HALF ? half_of(parts.length) : parts.length);
+    finish(call, write_parts(&writing, &parts, answer == HALF ? half_of(parts.length) : parts.length));
 }
 
 /* ---- reads */
@@ -124,7 +134,7 @@ void serve_read(struct call *call) {
     if (!S_ISREG(opened.facts.file.key.mode) && !S_ISDIR(opened.facts.file.key.mode)) return serve_stream(call, &opened, READ);
     int error = parts_of(call, &parts);
     enum answer answer = hit(call, READ, opened.path, NULL);
-    if (answer == FAIL || answer == NOT_YET) return;
+    if (!is_done(answer)) return;
     if (error) return finish(call, error);
     finish(call, read_file(call, &opened, &parts, answer == HALF));
 }

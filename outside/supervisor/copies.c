@@ -74,6 +74,7 @@ static long copy_noted(const struct call *call, const struct copy *what, copier 
     end_limit(call->thread);
     let_signals();
     if (!notes || result <= 0) return result;
+    if (place + (uint64_t)result > what->out.facts.file.length) set_unallocated(key, true);
     if (is_kept && !mapped_was_changed(key)) note_from_file(key, link_of(what->out.file, link), place, (uint64_t)result);
     return result;
 }
@@ -85,6 +86,17 @@ static bool open_both(struct call *call, struct copy *copy) {
     copy->reads = open_of(call, row->file, &copy->in);
     copy->sends = !copy->writes && sees_sockets && is_socket(&copy->out);
     return copy->writes || copy->reads || copy->sends;
+}
+
+/* Whether the copy ends beyond the file to which it writes. */
+static bool grows(const struct call *call, struct copy *copy) {
+    const struct file_facts *out = &copy->out.facts.file;
+    bool is_there = copy->writes && S_ISREG(out->key.mode) && copy->in.file >= 0;
+    if (!is_there || !read_place(call, call->row->other_at, &copy->out_at, &copy->out_place)) return false;
+    if (!read_place(call, call->row->at, &copy->in_at, &copy->in_place)) return false;
+    off_t at = copy->out_place ? copy->out_at : lseek(copy->out.file, 0, SEEK_CUR);
+    size_t length = moves_now(&copy->in, copy->in_place ? copy->in_at : -1, copy->length);
+    return length && (uint64_t)at + length > out->length;
 }
 
 static enum answer hit_copy(struct call *call, const struct copy *copy) {
@@ -103,8 +115,9 @@ static void serve_by(struct call *call, copier *copies) {
     struct copy copy;
     const struct row *row = call->row;
     if (!open_both(call, &copy)) return go_on(call);
+    call->takes_room = grows(call, &copy);
     enum answer answer = hit_copy(call, &copy);
-    if (answer == FAIL || answer == NOT_YET) return;
+    if (!is_done(answer)) return;
     if (answer == DROP) return finish(call, (long)copy.length);
     if (answer == GO && is_stream(&copy.out)) return go_on(call);
     if (copy.in.file < 0 || copy.out.file < 0) return finish(call, -EBADF);
@@ -141,7 +154,7 @@ void serve_clone(struct call *call) {
     char link[LINK_LENGTH];
     if (!open_of(call, call->row->other_file, &out)) return go_on(call);
     enum answer answer = hit(call, WRITE, out.path, NULL);
-    if (answer == FAIL || answer == NOT_YET) return; /* blocks are shared as a whole, so a half does all of it */
+    if (!is_done(answer)) return; /* blocks are shared as a whole, so a half does all of it */
     const struct key *key = &out.facts.file.key;
     if (is_kept) copy_later(key, link_of(out.file, link), 0, UINT64_MAX);
     bool is_whole = (unsigned)argument(call, call->row->flags) == (unsigned)FICLONE;

@@ -2,6 +2,7 @@
 #define _GNU_SOURCE
 #include "../run/whole.h"
 #include "crashes.h"
+#include "kills.h"
 #include "marks.h"
 #include "operations.h"
 #include "order.h"
@@ -82,7 +83,10 @@ static enum answer act(struct call *call, const struct term *term) {
         if (term->operation) return GIVE;
         if (term->error == HALF_DONE) return HALF;
         if (term->error == DROPPED) return DROP;
-        call->hit.error = term->error;
+        if (term->error == FILLED) state->is_full = true;
+        if (term->error == KILLED) return end_process(call);
+        if (term->error == TERMINATED) return ask_to_end(call);
+        call->hit.error = term->error == FILLED ? ENOSPC : term->error;
         return FAIL;
     case PANIC:
     case PAUSE:
@@ -98,6 +102,20 @@ static enum answer act(struct call *call, const struct term *term) {
     }
 }
 
+/* What the scenario says of a hit. A disk gets full where a call takes room, so that it is this call that fails. */
+static const struct term *term_of(const struct call *call, struct counter *counter) {
+    const struct term *term = acting_term(chain_named(&scenario, counter->name), counter->used);
+    bool fills = term && term->task == RETURN && term->error == FILLED;
+    return fills && !call->takes_room ? NULL : term;
+}
+
+/* What the call does after all. One that takes room fails on a full disk. */
+static enum answer answered(struct call *call, enum answer answer) {
+    if (!state->is_full || !call->takes_room || !is_done(answer)) return answer;
+    call->hit.error = ENOSPC;
+    return FAIL;
+}
+
 /* Counts a hit. The counts are those of all processes of the run, and of all that ran in it before. */
 static void count(struct call *call, enum point point, const char *path, const char *flags) {
     char text[MOST_POINT + 1];
@@ -107,7 +125,7 @@ static void count(struct call *call, enum point point, const char *path, const c
     if (state->ended) end_run(state->ended);
     struct counter *counter = counter_named(state, name);
     if (!counter) refuse("too many points", name);
-    const struct term *term = acting_term(chain_named(&scenario, name), counter->used);
+    const struct term *term = term_of(call, counter);
     state->number++;
     counter->hits++;
     call->hit.seen = true;
@@ -115,7 +133,7 @@ static void count(struct call *call, enum point point, const char *path, const c
     mark_hit(state->number);
     result_place = trace_line(line, &(struct hit_line){.number = state->number, .counter = counter, .term = term, .path = path,
         .process = call->thread->process, .flags = term && term->operation ? operation_named(term->operation) : flags});
-    call->hit.answer = term ? act(call, term) : GO;
+    call->hit.answer = answered(call, term ? act(call, term) : GO);
 }
 
 enum answer hit(struct call *call, enum point point, const char *path, const char *flags) {

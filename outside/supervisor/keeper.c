@@ -269,12 +269,13 @@ void wait_for_end(void) {
     while (waitid(P_PID, (id_t)keeper, &ended, WEXITED | WNOWAIT) && errno == EINTR) continue;
 }
 
-void end_all(void) {
+int end_all(void) {
     struct timespec pause = {0, 200000};
-    int status;
-    if (!keeper) return;
+    int status = 0;
+    if (!keeper) return status;
     if (hearing[1] >= 0) close(hearing[1]); /* the command still waits for the listener, and the keeper for the command */
     __atomic_store_n(&shared->ends_all, 1, __ATOMIC_SEQ_CST);
     kill(keeper, SIGUSR1);
     while (!has_ended(&status)) nanosleep(&pause, NULL);
+    return status;
 }

@@ -16,8 +16,8 @@ bool has_ended(int *status);
 /* Waits until all processes of the run have ended. No call would report that. */
 void wait_for_end(void);
 
-/* Ends every process of the run, and waits until they are gone. */
-void end_all(void);
+/* Ends every process of the run, and waits until they are gone. Returns the status of the command, as wait has it. */
+int end_all(void);
 
 /* The next process that ended by a signal of a crash, of those that the keeper waits for: the command, and all whose parent has ended. Null if there
    is no other. */

@@ -16,6 +16,7 @@ enum where_it_is { UNKNOWN, INSIDE, OUTSIDE, LEFT };
 struct known {
     struct key key;
     enum where_it_is where;
+    unsigned unallocated; /* it has bytes without room on the disk as of this sync of all files; 0 if it has none */
     unsigned names;  /* its path is known as of this change of names; 0 if it isn't known */
     char *path;      /* its path below the root */
 };
@@ -161,6 +162,17 @@ static void set_moved(const struct facts *facts, bool inside) {
     bool moves = inside || S_ISDIR(facts->file.key.mode) || facts->file.links == 1;
     if (moves) know(&facts->file.key, inside ? INSIDE : LEFT);
 }
+
+static unsigned syncs_of_all = 1;
+
+bool is_unallocated(const struct key *key) { return place_of_key(key)->unallocated == syncs_of_all; }
+
+void set_unallocated(const struct key *key, bool unallocated) {
+    struct known *known = place_of_key(key);
+    if (known->where == INSIDE) known->unallocated = unallocated ? syncs_of_all : 0;
+}
+
+void all_are_allocated(void) { syncs_of_all++; }
 
 bool has_left(const struct key *key) { return place_of_key(key)->where == LEFT; }
 

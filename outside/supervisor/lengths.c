@@ -23,6 +23,7 @@ static void end_resize(const struct resizing *resizing) {
     const struct key *key = &resizing->before->file.key;
     if (!S_ISREG(key->mode) || !look_at(AT_FDCWD, resizing->path, 0, &after)) return;
     if (is_kept && after.file.length != resizing->before->file.length) note_length(key, after.file.length);
+    if (after.file.length < resizing->before->file.length) gave_room();
     mapped_was_resized(key);
 }
 
@@ -77,6 +78,7 @@ void serve_allocate(struct call *call) {
     int mode = (int)argument(call, call->row->flags);
     off_t at = (off_t)argument(call, call->row->at), length = (off_t)argument(call, call->row->length);
     if (!open_of(call, call->row->file, &opened)) return go_on(call);
+    call->takes_room = !(mode & (FALLOC_FL_PUNCH_HOLE | FALLOC_FL_COLLAPSE_RANGE));
     if (hit(call, TRUNCATE, opened.path, NULL) != GO) return;
     struct resizing resizing = {link_of(opened.file, link), &opened.facts, mode ? (uint64_t)at : UINT64_MAX};
     begin_resize(&resizing);

@@ -6,6 +6,7 @@
 #include "../run/whole.h"
 #include "crashes.h"
 #include "keeper.h"
+#include "kills.h"
 #include "operations.h"
 #include "order.h"
 #include "pin.h"
@@ -158,17 +159,27 @@ void give(struct call *call, int file, bool closes_at_exec) {
     finish(call, result_of(ask(SECCOMP_IOCTL_NOTIF_ADDFD, &given)));
 }
 
-enum { MADE_AGAIN = 512 }; /* the system's own ERESTARTSYS */
+enum { MADE_AGAIN = 512, MADE_IN_ANY_CASE = 513 }; /* the system's own ERESTARTSYS and ERESTARTNOINTR */
 
-void interrupt(struct call *call) {
+/* Lets the system run the handler of a signal. If it makes the call again then, that is no other hit. */
+static void answer_signal(struct call *call, int how) {
     struct thread *thread = call->thread;
-    if (call->moved) return finish(call, (long)call->moved);
-    hit_result(call, -EINTR);
     thread->interrupted.is_there = true;
     thread->interrupted.data = call->told.data;
     thread->interrupted.hit = call->hit;
     thread->interrupted.gives_up = call->gives_up;
-    send_answer(call, -MADE_AGAIN, 0);
+    send_answer(call, -how, 0);
+}
+
+void interrupt(struct call *call) {
+    if (call->moved) return finish(call, (long)call->moved);
+    hit_result(call, -EINTR);
+    answer_signal(call, MADE_AGAIN);
+}
+
+void let_handle(struct call *call) {
+    flush_hit(call);
+    answer_signal(call, MADE_IN_ANY_CASE);
 }
 
 /* A call that is made again after a signal has had its hit already. */
@@ -317,6 +328,7 @@ static _Noreturn void watch(const char *name) {
         child_ended = false;
         if (is_deserted()) wait_for_end();
         if (has_ended(&status)) end_with(status, name);
+        if (is_left_waiting()) end_with(end_all(), name);
         if (ended_by) end_run(128 + ended_by);
     }
 }

@@ -248,7 +248,7 @@ void serve_map_sync(struct call *call) {
     if (!look_at(area.file->file, "", AT_EMPTY_PATH, &facts)) return go_on(call);
     note_stores(&area.file->key); /* before a call that fails is answered: its thread stores more as soon as it goes on */
     enum answer answer = hit(call, FSYNC, shown_path(area.file->file, &facts, path), NULL);
-    if (answer == NOT_YET) return;
+    if (answer == NOT_YET || answer == OVER) return;
     lock_run();
     if (answer == FAIL && forgets) note_failed_sync(&area.file->key);
     else if (answer == GO) note_sync(MSYNC_CALL, &area.file->key, area.at + (from - area.from), length);

@@ -28,6 +28,12 @@ static void before_it_goes(const struct found *found, bool leaves) {
     if (leaves || file->links == 1) copy_later(&file->key, path_to(found, path), 0, UINT64_MAX);
 }
 
+/* Whether room on the disk is free once this name is gone. */
+static bool has_room(const struct found *found) {
+    const struct file_facts *file = &found->facts.file;
+    return found->exists && S_ISREG(file->key.mode) && file->links == 1 && file->length;
+}
+
 /* Notes a new name of a file from elsewhere. Its contents were written unseen, so they are a write now. Nobody noted where a symbolic link leads. */
 static void note_stranger(const struct found *found, const struct file_facts *file) {
     struct place place;
@@ -109,10 +115,12 @@ void serve_rename(struct call *call) {
     bool has_from = find_name(call, false, &renaming.from), has_to = find_other(call, false, &renaming.to);
     const struct found *shown = renaming.to.folder_is_inside ? &renaming.to : &renaming.from;
     if (!shown->folder_is_inside) return pass_by(call, has_from ? &renaming.to : &renaming.from);
+    call->takes_room = renaming.to.folder_is_inside && !renaming.to.exists;
     if (hit(call, RENAME, shown->path, NULL) != GO) return;
     if (!has_from || !has_to) return finish(call, -(has_from ? renaming.to.error : renaming.from.error));
     long result = rename_found(call, &renaming);
     if (!result && is_kept && !changes_nothing(&renaming)) note_renamed(&renaming);
+    if (!result && has_room(&renaming.to) && !is_exchange(&renaming) && !changes_nothing(&renaming)) gave_room();
     if (!result) know_renamed(&renaming);
     if (!result) name_changed(&renaming.from.facts);
     if (!result && renaming.to.exists) name_changed(&renaming.to.facts);
@@ -152,6 +160,7 @@ void serve_link(struct call *call) {
     bool has_from = find_linked(call, flags, &from, &is_bare), has_to = find_other(call, false, &to);
     const struct found *shown = to.folder_is_inside ? &to : &from;
     if (!shown->folder_is_inside) return pass_by(call, has_from ? &to : &from);
+    call->takes_room = to.folder_is_inside && !to.exists;
     if (hit(call, LINK, shown->path, NULL) != GO) return;
     if (!has_from || !has_to) return finish(call, -(has_from ? to.error : from.error));
     act_as(call->thread);
@@ -166,6 +175,7 @@ void serve_symlink(struct call *call) {
     char target[PATH_MAX], name[SLASHED];
     if (!read_text(call->thread, argument(call, call->row->bytes), target, sizeof target)) return go_on(call);
     if (!find_name(call, false, &found) || !found.folder_is_inside) return pass_by(call, &found);
+    call->takes_room = !found.exists;
     if (hit(call, SYMLINK, found.path, NULL) != GO) return;
     act_as(call->thread);
     long result = result_of(symlinkat(target, found.folder, slashed(&found, name)));
@@ -190,6 +200,7 @@ void serve_unlink(struct call *call) {
     act_as_self();
     place_of(&found, &place);
     if (!result && is_kept) note_names(UNLINKED, &found.facts.file.key, &place, NULL);
+    if (!result && has_room(&found)) gave_room();
     if (!result) name_changed(&found.facts);
     finish(call, result);
 }
@@ -197,6 +208,7 @@ void serve_unlink(struct call *call) {
 void serve_folder(struct call *call) {
     struct found found;
     if (!find_name(call, false, &found) || !found.folder_is_inside) return pass_by(call, &found);
+    call->takes_room = !found.exists;
     if (hit(call, MKDIR, found.path, NULL) != GO) return;
     make_as(call->thread);
     long result = result_of(mkdirat(found.folder, found.name, (mode_t)argument(call, call->row->mode)));

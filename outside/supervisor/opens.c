@@ -90,6 +90,7 @@ static void note_opened(int file, const struct found *found, uint64_t flags) {
         place_of(found, &place);
         if (is_kept && place.seen) note_names(CREATED, &facts.file.key, &place, NULL);
     } else if (flags & O_TRUNC && found->facts.file.length && S_ISREG(facts.file.key.mode)) {
+        gave_room();
         if (is_kept) note_length(&facts.file.key, 0);
         mapped_was_resized(&facts.file.key);
     }
@@ -110,6 +111,7 @@ void serve_open(struct call *call) {
     bool is_found = find_asked(call, &how, &found);
     if (!is_found) found.error = error_by_rules(call, &how, &found);
     if (!is_found || !found.is_inside) return pass_by(call, &found);
+    call->takes_room = is_nameless(how.flags) || (how.flags & O_CREAT && !found.exists);
     if (hit(call, OPEN, found.path, flag_names((int)how.flags, flags)) != GO) return;
     if (may_wait(&found)) return go_on(call);
     bool changes = how.flags & (found.exists ? O_TRUNC : O_CREAT);
@@ -131,6 +133,7 @@ void serve_node(struct call *call) {
     bool is_file = !(mode & S_IFMT) || S_ISREG(mode);
     if (!is_file) return go_on(call);
     if (!find_name(call, false, &found) || !found.folder_is_inside) return pass_by(call, &found);
+    call->takes_room = !found.exists;
     if (hit(call, OPEN, found.path, NULL) != GO) return;
     make_as(call->thread);
     long result = result_of(mknodat(found.folder, found.name, mode, (dev_t)argument(call, call->row->at)));

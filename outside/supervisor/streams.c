@@ -157,7 +157,7 @@ static void serve_bytes(struct call *call, const struct opened *opened, enum poi
     int error = parts_of(call, &transfer.parts);
     if (!error && !read_other(&transfer)) error = -EFAULT;
     enum answer answer = hit_stream(call, opened, point);
-    if (answer == FAIL || answer == NOT_YET) return;
+    if (!is_done(answer)) return;
     if (error) return finish(call, error);
     if (answer == DROP) return finish(call, (long)transfer.parts.length);
     set_length_by(&transfer, answer);
@@ -214,7 +214,7 @@ static void serve_message(struct call *call, const struct opened *opened, enum p
         .flags = (int)argument(call, call->row->flags)};
     bool is_read = read_message(call, argument(call, call->row->bytes), &message, &transfer);
     enum answer answer = hit_stream(call, opened, point);
-    if (answer == FAIL || answer == NOT_YET) return;
+    if (!is_done(answer)) return;
     if (!is_read || (answer == GO && message.head.msg_controllen)) return go_on(call);
     if (answer == DROP) return finish(call, (long)transfer.parts.length);
     set_length_by(&transfer, answer);
@@ -255,7 +255,7 @@ static void serve_messages(struct call *call, const struct opened *opened, enum 
     transfer = (struct transfer){.call = call, .opened = opened, .sends = point == SEND, .is_socket = true,
         .flags = (int)argument(call, call->row->flags)};
     enum answer answer = hit_stream(call, opened, point);
-    if (answer == FAIL || answer == NOT_YET) return;
+    if (!is_done(answer)) return;
     if (answer == GO || count > MOST_MESSAGES) return go_on(call);
     long result = move_messages(&transfer, answer == HALF ? half_of(count) : count, answer == DROP);
     if (result == -EAGAIN && may_wait(&transfer)) {

@@ -4,7 +4,8 @@
    what the scenario does there; trace.c writes the lines, and crashes.c those about processes that crashed. noting.c says what is noted, and
    notes_file.c writes it. variables.c reads the environment. ../run has what the power cut shares with it. The other files serve the calls: opens.c,
    bytes.c, copies.c, lengths.c, syncs.c, names.c, attributes.c and maps.c those on files, streams.c those on pipes and sockets, pin.c random bytes, sleeps.c sleeps,
-   futexes.c locks and what threads begin by, operations.c what a session is asked to do, and programs.c calls that are no points. */
+   futexes.c locks and what threads begin by, operations.c what a session is asked to do, kills.c ends one process of the run, and programs.c has
+   calls that are no points. */
 #ifndef SUPERVISOR_H
 #define SUPERVISOR_H
 
@@ -19,7 +20,8 @@
 
 /* ---- a call of the run, which waits for its answer */
 
-enum answer { GO, FAIL, HALF, DROP, GIVE, NOT_YET };
+/* OVER: the call isn't made, or not now, and needs no answer any more. */
+enum answer { GO, FAIL, HALF, DROP, GIVE, NOT_YET, OVER };
 
 struct hit {
     bool seen;
@@ -59,6 +61,7 @@ struct call {
     struct word word;
     int waits_for;    /* a descriptor that must be ready before it goes on, or -1 */
     short events;
+    bool takes_room;  /* whether it takes room on the disk, as it is now */
     size_t moved;     /* the bytes that were moved in a transfer that isn't over */
     uint64_t gives_up; /* the time at which a wait for more ends, or 0 */
     uint64_t sleeps_until; /* when a sleep ends, in the time as it would be if only sleeps took time; otherwise 0 */
@@ -91,6 +94,9 @@ bool still_waits(struct call *call);
 
 /* A signal has come for its thread: the system runs its handler, and then ends the call or makes it again. */
 void interrupt(struct call *call);
+
+/* The same before the call: once the handler has run, the call is made in any case. */
+void let_handle(struct call *call);
 
 /* Or the call waits until that descriptor is ready. */
 void wait_for(struct call *call, int file, short events);
@@ -180,6 +186,9 @@ bool read_text(const struct thread *thread, uint64_t at, char *text, size_t room
 /* Whether a signal has come for it that it doesn't block. */
 bool has_signal(const struct thread *thread);
 
+/* Whether a signal has come that ends its process. */
+bool has_fatal_signal(const struct thread *thread);
+
 /* What is behind a word of its status, such as "Umask:", or null. */
 const char *status_of(const struct thread *thread, const char *line);
 
@@ -219,6 +228,11 @@ void name_changed(const struct facts *facts);
 
 /* Whether a file was under the root before. It may have changed unseen since it left. */
 bool has_left(const struct key *key);
+
+/* Whether a file has bytes for which the disk has no room yet. It gets it once the file is synced. */
+bool is_unallocated(const struct key *key);
+void set_unallocated(const struct key *key, bool unallocated);
+void all_are_allocated(void);
 
 /* The path below the root that leads to an open file, for the trace. */
 const char *shown_path(int file, const struct facts *facts, char *path);
@@ -267,6 +281,9 @@ void place_of(const struct found *found, struct place *place);
    later. With FAIL it has been answered already. */
 enum answer hit(struct call *call, enum point point, const char *path, const char *flags);
 
+/* Whether the supervisor does something for the call now. */
+static inline bool is_done(enum answer answer) { return answer == GO || answer == HALF || answer == DROP; }
+
 /* Half of so many bytes, at least one: a program that goes on with the rest comes to its end. */
 static inline size_t half_of(size_t length) { return length > 1 ? length / 2 : length; }
 
@@ -276,6 +293,9 @@ void unlock_run(void);
 
 void hit_result(struct call *call, long result);
 void flush_hit(struct call *call);
+
+/* Says that a call has given room on the disk back. Call it before the call is answered. */
+static inline void gave_room(void) { state->is_full = false; }
 
 /* ---- mappings */
 

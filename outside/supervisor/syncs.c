@@ -17,9 +17,11 @@ static bool can_be_synced(const struct opened *opened) {
     return S_ISREG(mode) || S_ISDIR(mode);
 }
 
-/* Notes a sync that the scenario lets fail. */
+/* Notes a sync that fails. What it would have written is lost then, and takes no room any more. */
 static void note_failed(const struct key *file) {
-    if (!is_kept || !forgets) return;
+    if (!forgets) return;
+    set_unallocated(file, false);
+    if (!is_kept) return;
     lock_run();
     note_failed_sync(file);
     unlock_run();
@@ -30,10 +32,12 @@ void serve_sync(struct call *call) {
     if (!open_of(call, call->row->file, &opened)) return go_on(call);
     const struct key *key = &opened.facts.file.key;
     note_stores(key); /* before a call that fails is answered: its thread stores more as soon as it goes on */
+    call->takes_room = is_unallocated(key);
     enum answer answer = hit(call, FSYNC, opened.path, NULL);
     if (answer == FAIL) note_failed(key);
     if (answer != GO) return;
     if (!can_be_synced(&opened)) return go_on(call);
+    set_unallocated(key, false);
     if (is_kept) note_sync(call->row->number == SYS_fdatasync ? FDATASYNC_CALL : FSYNC_CALL, key, 0, 0);
     finish_sync(call);
 }
@@ -68,6 +72,7 @@ void serve_sync_all(struct call *call) {
     enum answer answer = hit(call, FSYNC, ".", NULL);
     if (answer != GO) return;
     note_all_stores();
+    all_are_allocated();
     if (is_kept) note_sync(call->row->file ? SYNCFS_CALL : SYNC_CALL, &(struct key){0}, 0, 0);
     finish(call, syncs_disk ? sync_root() : 0);
 }

@@ -64,6 +64,12 @@ bool has_signal(const struct thread *thread) {
     return left_by_first(thread->process, of_all);
 }
 
+/* If a signal ends a process, each of its threads is killed. */
+bool has_fatal_signal(const struct thread *thread) {
+    read_status(thread);
+    return signals_in("SigPnd:") & 1ull << (SIGKILL - 1);
+}
+
 const char *status_of(const struct thread *thread, const char *line) {
     read_status(thread);
     return line_of_status(line);

@@ -86,6 +86,12 @@ static void interrupt_one(size_t which) {
     else interrupt(&call);
 }
 
+void forget_ended(void) {
+    struct call gone;
+    for (size_t i = length; i-- > 0;)
+        if (!still_waits(&list[i])) take(i, &gone);
+}
+
 /* ---- turns */
 
 static bool waits_here(int thread) {
@@ -137,6 +143,12 @@ static void take_turn(int listener) {
     next->waits_turn = false;
     next->chosen = true;
     serve_again((size_t)(next - list));
+}
+
+bool all_wait_here(void) {
+    for (size_t i = 0; i < length; i++)
+        if (list[i].waits_turn || list[i].hit.wakes > now() || list[i].gives_up || list[i].sleeps_until) return false;
+    return all_at_rest(waits_here);
 }
 
 /* If nothing has happened for some time: lets those waits for futexes end that a signal ends, or whose word has changed though nobody was seen who

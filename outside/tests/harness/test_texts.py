@@ -39,6 +39,15 @@ class Scenarios(unittest.TestCase):
         self.assertEqual(scenario.answers("aaa"), ["go", "return", "return"])
         self.assertFalse(Scenario("power::keep=return").is_endless())
 
+    def test_interruptions_in_a_row_are_one(self):
+        scenario = Scenario("a=1*off->return(EINTR)")
+        self.assertFalse(scenario.is_endless())
+        self.assertEqual(scenario.answers("aaba"), ["go", "return(EINTR)", "go", "go"])
+        self.assertEqual(scenario.faults(), [Fault("a", 2, "return(EINTR)")])
+        scenario = Scenario("a=2*return(EINTR)->1*return(EINTR)->1*return->2*return(EINTR)->return(EINTR)")
+        self.assertEqual(scenario.answers("aaaaaaa"), ["return(EINTR)", "go", "go", "return", "return(EINTR)", "go", "go"])
+        self.assertEqual(scenario.faults(), [Fault("a", 1, "return(EINTR)"), Fault("a", 4, "return"), Fault("a", 5, "return(EINTR)")])
+
     def test_shares_are_not_read(self):
         self.assertRaises(Unreadable, Scenario, "a=50%return")
 
@@ -79,8 +88,9 @@ class Words(unittest.TestCase):
         self.assertEqual([ordinal(number) for number in (1, 2, 3, 4, 11, 12, 21, 112)], ["1st", "2nd", "3rd", "4th", "11th", "12th", "21st", "112th"])
 
     def test_tasks(self):
-        self.assertEqual([what(answer) for answer in ("return", "return(ENOSPC)", "return(HALF)", "panic")],
-            ["fails", "fails with ENOSPC", "does half", "ends the run"])
+        self.assertEqual([what(answer) for answer in ("return", "return(ENOSPC)", "return(HALF)", "return(KILL)", "return(TERM)", "return(FULL)", "panic")],
+            ["fails", "fails with ENOSPC", "does half", "kills its process", "comes with SIGTERM", "finds the disk full",
+                "ends the run"])
 
 
 class TornInWords(unittest.TestCase):
