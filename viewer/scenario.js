@@ -12,6 +12,8 @@
 export const KEEP = "power::keep";
 /** The point of the order of threads: a return lets the next one go first. */
 export const NEXT = "order::next";
+/** The point at which a session asks what it is to do next. */
+export const WORK = "work::next";
 
 const TASKS = new Set(["off", "yield", "print", "sleep", "delay", "return", "panic", "pause"]);
 const PASSING = new Set(["off", "yield"]);

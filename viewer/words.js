@@ -1,5 +1,5 @@
 // Scenarios, runs and what was tried, in words.
-import { KEEP, NEXT, clausesOf, parseTerm } from "./scenario.js";
+import { KEEP, NEXT, WORK, clausesOf, parseTerm } from "./scenario.js";
 
 /** @typedef {import("./scenario.js").Clause} Clause */
 /** How a point is called. @typedef {(point: string) => string} Call */
@@ -51,7 +51,21 @@ export function fileWords(name) {
 const IS_CALL = /^(?:sys|libc)::/;
 
 /** What is hit at points that aren't a program's calls. */
-const NAMED = new Map([[KEEP, "change asked for"], [NEXT, "choice between threads"]]);
+const NAMED = new Map([[KEEP, "change asked for"], [NEXT, "choice between threads"], [WORK, "request for an operation"]]);
+
+/** What a return does in place of a failure, at a call of the system: as what the call does, and as a kind. */
+const DEEDS = new Map([
+  ["HALF", ["does its first half alone", "its first half alone"]],
+  ["DROP", ["answers that all is done, and does nothing", "a loss that nobody is told"]],
+  ["KILL", ["kills its process", "the end of its process alone"]],
+  ["TERM", ["sends SIGTERM to its process", "a SIGTERM to its process"]],
+  ["FULL", ["finds a disk that is full until room is given back", "a disk that is full until room is given back"]],
+]);
+
+/** @param {string} point @param {string} argument */
+function deedOf(point, argument) {
+  return IS_CALL.test(point) ? DEEDS.get(argument) : undefined;
+}
 
 /**
  * How points are called: by what stands behind the last `::`, where no other point is called so; `sys::write@a.db` is `write of a.db`. Files are told from
@@ -96,9 +110,7 @@ function hitWords({ point, first, last }, call) {
 function failureWords(point, argument) {
   if (argument === null) return "fails";
   if (/^E[A-Z0-9]+$/.test(argument)) return `fails with ${argument}`;
-  if (argument === "HALF" && IS_CALL.test(point)) return "does its first half alone";
-  if (argument === "DROP" && IS_CALL.test(point)) return "answers that all is done, and does nothing";
-  return `fails with the text \u201c${argument}\u201d`;
+  return deedOf(point, argument)?.[0] ?? `fails with the text \u201c${argument}\u201d`;
 }
 
 /** @param {Clause} clause @param {Call} call */
@@ -107,6 +119,7 @@ function actWords(clause, call) {
   const { point, term: { task, argument } } = clause;
   if (point === KEEP && (task === "return" || task === "panic")) return `${hit} is ${task === "return" ? "kept" : "lost all the same"}`;
   if (point === NEXT && task === "return") return `at ${hit} the next one goes first`;
+  if (point === WORK && task === "return") return `at ${hit} operation ${argument} is given`;
   switch (task) {
     case "return": return `${hit} ${failureWords(point, argument)}`;
     case "panic": return `the program ends at ${hit}`;
@@ -132,7 +145,9 @@ export function answerWords(point, answer, about) {
   const isReturn = term?.task === "return";
   if (point === KEEP) return `${isReturn ? "is" : "isn\u2019t"} ${UNDONE.test(about) ? "undone" : "kept"}`;
   if (term === null) return answer;
-  if (isReturn) return point === NEXT ? "the next one goes first" : failureWords(point, term.argument);
+  if (isReturn && point === NEXT) return "the next one goes first";
+  if (isReturn && point === WORK) return `operation ${term.argument} is given`;
+  if (isReturn) return failureWords(point, term.argument);
   return term.task === "panic" ? "the program ends here" : answer;
 }
 
@@ -197,10 +212,9 @@ export function wordsOfKind(point, kind) {
   if (task === "panic") return "the end of the program";
   if (point === NEXT) return "that the next one goes first";
   if (argument === null) return "a failure";
-  if (argument === "HALF" && IS_CALL.test(point)) return "its first half alone";
-  if (argument === "DROP" && IS_CALL.test(point)) return "a loss that nobody is told";
+  if (point === WORK) return `operation ${argument}`;
   if (argument === "ENOSPC") return "a full disk (ENOSPC)";
-  return /^E[A-Z0-9]+$/.test(argument) ? argument : `a failure with the text \u201c${argument}\u201d`;
+  return deedOf(point, argument)?.[1] ?? (/^E[A-Z0-9]+$/.test(argument) ? argument : `a failure with the text \u201c${argument}\u201d`);
 }
 
 /**

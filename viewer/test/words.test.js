@@ -1,9 +1,9 @@
 import assert from "node:assert/strict";
 import { test } from "node:test";
-import { KEEP, NEXT, clausesOf } from "../scenario.js";
+import { KEEP, NEXT, WORK, clausesOf } from "../scenario.js";
 import { answerWords, callsOf, counted, listed, ordinal, quoted, shown, wordsOfClauses, wordsOfKind, wordsOfScenario } from "../words.js";
 
-const call = callsOf(["libc::write", "libc::fsync", "libc::write@a.db", "one::send", "two::send", "sys::send", "sys::fsync@note.new", "sys::fsync@.", KEEP, NEXT]);
+const call = callsOf(["libc::write", "libc::fsync", "libc::write@a.db", "one::send", "two::send", "sys::send", "sys::fsync@note.new", "sys::fsync@.", KEEP, NEXT, WORK]);
 
 test("a point is called by its last part where that says which", () => {
   assert.equal(call("libc::fsync"), "fsync");
@@ -37,6 +37,11 @@ const SENTENCES = {
   "one::send=1*return(HALF)": "the 1st one::send fails with the text \u201cHALF\u201d",
   "sys::send=1*return(DROP)": "the 1st sys::send answers that all is done, and does nothing",
   "one::send=1*return(DROP)": "the 1st one::send fails with the text \u201cDROP\u201d",
+  "sys::fsync@note.new=1*return(KILL)": "the 1st fsync of note.new kills its process",
+  "sys::fsync@note.new=1*return(TERM)": "the 1st fsync of note.new sends SIGTERM to its process",
+  "libc::write=1*return(FULL)": "the 1st write finds a disk that is full until room is given back",
+  "one::send=1*return(KILL)": "the 1st one::send fails with the text \u201cKILL\u201d",
+  [`${WORK}=1*return(4)->1*return(2)`]: "at the 1st request for an operation operation 4 is given; at the 2nd request for an operation operation 2 is given",
   "two::send=1*return(no)": "the 1st two::send fails with the text \u201cno\u201d",
   "libc::write=3*return": "each write from the 1st to the 3rd fails",
   "libc::fsync=20%return": "each fsync fails by chance, in 20 of 100",
@@ -82,6 +87,8 @@ test("numbers and lists in words", () => {
   const kinds = (point, ...texts) => texts.map((kind) => wordsOfKind(point, kind));
   assert.deepEqual(kinds("libc::write", "return(ENOSPC)", "return(HALF)", "return", "panic"),
     ["a full disk (ENOSPC)", "its first half alone", "a failure", "the end of the program"]);
+  assert.deepEqual([...kinds("sys::write", "return(KILL)", "return(TERM)", "return(FULL)"), ...kinds(WORK, "return(2)")],
+    ["the end of its process alone", "a SIGTERM to its process", "a disk that is full until room is given back", "operation 2"]);
   assert.deepEqual([...kinds("one::send", "return(HALF)", "panic"), ...kinds("sys::send", "return(DROP)"), ...kinds(NEXT, "return")],
     ["a failure with the text \u201cHALF\u201d", "the end of the program", "a loss that nobody is told", "that the next one goes first"]);
 });

@@ -7,7 +7,7 @@ pub const BEFORE: &str = r###"<!doctype html>
 <meta charset="utf-8">
 <meta name="viewport" content="width=device-width, initial-scale=1">
 <meta name="color-scheme" content="light dark">
-<meta http-equiv="Content-Security-Policy" content="default-src 'none'; style-src 'sha256-YyhRs2h6WGgG/k93DZLwBPQ487v1E0rfOYKil8B6SYk='; script-src 'sha256-hjyV+xrflguk47ztPV7S/SW364x8tXKDEBdsbjEKOFU='; base-uri 'none'; form-action 'none'">
+<meta http-equiv="Content-Security-Policy" content="default-src 'none'; style-src 'sha256-YyhRs2h6WGgG/k93DZLwBPQ487v1E0rfOYKil8B6SYk='; script-src 'sha256-E+lhKZ0SLsGyccvmRfTBXyYlYhpRGBtJ6lIXXRcqcLM='; base-uri 'none'; form-action 'none'">
 <title>Paklour report</title>
 <style>
 :root {
@@ -329,6 +329,8 @@ function rowsOfPlans(told) {
 const KEEP = "power::keep";
 /** The point of the order of threads: a return lets the next one go first. */
 const NEXT = "order::next";
+/** The point at which a session asks what it is to do next. */
+const WORK = "work::next";
 
 const TASKS = new Set(["off", "yield", "print", "sleep", "delay", "return", "panic", "pause"]);
 const PASSING = new Set(["off", "yield"]);
@@ -520,7 +522,21 @@ function fileWords(name) {
 const IS_CALL = /^(?:sys|libc)::/;
 
 /** What is hit at points that aren't a program's calls. */
-const NAMED = new Map([[KEEP, "change asked for"], [NEXT, "choice between threads"]]);
+const NAMED = new Map([[KEEP, "change asked for"], [NEXT, "choice between threads"], [WORK, "request for an operation"]]);
+
+/** What a return does in place of a failure, at a call of the system: as what the call does, and as a kind. */
+const DEEDS = new Map([
+  ["HALF", ["does its first half alone", "its first half alone"]],
+  ["DROP", ["answers that all is done, and does nothing", "a loss that nobody is told"]],
+  ["KILL", ["kills its process", "the end of its process alone"]],
+  ["TERM", ["sends SIGTERM to its process", "a SIGTERM to its process"]],
+  ["FULL", ["finds a disk that is full until room is given back", "a disk that is full until room is given back"]],
+]);
+
+/** @param {string} point @param {string} argument */
+function deedOf(point, argument) {
+  return IS_CALL.test(point) ? DEEDS.get(argument) : undefined;
+}
 
 /**
  * How points are called: by what stands behind the last `::`, where no other point is called so; `sys::write@a.db` is `write of a.db`. Files are told from
@@ -565,9 +581,7 @@ function hitWords({ point, first, last }, call) {
 function failureWords(point, argument) {
   if (argument === null) return "fails";
   if (/^E[A-Z0-9]+$/.test(argument)) return `fails with ${argument}`;
-  if (argument === "HALF" && IS_CALL.test(point)) return "does its first half alone";
-  if (argument === "DROP" && IS_CALL.test(point)) return "answers that all is done, and does nothing";
-  return `fails with the text \u201c${argument}\u201d`;
+  return deedOf(point, argument)?.[0] ?? `fails with the text \u201c${argument}\u201d`;
 }
 
 /** @param {Clause} clause @param {Call} call */
@@ -576,6 +590,7 @@ function actWords(clause, call) {
   const { point, term: { task, argument } } = clause;
   if (point === KEEP && (task === "return" || task === "panic")) return `${hit} is ${task === "return" ? "kept" : "lost all the same"}`;
   if (point === NEXT && task === "return") return `at ${hit} the next one goes first`;
+  if (point === WORK && task === "return") return `at ${hit} operation ${argument} is given`;
   switch (task) {
     case "return": return `${hit} ${failureWords(point, argument)}`;
     case "panic": return `the program ends at ${hit}`;
@@ -601,7 +616,9 @@ function answerWords(point, answer, about) {
   const isReturn = term?.task === "return";
   if (point === KEEP) return `${isReturn ? "is" : "isn\u2019t"} ${UNDONE.test(about) ? "undone" : "kept"}`;
   if (term === null) return answer;
-  if (isReturn) return point === NEXT ? "the next one goes first" : failureWords(point, term.argument);
+  if (isReturn && point === NEXT) return "the next one goes first";
+  if (isReturn && point === WORK) return `operation ${term.argument} is given`;
+  if (isReturn) return failureWords(point, term.argument);
   return term.task === "panic" ? "the program ends here" : answer;
 }
 
@@ -666,10 +683,9 @@ function wordsOfKind(point, kind) {
   if (task === "panic") return "the end of the program";
   if (point === NEXT) return "that the next one goes first";
   if (argument === null) return "a failure";
-  if (argument === "HALF" && IS_CALL.test(point)) return "its first half alone";
-  if (argument === "DROP" && IS_CALL.test(point)) return "a loss that nobody is told";
+  if (point === WORK) return `operation ${argument}`;
   if (argument === "ENOSPC") return "a full disk (ENOSPC)";
-  return /^E[A-Z0-9]+$/.test(argument) ? argument : `a failure with the text \u201c${argument}\u201d`;
+  return deedOf(point, argument)?.[1] ?? (/^E[A-Z0-9]+$/.test(argument) ? argument : `a failure with the text \u201c${argument}\u201d`);
 }
 
 /**
