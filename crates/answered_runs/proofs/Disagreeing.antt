@@ -13,7 +13,6 @@ use Rattle.answer_text.specs.Runs.{KnownRuns, told_in}
 use Rattle.answer_text.specs.declared.hits.Stretch.{Stretch}
 use Rattle.answer_text.specs.declared.runs.ToldRun.{ToldRun}
 use Rattle.grown_plans.specs.GrownPlans.{Subject}
-use Rattle.grown_runs.specs.declared.known.breaks.Break.TheVariants.{Differs, NotMet}
 use Rattle.answered_runs.specs.Agreement.{ContradictsBy, EndsAtPause, HasItsRun, IsCertain, IsContradiction, Says, SayOtherEnds, SayOtherHits, SaysOtherVerdict, end_by, line_of, move_said, run_over}
 use Rattle.answered_runs.specs.Answered.{Answered, hits_by, is_low, told_of}
 use Rattle.answered_runs.specs.Components.{AgreesWithRuns, IsComponent, IsTrueRun}
@@ -113,8 +112,7 @@ contradicted_by_none a b is t component agrees = by_how b.how is.contradicts
     told_true = true_run t (told_in a.book) agrees u is.other_lawful is.other_certain is.told is.other_recorded
 
     by_how : (how : Conflict) → ContradictsBy a.points (line_of s (told_of is.run)) (line_of u (told_of is.told)) how → ⊥
-    by_how (conflict.Hits (Differs hit)) h = other_hits t a.points s u is.run is.told hit component.names is.certain is.other_certain run_true told_true h
-    by_how (conflict.Hits NotMet) h = h
+    by_how (conflict.Hits hit) h = other_hits t a.points s u is.run is.told hit component.names is.certain is.other_certain run_true told_true h
     by_how conflict.Verdict (inl h) = other_ends t a.points s u is.run is.told component.names is.certain is.other_certain run_true told_true h
     by_how conflict.Verdict (inr h) = other_verdict t a.points s u is.run is.told component.names is.certain is.other_certain run_true told_true h
     by_how conflict.Paused h = h (ends_at_pause t a.points s is.run component.names is.certain run_true)

@@ -3,7 +3,6 @@ pub mod AnyKinds
 pub mod Known
 pub mod EndedRuns
 pub mod Found
-pub mod Breaks
 pub mod LineReading
 pub mod Laid
 pub mod Numbers

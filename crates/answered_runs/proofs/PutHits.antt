@@ -20,7 +20,6 @@ use Rattle.target_trait.specs.declared.judgement.Verdict.TheVariants.{Fail, Pass
 use Rattle.answered_runs.specs.Agreement.{ContradictsBy, EndsAtPause, IsContradiction, Line, Says, end_by, line_of, move_said, run_over}
 use Rattle.answered_runs.specs.Answered.{Answered, told_of}
 use Rattle.answered_runs.specs.declared.broken.BrokenRun.{BrokenRun}
-use Rattle.grown_runs.specs.declared.known.breaks.Break.TheVariants.{Differs, NotMet}
 use Rattle.answered_runs.specs.declared.broken.Conflict.{Conflict}
 use Rattle.answered_runs.specs.declared.broken.Conflict.TheVariants as conflict
 use Rattle.answered_runs.specs.declared.saying.SeenRun.{SeenRun}
@@ -102,7 +101,7 @@ module _ (a : Answered) (name : List Reply) (there x : Said) (p : IsSaid a name 
       (subst (Says a.points (line_of p.scenario (told_of p.run)) p.count p.answers) e p.says))
 
   by_how : (n : ℕ) (how : Conflict) → n ≡ length name → IsConflict there.next x.next n (Some how) → ContradictsBy a.points (line_of q.scenario (told_of q.run)) (line_of p.scenario (told_of p.run)) how
-  by_how n (conflict.Hits (Differs m)) long (is, apart, goes) =
+  by_how n (conflict.Hits m) long (is, apart, goes) =
       let count = said_count a.points (line_of q.scenario (told_of q.run)) q.count q.answers (move_of x.next) q.says in
       let name_long : length name ≡ length q.answers + 1 = omega (arith, ap length q.name_is) in
       record {
@@ -116,7 +115,6 @@ module _ (a : Answered) (name : List Reply) (there x : Said) (p : IsSaid a name 
         apart = λ e. apart (sym e);
         goes_on = goes;
       }
-  by_how n (conflict.Hits NotMet) long h = h
   by_how n conflict.Paused long h = absurd h
   by_how n conflict.Verdict long (v, w, is, there_is, apart) =
       let own = end_said (told_of q.run).verdict w _ (ap move_of (sym there_is) ∙ q.says.move_is) in

@@ -1,6 +1,6 @@
 -- Some component agrees with lines of which no two contradict each other. It does what the lines say, and where they say nothing, nobody knows what
 -- it does.
-use Rattle.std.proofs.Common.{◌≡◌, ℕ, ◌<◌, ◌≤◌, Bool, true, false, Option, None, Some, List, [], ◌∷◌, length, take, refl, ap, sym, ◌∙◌, subst, arith, ◌⊎◌, inl, inr, zero, suc, get_or}
+use Rattle.std.proofs.Common.{◌≡◌, ℕ, ◌<◌, ◌≤◌, Bool, true, false, Option, None, Some, List, ◌∷◌, length, take, refl, ap, sym, ◌∙◌, subst, arith, ◌⊎◌, inl, inr, zero, suc, get_or}
 use Rattle.std.specs.Prelude.{IfSome, option_and_then, slice_get}
 use Rattle.std.specs.List.{AllByRecursion}
 use Rattle.std.proofs.lemmas.Bool.{cases_lt}
@@ -8,8 +8,6 @@ use Rattle.std.proofs.lemmas.List.{length-take, take_all}
 use Rattle.std.proofs.lemmas.Option.{same_Some, slice_get-get_or, slice_get_past, slice_get_within}
 use Rattle.scenario_values.specs.Scenario.{Entries, IsScenario}
 use Rattle.action_eval.specs.Answers.{Reply, given_of, is_cut_short}
-use Rattle.action_eval.specs.declared.rig.Kind.{Kind}
-use Rattle.action_eval.specs.declared.rig.Rig.{Rig}
 use Rattle.target_trait.specs.declared.judgement.Judgement.{Judgement}
 use Rattle.target_trait.specs.declared.judgement.Verdict.{Verdict}
 use Rattle.target_trait.specs.declared.judgement.Verdict.TheVariants as verdict
@@ -25,15 +23,10 @@ use Rattle.grown_plans.specs.GrownPlans.{Subject}
 use Rattle.grown_plans.specs.Promises.{CanBeTried, IsLawful}
 use Rattle.grown_plans.proofs.ListedKinds.{listed_can}
 use Rattle.grown_plans.proofs.Members.{all_weaker}
-use Rattle.grown_runs.specs.known.KnownPart.{known_part}
-use Rattle.grown_runs.specs.known.ToldPart.{part_known}
-use Rattle.grown_runs.proofs.KnownLemmas.Listed.{part_is}
 use Rattle.answered_runs.specs.Agreement.{AreOfOne, EndsAtPause, HasItsRun, IsCertain, KeepsVerdict, Says, SayTheSame, end_by, line_of, move_said, run_over}
-use Rattle.answered_runs.specs.Answered.{Answered, CanBeListed, hits_by, kinds_over, known_plans, runs_in, told_of}
-use Rattle.answered_runs.specs.Broken.{AreBroken, IsUnbroken}
+use Rattle.answered_runs.specs.Answered.{Answered, CanBeListed, hits_by, kinds_over, told_of}
 use Rattle.answered_runs.specs.Components.{AgreesWithRuns, IsComponent, IsTrueRun}
 use Rattle.answered_runs.specs.SomeComponent.{HasComponent, WereRead}
-use Rattle.answered_runs.proofs.Breaks.{part_whole}
 use Rattle.answered_runs.proofs.CertainAnswers.{answers_many, answers_over, answers_take}
 use Rattle.answered_runs.proofs.Compared.{Runs, hits_alike, runs_so, unresolved_unless}
 use Rattle.answered_runs.proofs.Disagreeing.{answers_reached, cut_reached}
@@ -356,12 +349,3 @@ agreeing a depth low w one =
     let is : IsComponent a.points a.listed (component_of a r.runs) = is_component a w r in
     let agrees : AgreesWithRuns (component_of a r.runs) (told_in a.book) = is_true a w r one in
     record { component = component_of a r.runs; is = is; agrees = agrees; plans = agree (component_of a r.runs) a.points a.listed (told_in a.book) depth is low agrees }
-
--- So no run of a known plan breaks with the one that it has to begin like.
-pub component_unbroken : (a : Answered) (depth : ℕ) → HasComponent a depth → AreBroken a (known_plans a depth) None
-component_unbroken a depth h =
-    let t : Subject = h.component in
-    let same : known_part t depth (runs_in a) ≡ known_plans a depth =
-    part_is t h.is.lawful depth (runs_in a) h.plans ∙ ap (λ (kinds : ℕ → List Kind). part_known kinds (runs_in a) depth) h.is.kinds
-    in
-    subst (λ (plans : List (List Rig)). AllByRecursion (IsUnbroken (runs_in a)) plans) same (part_whole t h.is.lawful depth (runs_in a) h.plans)

@@ -14,7 +14,6 @@ use Rattle.target_trait.specs.Play.{Move, Ask, Done, Unknown}
 use Rattle.answer_text.specs.Runs.{told_in}
 use Rattle.answer_text.specs.declared.runs.ToldRun.{ToldRun}
 use Rattle.grown_runs.specs.known.Known.{Told}
-use Rattle.grown_runs.specs.declared.known.breaks.Break.TheVariants.{Differs, NotMet}
 use Rattle.answered_runs.specs.Answered.{Answered, told_of}
 use Rattle.answered_runs.specs.declared.broken.BrokenRun.{BrokenRun}
 use Rattle.answered_runs.specs.declared.broken.Conflict.{Conflict}
@@ -132,8 +131,7 @@ pub record SaysOtherVerdict (points : List (List ℕ)) (l k : Line) : Type 0 whe
 
 -- How the first of two lines contradicts the other one. A run that goes on after a pause contradicts itself.
 abbrev pub ContradictsBy : List (List ℕ) → Line → Line → Conflict → Type 0
-ContradictsBy points l k (conflict.Hits (Differs hit)) = SayOtherHits points l k hit
-ContradictsBy points l k (conflict.Hits NotMet) = ⊥
+ContradictsBy points l k (conflict.Hits hit) = SayOtherHits points l k hit
 ContradictsBy points l k conflict.Verdict = SayOtherEnds points l k ⊎ SaysOtherVerdict points l k
 ContradictsBy points l k conflict.Paused = EndsAtPause points l → ⊥
 

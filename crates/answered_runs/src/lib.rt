@@ -24,7 +24,7 @@ mod unseen;
 mod verdicts;
 
 pub use asked::AskedLines;
-pub use broken::{BrokenRun, Conflict, broken_run};
+pub use broken::{BrokenRun, Conflict};
 pub use contradictions::contradiction;
 pub use grown::{Causes, asks, census, further_behind, further_plans, known_causes, reached};
 pub use laws::{

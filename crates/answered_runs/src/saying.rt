@@ -11,7 +11,6 @@ use crate::broken::{BrokenRun, Conflict};
 use crate::table::AnsweredRuns;
 use crate::tree::{AnswerTree, Next, Said};
 use action_eval::{Answer, Session};
-use grown_runs::Break;
 use std::alloc::AllocError;
 use target_trait::Verdict;
 
@@ -47,7 +46,7 @@ fn conflict_of(said: Next, next: Next, hit: u32) -> Option<Conflict>
         (Next::Hit(point), Next::Hit(other)) if point == other => None,
         (Next::End(verdict), Next::End(other)) if verdict == other => None,
         (Next::End(_), Next::End(_)) => Some(Conflict::Verdict),
-        (Next::Hit(_), _) | (_, Next::Hit(_)) => Some(Conflict::Hits(Break::Differs(hit))),
+        (Next::Hit(_), _) | (_, Next::Hit(_)) => Some(Conflict::Hits(hit)),
     }
 }
 

@@ -60,8 +60,7 @@ use Rattle.campaign_main.specs.Notes.{is_doubted, listed_notes, notes_of, report
 -- Why a command is refused. Its settings aren't UTF-8 or have a fault; its scenario has a fault; there are too many plans; or no plan has this
 -- number. Somebody else runs the component, but the command would have to run it, or to list plans that grow from answers. A question is about a
 -- target that the program runs itself. The answers on a component of this description have a fault, have another census than the settings in this
--- line, or lack this scenario. A recorded run doesn't begin like the one that it has to, or contradicts that of a plan; or this line records the run to
--- be explained without its hits.
+-- line, or lack this scenario. Two recorded runs contradict each other; or this line records the run to be explained without its hits.
 pub data Refusal : Type 0 where
   not_text : Refusal
   bad_settings : Cause → Refusal

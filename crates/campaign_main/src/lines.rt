@@ -306,7 +306,7 @@ fn waiting_line(alloc: Global, scenario: &Scenario) -> Result<String, AllocError
     Ok(line)
 }
 
-/// The line for a run that doesn't begin like that of its plan's forerunner.
+/// The line for two recorded runs that contradict each other.
 fn broken_line(alloc: Global, broken: &BrokenRun) -> Result<String, AllocError>
     ensures { IfOk result (λ line. string_bytes line ≡ refusal_line (broken_run broken.now)) }
 {

@@ -109,10 +109,9 @@ fn answer_on<A: Read, W: Sink, E: Sink>(
 /// | Write | the output failed | a part of the text, of as many bytes as Write says | one line |
 ///
 /// A question is refused if the settings can't be read or have a fault, choose a bundled target, or have more than 65536 plans; if the answers can't
-/// be read or have a fault, of which the first is named; and, for a report, if something is still to be tried. With a depth it is also refused if a
-/// recorded run doesn't begin like that of its plan's forerunner, or contradicts that of a plan. A run can't be explained if its text spells no
-/// scenario, which comes before all faults of the answers, if no answer records it, or if the answer has no hits. A line that can't be written, or not
-/// whole, changes no end.
+/// be read or have a fault, of which the first is named; and, for a report, if something is still to be tried. With a depth it is also refused if
+/// two recorded runs contradict each other. A run can't be explained if its text spells no scenario, which comes before all faults of the answers, if
+/// no answer records it, or if the answer has no hits. A line that can't be written, or not whole, changes no end.
 ///
 /// The notes are a line for each name that no point of the component has, in the scenarios that the settings list and in those that are answered:
 /// `answers: line 3: no point is named NAME`. There is also one for each listed scenario in which a control character stands. A strict report adds

@@ -15,7 +15,7 @@ use Rattle.grown_plans.specs.GrownPlans.{Subject, run_of_plan, hits_after, is_on
 use Rattle.grown_plans.specs.Promises.{EachTwo, IsLawful, ReturnsOnward, RunsNothingTwice, NeedsNoSeed}
 use Rattle.grown_plans.proofs.Members.{all_weaker, all_append, all_left, all_right, all_both, all_flat, two_append, two_flat, two_weaker, two_with}
 use Rattle.grown_plans.proofs.Paths.{IsPath, Numbered, Fresh, AnsweredBy, times_met, times_both, times_push, parted, path_numbered, hit_fresh, rest_fresh, rest_later, hit_is}
-use Rattle.grown_plans.proofs.RiggedScenarios.{CanAct, ActApart, reply_here, reply_there, kind_once, same_site}
+use Rattle.grown_plans.proofs.RiggedScenarios.{CanAct, ActApart, reply_here, reply_there, kind_once}
 use Rattle.grown_plans.proofs.PlanRuns.{answers_of, plan_path, plan_answered, needs_no_seed}
 use Rattle.grown_plans.proofs.Faults.{noted, faults, faults_both, faults_none, faults_length, faults_onto, AllGo, acts_self, acts_not, acts_once, AreAmong, can_act, faults_among, among_quiet, EndsIn, last_fault}
 use Rattle.grown_plans.proofs.Levels.{IsGrown, hits_after_split, level_grown}
@@ -141,17 +141,6 @@ same_split s (z ∷ b) (w ∷ c) m n x y e f g u v =
 
 -- ---- a plan with a sticky last fault, from its leaf
 
--- the hit of a point after this one
-abbrev pub next_hit : Site → Site
-next_hit s = record { point = s.point; hit = s.hit + 1 }
-
--- Up to the next hit of its point, a run with a sticky fault is the one with this fault once.
-abbrev pub GoesAsOnce : Subject → List Rig → Type 0
-GoesAsOnce t [] = ⊥
-GoesAsOnce t (r ∷ rs) =
-    (is_onward r.kind ≡ true) × (b : List Met) × (m : Met) × (n : Met) × (x : List Met) × (y : List Met) × (run_of_plan t (r ∷ rs) ≡ b ++ m ∷ x)
-    × (run_of_plan t (rig r.site (OnceReturn (text_of r.kind)) ∷ rs) ≡ b ++ n ∷ y) × (m.site ≡ next_hit r.site) × (n.site ≡ next_hit r.site)
-
 -- A return at a hit, after so many acting faults, and at each later hit of its point; no other fault acts later.
 pub record ReturnsFrom (n : ℕ) (ms : List Met) : Type 0 where
   pub before : List Met
@@ -170,7 +159,6 @@ pub record IsOnwardOf (t : Subject) (leaf plan : List Rig) : Type 0 where
   pub next : Rig
   pub tells : faults [] (run_of_plan t plan) ≡ further ++ next ∷ leaf
   pub alike : RunsAlike t plan
-  pub goes : GoesAsOnce t plan
 
 not_point : (p q : ℕ) → (q == p) ≡ false → p ≡ q → ⊥
 not_point p q e same = let yes : (q == p) ≡ true = grind (arith, nat_tests, same) in absurd (let no : true ≡ false = sym yes ∙ e in cc)
@@ -198,25 +186,6 @@ returns_on t text rs b m a path among answered =
     by_point x fresh late false e =
         reply_there x.site.point x.site.hit (from_then text m.site) rs (acts_not_yet text m.site x.site.point x.site.hit (λ same. absurd (not_point m.site.point x.site.point e same)))
         ∙ among_quiet rs b x.site among fresh
-
--- a hit of a point, and further ones of other points, are one of it
-times_one : (p : ℕ) (m : Met) (ms : List Met) → p ≡ m.site.point → AllByRecursion (λ (x : Met). (x.site.point == p) ≡ false) ms → times_met p (m ∷ ms) ≡ 1
-times_one p m ms e h =
-    let is : (m.site.point == p) ≡ true = grind (arith, nat_tests, e) in
-    let one : times_met p (m ∷ []) ≡ times_met p [] + 1 = times_push p [] m ∙ ap (λ b. times_met p [] + cond b 1 0) is in
-    let rest : times_met p ms ≡ 0 = none ms h in
-    let both : times_met p (m ∷ ms) ≡ times_met p (m ∷ []) + times_met p ms = times_both p (m ∷ []) ms in
-    let start : times_met p [] ≡ 0 = refl in
-    omega (arith, one, rest, both, start)
-  where
-    none : (xs : List Met) → AllByRecursion (λ (x : Met). (x.site.point == p) ≡ false) xs → times_met p xs ≡ 0
-    none [] h = refl
-    none (x ∷ xs) h =
-        let one : times_met p (x ∷ []) ≡ times_met p [] + 0 = times_push p [] x ∙ ap (λ b. times_met p [] + cond b 1 0) h.0 in
-        let rest : times_met p xs ≡ 0 = none xs h.1 in
-        let both : times_met p (x ∷ xs) ≡ times_met p (x ∷ []) + times_met p xs = times_both p (x ∷ []) xs in
-        let start : times_met p [] ≡ 0 = refl in
-        omega (arith, one, rest, both, start)
 
 once_return : (k : Kind) → k ≡ OnceReturn (text_of k) → is_onward k ≡ false
 once_return k e = ap is_onward e
@@ -269,10 +238,6 @@ onward_runs t l n r rs g kind h f =
     let later : s.hit ≤ two.site.hit = omega (arith, again, more, before, hit) in
     let returns : answers_of plan two.site ≡ Return text = reply_here two.site.point two.site.hit (from_then text s) rs (acts_from text s two.site.point two.site.hit point later) in
     let run : run_of_plan t plan ≡ begin ++ met two.site (Return text) ∷ parts.0 = parts.1 ∙ ap (λ (a : Reply). begin ++ met two.site a ∷ parts.0) returns in
-    let alone : times_met s.point (h.m ∷ x) ≡ 1 = times_one s.point h.m x (ap (λ (z : Site). z.point) (sym h.site)) f.earlier in
-    let there : times_met two.site.point (h.m ∷ x) ≡ 1 = ap (λ p. times_met p (h.m ∷ x)) (sym point) ∙ alone in
-    let next : two.site ≡ next_hit s = same_site two.site (next_hit s) (sym point) (let goal : two.site.hit ≡ s.hit + 1 = omega (arith, again, more, before, hit, there) in goal) in
-    let leaf_run : run_of_plan t leaf ≡ begin ++ two ∷ f.back = h.split ∙ ap (λ (ms : List Met). h.b ++ h.m ∷ ms) f.split ∙ sym (append_assoc h.b (h.m ∷ x) (two ∷ f.back)) in
     let told : faults [] begin ≡ leaf =
     faults_both [] h.b (h.m ∷ x) ∙ ap (λ (z : List Rig). faults (noted h.m.site h.m.reply z) x) h.earlier ∙ ap (λ (z : List Rig). faults z x) h.last ∙ faults_none leaf x (all_left (λ m. m.reply ≡ Go) x (two ∷ f.back) still)
     in
@@ -304,18 +269,6 @@ onward_runs t l n r rs g kind h f =
       };
       further = onto.0;
       next = rig two.site (OnceReturn text);
-      goes = (
-        refl,
-        begin,
-        met two.site (Return text),
-        two,
-        parts.0,
-        f.back,
-        run,
-        ap (λ (k : Kind). run_of_plan t (rig s k ∷ rs)) (sym kind) ∙ leaf_run,
-        next,
-        next,
-      );
       alike = (
         h.b,
         h.m,
@@ -427,6 +380,3 @@ pub grown_runs_alike : (t : Subject) → IsLawful t → (d : ℕ) → AllByRecur
 grown_runs_alike t l d =
     all_append (RunsAlike t) (levels t d) (onward t d) (all_weaker (IsGrownTo t d) (RunsAlike t) (λ plan g. grown_alike t g.0 plan g.2) (levels t d) (levels_grown t l d))
     (all_weaker (IsOnwardAt t d) (RunsAlike t) (λ plan h. h.2.alike) (onward t d) (onward_all t l d))
-
-pub goes_as_once : (t : Subject) → IsLawful t → (d : ℕ) → AllByRecursion (GoesAsOnce t) (onward t d)
-goes_as_once t l d = all_weaker (IsOnwardAt t d) (GoesAsOnce t) (λ plan h. h.2.goes) (onward t d) (onward_all t l d)

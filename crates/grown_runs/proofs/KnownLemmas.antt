@@ -5,5 +5,4 @@ pub mod Steps
 pub mod Kept
 pub mod Ends
 pub mod Seen
-pub mod Breaking
 pub mod Found

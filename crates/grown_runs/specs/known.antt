@@ -4,7 +4,6 @@ pub mod KnownPart
 pub mod ToldPart
 pub mod KnownPlans
 pub mod Walks
-pub mod Breaks
 pub mod Unseen
 pub mod SeenPromises
 pub mod Promises

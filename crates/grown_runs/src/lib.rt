@@ -16,9 +16,9 @@ mod rigged;
 pub use causes::{fails_with, leave_out};
 pub use input::Limits;
 pub use known::{
-    Break, Look, RunTable, ToldList, break_of, each_plan_is_to_be_run_once, known_plans,
-    known_runs_tell_others, lawful_runs_never_break, look_up, nothing_is_skipped_as_far_as_seen,
-    nothing_to_run_is_the_whole_list, plan_of, read_found, verdict_of,
+    Look, RunTable, ToldList, each_plan_is_to_be_run_once, known_plans, known_runs_tell_others,
+    look_up, nothing_is_skipped_as_far_as_seen, nothing_to_run_is_the_whole_list, plan_of,
+    read_found, verdict_of,
 };
 pub use levels::{Grown, grow, grow_list};
 pub use parts::Conditions;

@@ -4,6 +4,7 @@ use Rattle.scenario_values.specs.Scenario.{Entries}
 use Rattle.plan_gen.specs.PlanList.{most_plans}
 use Rattle.answer_text.specs.Runs.{RunBook, told_in}
 use Rattle.answer_text.specs.declared.runs.Stranger.{Stranger}
+use Rattle.answered_runs.specs.Agreement.{AreOfOne}
 use Rattle.answered_runs.specs.KnownLists.{KnownList}
 use Rattle.campaign_given.specs.Description.{Description}
 use Rattle.campaign_given.specs.Given.{Given}
@@ -11,7 +12,7 @@ use Rattle.outside_campaign.specs.Campaigns.{plans as listed}
 use Rattle.outside_campaign.specs.Readable.{IsReadable, strangers_by, told_by}
 use Rattle.outside_campaign.specs.declared.recorded.Recorded.{Recorded}
 use Rattle.outside_campaign.specs.declared.recorded.Recorded.TheVariants.{ByCensus, ByRuns}
-use Rattle.outside_campaign.specs.with_depth.Questions.{AreUnbroken, Tells}
+use Rattle.outside_campaign.specs.with_depth.Questions.{Tells}
 
 -- The depth to which plans grow, if they do.
 abbrev pub depth_of : Recorded → Option ℕ
@@ -35,7 +36,7 @@ pub record RecordsByCensus (outside : Description) (given : Given) (answers : Li
 -- With a depth: these are the runs that a text of answers records, and they don't contradict each other.
 pub record RecordsRuns (outside : Description) (answers : List ℕ) (known : KnownList) : Type 0 where
   pub tells : Tells outside answers known.answered
-  pub unbroken : AreUnbroken known.answered known.depth
+  pub agree : AreOfOne known.answered
 
 -- This is what a text of answers records of a component, with the plans of its campaign.
 abbrev pub Records : Description → Given → List ℕ → Recorded → Type 0

@@ -14,7 +14,6 @@ use Rattle.answered_runs.specs.declared.broken.BrokenRun.{BrokenRun}
 use Rattle.answered_runs.specs.Answered.{Answered, told_of}
 use Rattle.answer_text.specs.Runs.{told_in}
 use Rattle.answer_text.specs.declared.runs.ToldRun.{ToldRun}
-use Rattle.grown_runs.specs.declared.known.breaks.Break.TheVariants.{Differs, NotMet}
 use Rattle.answered_runs.specs.declared.broken.Conflict.{Conflict}
 use Rattle.answered_runs.specs.declared.broken.Conflict.TheVariants as conflict
 use Rattle.answered_runs.specs.declared.tree.Next.{Next}
@@ -137,8 +136,7 @@ Follows (suc n) t u place x =
 -- How two moves differ, at the hit of this number.
 abbrev pub IsConflict : Next → Next → ℕ → Option Conflict → Type 0
 IsConflict x y hit None = move_of x ≡ move_of y
-IsConflict x y hit (Some (conflict.Hits (Differs n))) = (n ≡ hit) × (move_of x ≢ move_of y) × (IsAsking (move_of y) ⊎ IsAsking (move_of x))
-IsConflict x y hit (Some (conflict.Hits NotMet)) = ⊥
+IsConflict x y hit (Some (conflict.Hits n)) = (n ≡ hit) × (move_of x ≢ move_of y) × (IsAsking (move_of y) ⊎ IsAsking (move_of x))
 IsConflict x y hit (Some conflict.Verdict) = (v : Verdict) × (w : Verdict) × (x ≡ End v) × (y ≡ End w) × (v ≢ w)
 IsConflict x y hit (Some conflict.Paused) = ⊥
 

@@ -2,7 +2,6 @@
 ghost use Rattle.std.specs.Prelude.{ℕ};
 ghost use Rattle.grown_plans.specs.GrownPlans.{Subject};
 ghost use Rattle.grown_plans.specs.Promises.{IsLawful};
-ghost use Rattle.grown_runs.specs.known.Breaks.{BreaksNever};
 ghost use Rattle.grown_runs.specs.known.Known.{Agrees, KnownRuns};
 ghost use Rattle.grown_runs.specs.known.Promises.{EndsAsSeen, EndsWhole, RunsEachOnce, WalksRight};
 
@@ -25,10 +24,4 @@ pub fn nothing_is_skipped_as_far_as_seen()
 /// No plan is to be run twice.
 pub fn each_plan_is_to_be_run_once()
     ensures { (t : Subject) → IsLawful t → (d : ℕ) (known : KnownRuns) → RunsEachOnce t d known }
-{}
-
-/// In a lawful subject the run of a plan never breaks with the run that it ought to begin like. That is the run of the plan that it grew from, up to
-/// the last fault; or, if the last fault is sticky, the run of the plan with this fault once, up to the next hit of the fault's point.
-pub fn lawful_runs_never_break()
-    ensures { (t : Subject) → IsLawful t → (d : ℕ) → BreaksNever t d }
 {}

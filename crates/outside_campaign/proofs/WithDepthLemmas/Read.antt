@@ -12,6 +12,7 @@ use Rattle.grown_runs.specs.known.KnownPart.{are_told, known_part, to_run}
 use Rattle.grown_runs.specs.known.ToldPart.{part_known}
 use Rattle.grown_runs.proofs.KnownLemmas.Listed.{filter_all, part_is}
 use Rattle.action_eval.specs.Catalogue.{IsCatalogue}
+use Rattle.answered_runs.specs.Agreement.{AreOfOne}
 use Rattle.answered_runs.specs.Answered.{Answered, CanBeListed, known_plans, runs_in}
 use Rattle.answered_runs.specs.Components.{AgreesWithRuns, IsComponent}
 use Rattle.answered_runs.specs.WholeList.{AreAllTold}
@@ -24,7 +25,7 @@ use Rattle.campaign_core.specs.Headline.{Campaign, grower}
 use Rattle.report.specs.declared.forms.forms.Form.{Form}
 use Rattle.outside_campaign.specs.with_depth.Kinds.{listed_kinds}
 use Rattle.outside_campaign.specs.with_depth.Grown.{campaign, listed, untried}
-use Rattle.outside_campaign.specs.with_depth.Questions.{AreUnbroken, IsReportedText, Tells}
+use Rattle.outside_campaign.specs.with_depth.Questions.{IsReportedText, Tells}
 use Rattle.outside_campaign.specs.with_depth.Seen.{IsReportAsSeen, first_number_seen, report_seen_in}
 use Rattle.outside_campaign.specs.with_depth.inside.Outcomes.{AreLawfulOf, IsFirstNumberOf, IsTextOf}
 use Rattle.outside_campaign.proofs.WithDepthLemmas.AsSeen.{further_seen, keeps_promises, minimal_seen}
@@ -83,12 +84,12 @@ as_seen form outside given a depth text first low same is_text is_first lawful t
     }
 
 pub reported : (form : Form) (outside : Description) (given : Given) (a : Answered) (depth : ℕ) (answers text : List ℕ) (first : Option ℕ) → depth ≤ 64 → Tells outside answers a
-    → IsCatalogue a.points → AllByRecursion CanBeListed a.listed → IsTextOf form outside given a depth text → IsFirstNumberOf outside given a depth first → AreLawfulOf outside given a depth → AreUnbroken a depth → AreAllTold (runs_in a) (known_plans a depth) → untried a depth given.plans ≡ []
+    → IsCatalogue a.points → AllByRecursion CanBeListed a.listed → IsTextOf form outside given a depth text → IsFirstNumberOf outside given a depth first → AreLawfulOf outside given a depth → AreOfOne a → AreAllTold (runs_in a) (known_plans a depth) → untried a depth given.plans ≡ []
     → length (listed a depth given.plans) ≤ most_plans → IsReportedText form outside given depth answers text first
-reported form outside given a depth answers text first low t points listed is_text is_first lawful unbroken told all few = record {
+reported form outside given a depth answers text first low t points listed is_text is_first lawful one told all few = record {
   runs = a;
   tells = t;
-  unbroken = unbroken;
+  agree = one;
   all = all;
   few = few;
   some = agreeing a depth low (record {
@@ -97,7 +98,7 @@ reported form outside given a depth answers text first low t points listed is_te
     names = outside.codes;
     text = answers;
     read = t.told ∙ ap (λ (ps : List (List ℕ)). known_runs outside.codes ps answers) (sym t.points);
-  }) unbroken.agree;
+  }) one;
   each =
       λ s agrees. as_seen form outside given a depth text first low t.points is_text is_first lawful told s
       (subst (λ (ps : List (List ℕ)). IsComponent ps a.listed s) (sym t.points) (subst (λ (ls : List (List Kind)). IsComponent outside.points ls s) (sym t.listed) agrees.component)) (subst (AgreesWithRuns s) (sym t.told) agrees.agrees);

@@ -1,7 +1,6 @@
 -- Why there is no report of a campaign with a depth, and that nothing is still to be tried where there is one.
 use Rattle.std.proofs.Common.{◌≡◌, ◌<◌, ◌++◌, ◌⊎◌, inl, inr, ℕ, zero, suc, Bool, true, false, cond, List, [], ◌∷◌, Some, None, Option, length, map, refl, ap, sym, ◌∙◌, subst, arith, is_none}
 use Rattle.std.specs.Prelude.{Contains, filter, nat_le, option_map}
-use Rattle.std.specs.Option.{unwrap_or}
 use Rattle.scenario_values.specs.Scenario.{Entries}
 use Rattle.scenario_values.specs.Tidied.{tidied}
 use Rattle.action_eval.specs.declared.rig.Rig.{Rig}
@@ -27,36 +26,11 @@ use Rattle.outside_campaign.specs.declared.refusal.OutsideFault.TheVariants as r
 use Rattle.answered_runs.specs.grown.Asked.{to_try, undecided, unrun}
 use Rattle.answered_runs.specs.grown.Further.{further_told}
 use Rattle.outside_campaign.specs.with_depth.Grown.{candidates, known, listed, or_else, untried}
-use Rattle.answered_runs.specs.Broken.{AreBroken, IsFirstBreak}
-use Rattle.answered_runs.specs.Agreement.{AreOfOne, IsContradiction}
-use Rattle.answered_runs.specs.SomeComponent.{HasComponent}
 use Rattle.answered_runs.proofs.Known.{plan_certain}
-use Rattle.answered_runs.proofs.SomeComponent.{component_unbroken}
-use Rattle.answered_runs.specs.declared.broken.BrokenRun.{BrokenRun}
-use Rattle.outside_campaign.specs.with_depth.Questions.{AreUnbroken, RefusesBy}
+use Rattle.outside_campaign.specs.with_depth.Questions.{RefusesBy}
 use Rattle.outside_campaign.specs.declared.with_depth.fault.QuestionFault.{QuestionFault}
 use Rattle.outside_campaign.specs.declared.with_depth.fault.QuestionFault.TheVariants as fault
 use Rattle.outside_campaign.specs.with_depth.inside.Outcomes.{IsFirstOf, IsGapFault, IsOpenPlan}
-
--- ---- known plans
-
--- two runs contradict each other, and perhaps a plan's run breaks
-pub contradicted : (a b : Answered) (d e : ℕ) (plans : List (List Rig)) (broken : Option BrokenRun) (found : BrokenRun) → a ≡ b → d ≡ e → plans ≡ known_plans a d → AreBroken a plans broken → IsContradiction a found
-    → IsFirstBreak b (known_plans b e) (unwrap_or broken found) ⊎ (AreBroken b (known_plans b e) None × IsContradiction b (unwrap_or broken found))
-contradicted a b d e plans None found same deep all none contradicts =
-    inr
-    (subst (λ (x : Answered). AreBroken x (known_plans x e) None × IsContradiction x found) same
-    (subst (λ (n : ℕ). AreBroken a (known_plans a n) None × IsContradiction a found) deep (subst (λ (ps : List (List Rig)). AreBroken a ps None) all none, contradicts)))
-contradicted a b d e plans (Some x) found same deep all first contradicts =
-    inl
-    (subst (λ (y : Answered). IsFirstBreak y (known_plans y e) x) same
-    (subst (λ (n : ℕ). IsFirstBreak a (known_plans a n) x) deep (subst (λ (ps : List (List Rig)). IsFirstBreak a ps x) all first)))
-
--- no two runs contradict each other
-pub unbroken : (a b : Answered) (d e : ℕ) → a ≡ b → d ≡ e → HasComponent a d → AreOfOne a → AreUnbroken b e
-unbroken a b d e same deep some one =
-    subst (λ (x : Answered). AreUnbroken x e) same
-    (subst (λ (n : ℕ). AreUnbroken a n) deep (record { begin = component_unbroken a d some; agree = one }))
 
 -- ---- what is in a list
 

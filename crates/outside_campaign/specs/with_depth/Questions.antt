@@ -1,5 +1,5 @@
 -- Texts that answer questions on a component that somebody else runs, of a campaign with or without a depth, by the settings and a text of answers.
-use Rattle.std.specs.Prelude.{◌≡◌, ◌⊎◌, ◌≤◌, ◌<◌, ℕ, Bool, true, List, [], ◌∷◌, Option, None, Some, Ok, Err, length, Contains}
+use Rattle.std.specs.Prelude.{◌≡◌, ◌≤◌, ◌<◌, ℕ, Bool, true, List, [], ◌∷◌, Option, None, Some, Ok, Err, length, Contains}
 use Rattle.scenario_values.specs.Scenario.{Entries}
 use Rattle.plan_gen.specs.PlanList.{Asked, most_plans}
 use Rattle.answered_runs.specs.asked.Lines.{lines_for}
@@ -7,7 +7,6 @@ use Rattle.answer_text.specs.Known.{AgreesWithText}
 use Rattle.answer_text.specs.Runs.{known_runs, known_strangers, runs_of, told_in}
 use Rattle.answer_text.specs.declared.runs.RunLine.{RunLine}
 use Rattle.answered_runs.specs.Answered.{Answered, known_plans, runs_in}
-use Rattle.answered_runs.specs.Broken.{AreBroken, IsFirstBreak}
 use Rattle.answered_runs.specs.Agreement.{AreOfOne, IsContradiction}
 use Rattle.answered_runs.specs.SomeComponent.{HasComponent}
 use Rattle.campaign_given.specs.Description.{Description}
@@ -55,16 +54,11 @@ IsReadingFault outside answers (fault.Unseen line) = ⊥
 abbrev pub grown_lines : Given → ℕ → Answered → List (List ℕ)
 grown_lines given depth a = lines_for (grown.untried a depth given.plans)
 
--- Each recorded run of a plan begins like that of the plan's forerunner, and no two recorded runs contradict each other.
-pub record AreUnbroken (a : Answered) (depth : ℕ) : Type 0 where
-  pub begin : AreBroken a (known_plans a depth) None
-  pub agree : AreOfOne a
-
--- A text asks for what is still to be tried.
+-- A text asks for what is still to be tried. No two recorded runs contradict each other.
 pub record IsAskedText (outside : Description) (given : Given) (depth : ℕ) (answers text : List ℕ) : Type 0 where
   pub runs : Answered
   pub tells : Tells outside answers runs
-  pub unbroken : AreUnbroken runs depth
+  pub agree : AreOfOne runs
   pub text_is : text ≡ text_of (grown_lines given depth runs)
 
 -- A text is the report of every component that agrees with the answers, as far as its runs were seen, and `first` is the number of its first plan
@@ -73,18 +67,17 @@ pub record IsAskedText (outside : Description) (given : Given) (depth : ℕ) (an
 pub record IsReportedText (form : Form) (outside : Description) (given : Given) (depth : ℕ) (answers text : List ℕ) (first : Option ℕ) : Type 0 where
   pub runs : Answered
   pub tells : Tells outside answers runs
-  pub unbroken : AreUnbroken runs depth
+  pub agree : AreOfOne runs
   pub all : grown.untried runs depth given.plans ≡ []
   pub few : length (grown.listed runs depth given.plans) ≤ most_plans
   pub some : HasComponent runs depth
   pub each : (t : Subject) → grown.AgreesWithAnswers outside answers t
       → IsReportAsSeen form (grown.campaign outside given depth t) (told_in runs.book) depth (runs_in runs) text first
 
--- Why there is no report, by recorded runs: one doesn't begin like that of its plan's forerunner, or all do, and two contradict each other;
--- something is still to be tried, and this scenario is part of it; or too many plans are known.
+-- Why there is no report, by recorded runs: two contradict each other; something is still to be tried, and this scenario is part of it; or too many
+-- plans are known.
 abbrev pub RefusesBy : Answered → ℕ → Asked → QuestionFault → Type 0
-RefusesBy a depth asked (fault.Broken b) =
-    IsFirstBreak a (known_plans a depth) b ⊎ (AreBroken a (known_plans a depth) None × IsContradiction a b)
+RefusesBy a depth asked (fault.Broken b) = IsContradiction a b
 RefusesBy a depth asked (fault.Outside (refusal.NotAnswered t)) = Contains (grown.untried a depth asked) t
 RefusesBy a depth asked (fault.Outside (refusal.Campaign campaign.TooManyPlans)) = AreTooMany a asked (length (known_plans a depth))
 RefusesBy a depth asked (fault.Outside (refusal.Campaign campaign.Memory)) = Unit {0}
@@ -109,7 +102,7 @@ RefusesGrown outside given depth answers why = (a : Answered) × Tells outside a
 pub record IsPartialText (outside : Description) (given : Given) (depth : ℕ) (answers text : List ℕ) (found : Bool) : Type 0 where
   pub runs : Answered
   pub tells : Tells outside answers runs
-  pub unbroken : AreUnbroken runs depth
+  pub agree : AreOfOne runs
   pub text_is : text ≡ partial_text outside given.plans.seed true (grown.known runs depth) (grown.listed runs depth given.plans)
   pub found_is : found ≡ some_fails (grown.known runs depth) (grown.listed runs depth given.plans)
 

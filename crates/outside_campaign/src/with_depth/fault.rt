@@ -20,8 +20,8 @@ use std::alloc::AllocError;
 pub enum QuestionFault {
     /// A fault of a campaign without a depth.
     Outside(OutsideFault),
-    /// A run doesn't begin like that of its plan's forerunner, or it isn't that of the plan whose faults its scenario has: the component's next hit
-    /// isn't a function of the answers to its earlier hits, or the answers are those of two components. Nothing was written.
+    /// Two recorded runs contradict each other: the component's next hit isn't a function of the answers to its earlier hits, or the answers are those
+    /// of two components. Nothing was written.
     Broken(BrokenRun),
     /// The text whose run is to be explained spells no scenario. Nothing was written.
     Scenario(ScenarioFault),

@@ -4,26 +4,26 @@ ghost use Rattle.std.specs.List.{AllByRecursion};
 ghost use Rattle.scenario_values.specs.Scenario.{IsScenario};
 ghost use Rattle.scenario_values.specs.Tidied.{tidied};
 ghost use Rattle.grown_plans.specs.numbered.GrownScenarios.{grown_scenario, grown_scenarios};
+ghost use Rattle.answered_runs.specs.Agreement.{AreOfOne};
 ghost use Rattle.answered_runs.specs.Answered.{runs_in};
 ghost use Rattle.answered_runs.specs.WholeList.{AreAllTold};
 ghost use Rattle.outside_campaign.specs.Asked.{plan_verdicts};
 ghost use Rattle.plan_gen.specs.PlanList.{Asked, most_plans};
 ghost use Rattle.outside_campaign.specs.with_depth.Grown.{BeginsWith, known as known_verdicts};
-ghost use Rattle.outside_campaign.specs.with_depth.Questions.{AreUnbroken, RefusesAsks};
+ghost use Rattle.outside_campaign.specs.with_depth.Questions.{RefusesAsks};
 ghost use Rattle.outside_campaign.specs.with_depth.inside.Outcomes.{IsGapFault};
 
 use crate::with_depth::fault::QuestionFault;
 use crate::with_depth::table::KnownByRuns;
 use crate::{OutsideFault, VerdictTable};
-use answered_runs::{AnsweredRuns, KnownPlans, broken_run, contradiction, plan_scenario};
+use answered_runs::{AnsweredRuns, KnownPlans, contradiction, plan_scenario};
 use grown_plans::CampaignPlans;
 use plan_gen::PlanList;
 use scenario_values::{Scenario, tidy};
 use std::alloc::{AllocError, Global};
 use target_trait::Verdict;
 
-/// The plans that are known by now. Answers are refused if two recorded runs contradict each other, so that no component has both. If some plan's run
-/// doesn't begin like that of its forerunner, the first such plan is told.
+/// The plans that are known by now. Answers are refused if two recorded runs contradict each other, so that no component has both.
 pub fn known_plans<'a>(
     alloc: Global,
     runs: &'a AnsweredRuns<'a>,
@@ -31,16 +31,15 @@ pub fn known_plans<'a>(
 ) -> Result<KnownPlans<'a>, QuestionFault>
     requires { depth ≤ 64 }
     ensures known { IfOk result (λ known. (known.answered ≡ runs.now) × (known.depth ≡ depth)) }
-    ensures unbroken { OnOk result (AreUnbroken runs.now depth) }
+    ensures agree { OnOk result (AreOfOne runs.now) }
     ensures fault { IfErr result (λ why. (asked : Asked) → RefusesAsks runs.now depth asked why) }
 {
     let known = KnownPlans::of(alloc, runs, depth)?;
     let _ = known.list();
-    let Some(found) = contradiction(alloc, &known)? else {
-        return Ok(known);
-    };
-    let broken = broken_run(alloc, &known)?;
-    Err(QuestionFault::Broken(broken.unwrap_or(found)))
+    match contradiction(alloc, &known)? {
+        None => Ok(known),
+        Some(broken) => Err(QuestionFault::Broken(broken)),
+    }
 }
 
 /// The tidied scenario of the plan of this number.

@@ -1,7 +1,8 @@
 //! What is known so far of a campaign with a depth.
 ghost use Rattle.std.specs.Prelude.{ℕ, List, string_bytes, IfErr, IfOk};
+ghost use Rattle.answered_runs.specs.Agreement.{AreOfOne};
 ghost use Rattle.outside_campaign.specs.Partial.{partial_text};
-ghost use Rattle.outside_campaign.specs.with_depth.Questions.{AreUnbroken, IsPartialText, RefusesAsks, Tells};
+ghost use Rattle.outside_campaign.specs.with_depth.Questions.{IsPartialText, RefusesAsks, Tells};
 
 use crate::OutsideCampaign;
 use crate::partial::partial_text;
@@ -20,7 +21,7 @@ pub(crate) fn grown_partial(
     campaign: &OutsideCampaign<'_>,
     known: &KnownPlans<'_>,
 ) -> Result<(String, bool), QuestionFault>
-    requires { AreUnbroken known.now.answered known.now.depth }
+    requires { AreOfOne known.now.answered }
     ensures text { IfOk result (λ r. (answers : List ℕ) → Tells campaign.now.outside.now answers known.now.answered
         → IsPartialText campaign.now.outside.now campaign.now.settings.now known.now.depth answers (string_bytes r.0) r.1) }
     ensures fault { IfErr result (RefusesAsks known.now.answered known.now.depth campaign.now.settings.now.plans) }

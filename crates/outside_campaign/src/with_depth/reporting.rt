@@ -7,9 +7,10 @@ ghost use Rattle.report.specs.json_form.About.{shown_of};
 ghost use Rattle.answer_text.specs.Known.{KnownVerdicts};
 ghost use Rattle.outside_campaign.specs.Asked.{plan_verdicts as known_plan_verdicts};
 ghost use Rattle.outside_campaign.specs.Told.{AreVerdicts};
+ghost use Rattle.answered_runs.specs.Agreement.{AreOfOne};
 ghost use Rattle.answered_runs.specs.grown.Further.{HasFewHits};
 ghost use Rattle.outside_campaign.specs.declared.verdicts.Verdicts.TheVariants.{All};
-ghost use Rattle.outside_campaign.specs.with_depth.Questions.{AreUnbroken, IsReportedText, RefusesBy, Tells};
+ghost use Rattle.outside_campaign.specs.with_depth.Questions.{IsReportedText, RefusesBy, Tells};
 ghost use Rattle.outside_campaign.specs.with_depth.inside.Outcomes.{IsCleanCensus, IsDecided, IsFirstOf, IsOpenPlan, IsTextOf};
 
 use crate::with_depth::candidates::{Outcome, Told, outcome_known};
@@ -166,7 +167,7 @@ pub(crate) fn grown_report<'a>(
     known: &KnownPlans<'a>,
 ) -> Result<(Vec<u8>, Option<u32>), QuestionFault>
     requires points { known.now.answered.points ≡ campaign.now.outside.now.points }
-    requires unbroken { AreUnbroken known.now.answered known.now.depth }
+    requires agree { AreOfOne known.now.answered }
     // The promise: whichever text of answers was read.
     ensures report { IfOk result (λ r. (answers : List ℕ) → Tells campaign.now.outside.now answers known.now.answered
         → IsReportedText form.now campaign.now.outside.now campaign.now.settings.now known.now.depth answers r.0.items r.1) }

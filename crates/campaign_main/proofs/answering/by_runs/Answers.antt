@@ -1,7 +1,7 @@
 use Rattle.std.proofs.Common.{◌∙◌, ℕ, Some, ap, subst, sym}
-use Rattle.answered_runs.specs.Answered.{Answered}
+use Rattle.answered_runs.specs.Agreement.{AreOfOne}
 use Rattle.outside_campaign.specs.Recorded.{Records, depth_of}
-use Rattle.outside_campaign.specs.with_depth.Questions.{AreUnbroken, Tells}
+use Rattle.outside_campaign.specs.with_depth.Questions.{Tells}
 use Rattle.outside_campaign.proofs.WithDepthLemmas.Asking.{err_is}
 use Rattle.outside_campaign.proofs.WithDepthLemmas.ReadFaults.{asked_refused}
 use Rattle.campaign_main.specs.Questions.{IsUnansweredTo, Subject}
@@ -26,9 +26,8 @@ answer_by-requires c =
     let answers = c.args.answers.now in
     let same = c.in_ok-known.ensures.known in
     let tells = subst (Tells s.1 answers) (sym same.0) (subst (Tells s.1 answers) (sym c.table-runs.ensures) c.in_ok-read.ensures.read) in
-    let unbroken = subst (λ (a : Answered). AreUnbroken a c.in_ok-known.known.depth) (sym same.0)
-    (subst (AreUnbroken c.table-runs.result) (sym same.1) c.in_ok-known.ensures.unbroken) in
-    let records = subst (Records s.1 s.0 answers) (sym c.with_known.ensures) (record { tells = tells; unbroken = unbroken }) in
+    let agree = subst AreOfOne (sym same.0) c.in_ok-known.ensures.agree in
+    let records = subst (Records s.1 s.0 answers) (sym c.with_known.ensures) (record { tells = tells; agree = agree }) in
     (answers, records)
 
 pub returns : goal.returns
@@ -37,9 +36,8 @@ returns c =
     let answers = c.args.answers.now in
     let same = c.in_ok-known.ensures.known in
     let tells = subst (Tells s.1 answers) (sym same.0) (subst (Tells s.1 answers) (sym c.table-runs.ensures) c.in_ok-read.ensures.read) in
-    let unbroken = subst (λ (a : Answered). AreUnbroken a c.in_ok-known.known.depth) (sym same.0)
-    (subst (AreUnbroken c.table-runs.result) (sym same.1) c.in_ok-known.ensures.unbroken) in
-    let records = subst (Records s.1 s.0 answers) (sym c.with_known.ensures) (record { tells = tells; unbroken = unbroken }) in
+    let agree = subst AreOfOne (sym same.0) c.in_ok-known.ensures.agree in
+    let records = subst (Records s.1 s.0 answers) (sym c.with_known.ensures) (record { tells = tells; agree = agree }) in
     record {
       text = answered-text c.args.question s answers c.with_known.result (Some c.args.depth) (ap depth_of c.with_known.ensures ∙ ap (λ (n : ℕ). Some n) same.1) records c.answer_by.result c.answer_by.ensures.text;
       notes = answered-notes c.args.question s answers c.with_known.result (Some c.args.depth) (ap depth_of c.with_known.ensures ∙ ap (λ (n : ℕ). Some n) same.1) records c.answer_by.result c.answer_by.ensures.notes;

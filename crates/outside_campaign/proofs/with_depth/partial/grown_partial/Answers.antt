@@ -15,7 +15,7 @@ returns-clause-text c =
     record {
       runs = k.answered;
       tells = tells;
-      unbroken = c.requires;
+      agree = c.requires;
       text_is = c.in_ok-partial_text.ensures.text ∙ ap (λ (plans : List Entries). partial_text outside asked.seed true (known k.answered k.depth) plans) are;
       found_is = c.in_ok-partial_text.ensures.fails ∙ ap (λ (plans : List Entries). some_fails (known k.answered k.depth) plans) are;
     }

@@ -81,5 +81,5 @@ returns-clause-report c =
     λ answers tells. reported form outside given k.answered k.depth answers c.in_ok-text-in-Told.text.items c.first_number-first.result c.list.ensures.low tells
     (subst (λ (a : Answered). IsCatalogue a.points) c.runs.ensures c.points.ensures.lawful) (subst (λ (a : Answered). AllByRecursion CanBeListed a.listed) c.runs.ensures c.points.ensures.listed)
     c.in_ok-text-in-Told.ensures first
-    (lawful_seen outside given k c.in_ok-further.further plans all c.in-Told.told decided) c.requires.unbroken grown none
+    (lawful_seen outside given k c.in_ok-further.further plans all c.in-Told.told decided) c.requires.agree grown none
     (subst (λ (l : List Entries). length l ≤ most_plans) is c.in_ok-verdicts.ensures.few)
