@@ -35,10 +35,13 @@ static int handle_of_process(const struct call *call) {
     return handle;
 }
 
+/* By the handle and not by its number, which another process may have as soon as this one has ended. One that has ended needs no signal. */
+static void send_signal(int handle, int signal) { (void)!syscall(SYS_pidfd_send_signal, handle, signal, NULL, 0); }
+
 enum answer end_process(struct call *call) {
     int handle = handle_of_process(call);
     flush_hit(call);
-    kill(call->thread->process, SIGKILL);
+    send_signal(handle, SIGKILL);
     return wait_until_ended(call, handle);
 }
 
@@ -48,7 +51,7 @@ static bool is_for(const struct thread *thread) { return thread->number == threa
 enum answer ask_to_end(struct call *call) {
     int handle = handle_of_process(call);
     flush_hit(call);
-    kill(call->thread->process, SIGTERM);
+    send_signal(handle, SIGTERM);
     if (has_fatal_signal(call->thread) || !still_waits(call)) return wait_until_ended(call, handle);
     close(handle);
     if (!is_for(call->thread)) return GO;
