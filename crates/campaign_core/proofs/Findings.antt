@@ -95,13 +95,18 @@ module _ (c : Campaign) (label counts : List ℕ) (entries : List Entries) (grow
       let some = are.complete number code (get_or_from_slice_get told.report.verdicts number (verdict.Fail code) verdict.Pass comes) in
       (finding (say c) entries some.1, contains_map (finding (say c) entries) firsts some.1 (some.0, some.2, some.3), some.4)
 
-  pub once_each : AllPairs (λ (f g : FindingFacts). f.code ≢ g.code) told.report.findings
+  pub once_each : AllPairs (λ (f g : FindingFacts). (f.number < g.number) × (f.code ≢ g.code)) told.report.findings
   once_each i j none less low =
       let size = length-map firsts (finding (say c) entries) in
       let inside : j < length firsts = omega (arith, low, size) in
       let a = get_or-map (finding (say c) entries) firsts i (0, 0) none (omega (arith, less, inside)) in
       let b = get_or-map (finding (say c) entries) firsts j (0, 0) none inside in
-      λ same. are.distinct i j (0, 0) less inside (sym (ap (λ (f : FindingFacts). f.code) a) ∙ same ∙ ap (λ (f : FindingFacts). f.code) b)
+      let ascend = are.ascending i j (0, 0) less inside in
+      let earlier = ap (λ (f : FindingFacts). f.number) a in
+      let later = ap (λ (f : FindingFacts). f.number) b in (
+        omega (arith, ascend, earlier, later),
+        λ same. are.distinct i j (0, 0) less inside (sym (ap (λ (f : FindingFacts). f.code) a) ∙ same ∙ ap (λ (f : FindingFacts). f.code) b),
+      )
 
   -- ---- scenarios
 

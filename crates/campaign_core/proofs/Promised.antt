@@ -169,6 +169,7 @@ module _ (k : Campaign) (d : ℕ) (is_depth : Some d ≡ k.given.depth) (l : IsL
         judged = told_judged (grower k) l d told g;
         all_told = counted (grower k) l d told g;
         nothing_twice = twice (grower k) l d told g;
+        grew = ap (λ (o : Option ℕ). growth_of (grower k) k.given.plans.seed (plans k) o) (sym is_depth);
         depth = refl;
         levels = long_range (λ n. length (level (grower k) n)) (d + 1) ∙ (let one_more : d + 1 ≡ suc d = omega arith in one_more);
         clean = (run_of_plan (grower k) [], behaves_at (grower k) l d told g 0 [] first_plan, without_faults (grower k) l, clean_is);
@@ -177,7 +178,8 @@ module _ (k : Campaign) (d : ℕ) (is_depth : Some d ≡ k.given.depth) (l : IsL
         reached = λ point times at many.
             reached_by (grower k) told (grown (grower k) d) (grown (grower k) d) refl (λ plan there. there) point times (at_point (reached (grower k) d) (length k.points) point times at) many;
         findings = first_at k k.label (census k) (plans k) (growth k) told.growth told.behaviours minimal;
-        once = once_each k k.label (census k) (plans k) (growth k) told.growth told.behaviours minimal;
+        in_order = once_each k k.label (census k) (plans k) (growth k) told.growth told.behaviours minimal;
+        met = refl;
         sticky = sticky_at;
         causes = cause_at_place;
       }
@@ -241,7 +243,6 @@ pub keeps_promises : (k : Campaign) → IsLawful (grower k) → k.given.max_hits
 keeps_promises k l few low minimal = λ depth is.
     let low_depth : depth ≤ 64 = subst (λ (o : Option ℕ). IfSome o (λ d. d ≤ 64)) is low in (
       grew k depth (sym is),
-      ap (λ (o : Option ℕ). growth_of (grower k) k.given.plans.seed (plans k) o) is,
       keeps k depth (sym is) l few low_depth minimal,
       further_in k depth (sym is) l few low_depth minimal,
     )

@@ -116,8 +116,7 @@ told_in c growth = record {
 -- What the report of a campaign promises, if its settings give a depth: it tells how plans grew to that depth, and that is so.
 abbrev pub KeepsPromises : Campaign → Type 0
 KeepsPromises c = (depth : ℕ) → c.given.depth ≡ Some depth
-    → (growth : GrowthFacts) × ((report c).growth ≡ Some growth) × Promises (grower c) depth (told_in c growth)
-    × Further (grower c) (plans c) (told_in c growth)
+    → (growth : GrowthFacts) × Promises (grower c) depth (told_in c growth) × Further (grower c) (plans c) (told_in c growth)
 
 -- Each cause that the report lists is one, including those with a sticky fault.
 abbrev pub EachIsCause : Campaign → Type 0

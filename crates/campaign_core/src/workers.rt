@@ -16,7 +16,7 @@ use std::thread::Threads;
 use target_trait::{Target, Verdict};
 use work_gate::{Gate, Stage};
 
-/// A job for each worker, with a twin of the target, to run the plans from this number on. An error means that memory was refused.
+/// So many jobs, each with a twin of the target, to run the plans from this number on. An error means that memory was refused.
 fn runners<'a, 'g, T: Target + Send, G: Gate, R: Threads + Wait + Sync>(
     host: &Host<'g, G, R>,
     target: &T,
@@ -46,8 +46,8 @@ where
     Ok(all)
 }
 
-/// Runs each plan of an input whose verdict isn't known, with one thread and one twin of the target for each worker, and puts all verdicts into a
-/// book. The book is the same as with one thread. It is returned with those of the input's watched points that no run made here hits.
+/// Runs each plan of an input whose verdict isn't known, with one thread and one twin of the target for each worker that has a range to run, and puts
+/// all verdicts into a book. The book is the same as with one thread. It is returned with those of the input's watched points that no run made here hits.
 ///
 /// The book is made once all plans have run and the workers' tickets are gone. If a worker was refused memory, its range is run again. An error means
 /// that memory was refused.
@@ -68,14 +68,16 @@ where
     let Host { rt, alloc, gate } = host;
     let first = known.len() as u32;
     let plans = input.plans.len() as u32 - first;
-    let jobs = runners(host, target, input, first, input.settings.workers())?;
+    let count = range_count(plans);
+    let workers = input.settings.workers().min(count as usize).max(1);
+    let jobs = runners(host, target, input, first, workers)?;
     gate.expect(Stage::Listed, plans);
     let gate = RangeGate {
         gate: *gate,
         first,
         plans,
     };
-    let ranges = answers_of(*rt, *alloc, &gate, jobs, range_count(plans))?;
+    let ranges = answers_of(*rt, *alloc, &gate, jobs, count)?;
     let unreached = left_of(*alloc, input.watched, ranges.as_slice())?;
     let mut book = Book::new(*alloc, input)?;
     book.put_known(Vec::from_slice(*alloc, known)?);

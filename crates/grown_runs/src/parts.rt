@@ -10,7 +10,7 @@ use crate::grower::Grower;
 use crate::growth::Workspace;
 use crate::input::{GrownRunInput, Limits, Part};
 use crate::kept::Growth;
-use crate::ranges::{RangeGate, ranges_in_order};
+use crate::ranges::{RangeGate, range_count, ranges_in_order};
 use grown_plans::{GrownPlans, Kinds};
 use std::alloc::{AllocError, Global};
 use std::sync::Wait;
@@ -30,21 +30,22 @@ pub struct Conditions<'a, T: Target, G: Gate, R: Threads + Wait + Sync> {
     pub limits: Limits,
 }
 
-/// A job for each worker, with a twin of the target. An error means that memory was refused.
+/// So many jobs, each with a twin of the target. An error means that memory was refused.
 fn growers<'a, T: Target + Send, G: Gate>(
     alloc: Global,
     gate: &'a G,
     target: &T,
     input: &'a GrownRunInput<'a, T>,
+    workers: u32,
 ) -> Result<Vec<Grower<'a, T, G>>, AllocError>
 where
     T::Workload: Sync,
     requires { AskLikeParents (subject_on T.Target target.now input.now) input.now.plans.now }
-    ensures many { IfOk result (λ growers. length growers.items ≡ input.now.limits.workers) }
+    ensures many { IfOk result (λ growers. length growers.items ≡ workers) }
     ensures same { IfOk result (λ growers. All (λ g. (g.target ≡ target.now) × (g.input.now ≡ input.now)) growers.items) }
 {
     let mut all = Vec::new(alloc);
-    for _ in 0..input.limits.workers {
+    for _ in 0..workers {
         let target = target.twin()?;
         all.push(Grower {
             gate,
@@ -57,8 +58,8 @@ where
     Ok(all)
 }
 
-/// Runs the plans of a part of a list, from `first` on, with a thread for each worker, and names the stage to the gate. The plans come to the same as
-/// with one thread. An error means that memory was refused.
+/// Runs the plans of a part of a list, from `first` on, with a thread for each worker but for those that would have no range to run, and names the
+/// stage to the gate. The plans come to the same as with one thread. An error means that memory was refused.
 pub fn run_part<T: Target + Send, G: Gate, R: Threads + Wait + Sync>(
     on: &Conditions<'_, T, G, R>,
     plans: &GrownPlans,
@@ -85,8 +86,9 @@ where
         end,
     };
     let alloc = on.alloc;
-    let jobs = growers(alloc, on.gate, on.target, &input)?;
     let count = (end - first) as u32;
+    let workers = on.limits.workers.min(range_count(count)).max(1);
+    let jobs = growers(alloc, on.gate, on.target, &input, workers)?;
     let gate = RangeGate {
         gate: on.gate,
         first: first as u32,

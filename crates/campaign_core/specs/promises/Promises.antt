@@ -41,6 +41,7 @@ pub record Sound (t : Subject) (d : ℕ) (told : Told) : Type 0 where
   pub all_told : length told.behaviours ≡ count_of_all told
   pub nothing_twice : EachTwo (λ hits others. hits ≢ others) told.behaviours
   -- The depth is told, and so are levels 0 to d and no more. Number 0 is the run without faults, and its verdict is told by itself too.
+  pub grew : told.report.growth ≡ Some told.growth
   pub depth : told.growth.depth ≡ d
   pub levels : length told.growth.levels ≡ suc d
   pub clean : (hits : List Met) × HasBehaviour told 0 hits × (acting hits ≡ 0) × HasVerdict told 0 told.report.clean
@@ -53,10 +54,12 @@ pub record Sound (t : Subject) (d : ℕ) (told : Told) : Type 0 where
   pub points : length told.growth.reached ≡ length t.names
   pub reached : (point times : ℕ) → slice_get told.growth.reached point ≡ Some times → 0 < times
       → (hits : List Met) × Contains told.behaviours hits × (times_hit point hits ≡ times)
-  -- Each finding and each cause that is listed is one, and no two findings have the same code.
+  -- Each finding and each cause that is listed is one. Findings are in the order of their numbers, and no two have the same code.
   pub findings : All (IsFirst told) told.report.findings
-  pub once : AllPairs (λ f g. f.code ≢ g.code) told.report.findings
+  pub in_order : AllPairs (λ f g. (f.number < g.number) × (f.code ≢ g.code)) told.report.findings
   pub causes : All (IsCause t told) told.growth.causes
+  -- No plan is said to have a fault that never acted.
+  pub met : told.report.unmet ≡ 0
 
 -- ---- nothing is left out
 

@@ -1,5 +1,5 @@
 //! Laws of behaviours, as contracts of functions that do nothing.
-ghost use Rattle.std.specs.Prelude.{◌≡◌, ◌≢◌, ◌<◌, ◌≤◌, ℕ, suc, Contains, List, [], ◌∷◌, Some, length, slice_get};
+ghost use Rattle.std.specs.Prelude.{◌≡◌, ◌≢◌, ◌<◌, ◌≤◌, ℕ, suc, Contains, List, [], ◌∷◌, Some, None, length, slice_get};
 ghost use Rattle.scenario_values.specs.Scenario.{Entries, all_faults};
 ghost use Rattle.action_eval.specs.Answers.{given_of};
 ghost use Rattle.target_trait.specs.Outcomes.{verdict_with};
@@ -42,8 +42,9 @@ pub fn no_made_up_run_is_told()
 {}
 
 /// A report isn't sound that prints another fact than those of its runs: beside a cause or a finding a scenario that passes; another depth than the one
-/// that was asked for, or a level more; of the component that hits nothing, that its point is reached or in the census, that it fails without faults,
-/// or that its run without faults is of level 1; or behind the levels a run without a fault. Nor does a report keep its promises that says that no run
+/// that was asked for, a level more, or no level at all; that a fault of some plan never acted; findings in another order than that of their numbers; of
+/// the component that hits nothing, that its point is reached or in the census, that it fails without faults, or that its run without faults is of
+/// level 1; or behind the levels a run without a fault. Nor does a report keep its promises that says that no run
 /// is unseen where one is, or that prints beside a number another verdict than its scenario's, or beside a reduction another count of tests than
 /// ddmin's; or one that lists a cause of which a fault can be left out, that leaves a cause out, or that lists one twice.
 pub fn no_made_up_fact_is_told()
@@ -53,6 +54,9 @@ pub fn no_made_up_fact_is_told()
         → verdict_of t told found.number found.scenario ≡ Pass → Sound t d told → (scenarios : List Entries) → Further t scenarios told → ⊥ }
     ensures depth { (t : Subject) (d : ℕ) (told : Told) → told.growth.depth ≡ suc d → Sound t d told → ⊥ }
     ensures level { (t : Subject) (d : ℕ) (told : Told) → length told.growth.levels ≡ suc (suc d) → Sound t d told → ⊥ }
+    ensures growth { (t : Subject) (d : ℕ) (told : Told) → told.report.growth ≡ None → Sound t d told → ⊥ }
+    ensures unmet { (t : Subject) (d plans : ℕ) (told : Told) → told.report.unmet ≡ suc plans → Sound t d told → ⊥ }
+    ensures order { (t : Subject) (d : ℕ) (told : Told) (f g : FindingFacts) → told.report.findings ≡ g ∷ (f ∷ []) → f.number < g.number → Sound t d told → ⊥ }
     ensures reached { (d times : ℕ) (told : Told) → slice_get told.growth.reached 0 ≡ Some (suc times) → Sound quiet d told → ⊥ }
     ensures clean { (d : ℕ) (told : Told) → told.report.clean ≡ Fail 0 → Sound quiet d told → ⊥ }
     ensures census { (d times : ℕ) (told : Told) → slice_get told.report.census 0 ≡ Some (suc times) → Promises quiet d told → ⊥ }

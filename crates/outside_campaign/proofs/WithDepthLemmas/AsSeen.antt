@@ -332,6 +332,7 @@ module _ (c : Campaign) (depth : ℕ) (known : KnownRuns) (l : IsLawful (grower 
     judged = told_judged;
     all_told = all_counted t l first behind told lists;
     nothing_twice = no_two t l first behind told lists;
+    grew = refl;
     depth = refl;
     levels = long_range (level_size t known) (depth + 1) ∙ (let one_more : depth + 1 ≡ suc depth = omega arith in one_more);
     clean = (run_of_plan t [], has_behaviour t l first behind told lists 0 [] first_plan, without_faults t l, clean_is);
@@ -341,7 +342,8 @@ module _ (c : Campaign) (depth : ℕ) (known : KnownRuns) (l : IsLawful (grower 
         reached_by t told (first ++ behind) (filter (λ plan. are_told (hits_of known plan)) (first ++ behind)) refl
         (λ plan there. contains_filtered (λ (plan : List Rig). are_told (hits_of known plan)) (first ++ behind) plan there) point times (at_point (reached_known t depth known) (length t.names) point times at) many;
     findings = first_at c c.label counts plans (Some grew) grew told.behaviours minimal_seen;
-    once = once_each c c.label counts plans (Some grew) grew told.behaviours minimal_seen;
+    in_order = once_each c c.label counts plans (Some grew) grew told.behaviours minimal_seen;
+    met = refl;
     sticky = each_sticky t l first behind told lists depth (filtered (is_reached_onward known) (λ plan. IsSticky depth (run_of_plan t plan)) (onward t depth) (onward_sticky t l depth));
     causes = cause_at_place;
   }

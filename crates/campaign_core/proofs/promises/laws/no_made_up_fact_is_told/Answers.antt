@@ -1,4 +1,4 @@
-use Rattle.std.proofs.Common.{◌≡◌, ◌⊎◌, inl, inr, ℕ, suc, map, Option, Some, List, [], ◌∷◌, ◌++◌, ap, sym, ◌∙◌, refl, subst, arith}
+use Rattle.std.proofs.Common.{◌≡◌, ◌≢◌, ◌⊎◌, inl, inr, ℕ, suc, map, Option, Some, List, [], ◌∷◌, ◌++◌, ap, sym, ◌∙◌, refl, subst, arith}
 use Rattle.std.specs.Prelude.{◌<◌, AllPairs, Contains, slice_get, sum}
 use Rattle.std.specs.List.{range_with_len}
 use Rattle.target_trait.specs.Play.{IsDone}
@@ -12,7 +12,7 @@ use Rattle.campaign_core.specs.promises.Further.{Further, IsLeastCause, IsReduct
 use Rattle.campaign_core.specs.promises.Told.{HasVerdict, Told, count_of_levels, level_at}
 use Rattle.scenario_values.specs.Scenario.{Entries}
 use Rattle.grown_plans.specs.GrownPlans.{Subject}
-use Rattle.report.specs.Reports.{CauseFacts}
+use Rattle.report.specs.Reports.{CauseFacts, FindingFacts}
 use Rattle.campaign_core.specs.promises.WrongReports.{quiet}
 use Rattle.campaign_core.proofs.Promised.{all_each}
 use Rattle.campaign_core.proofs.PromisesLemmas.Numbers.{contains_at}
@@ -53,6 +53,19 @@ returns-clause-depth c t d told more sound = let depth = sound.depth in omega (a
 
 pub returns-clause-level : goal.returns-clause-level
 returns-clause-level c t d told more sound = let levels = sound.levels in omega (arith, more, levels)
+
+pub returns-clause-growth : goal.returns-clause-growth
+returns-clause-growth c t d told none sound = let both = sym none ∙ sound.grew in absurd cc
+
+pub returns-clause-unmet : goal.returns-clause-unmet
+returns-clause-unmet c t d plans told some sound = let met = sound.met in omega (arith, some, met)
+
+pub returns-clause-order : goal.returns-clause-order
+returns-clause-order c t d told f g both less sound =
+    let ordered : AllPairs (λ f g. (f.number < g.number) × (f.code ≢ g.code)) (g ∷ (f ∷ [])) =
+    subst (AllPairs (λ (f g : FindingFacts). (f.number < g.number) × (f.code ≢ g.code))) both sound.in_order in
+    let before = (ordered 0 1 f (omega arith) (omega arith)).0 in
+    omega (arith, less, before)
 
 -- the component that hits nothing
 no_times : (hits : List Met) → IsBehaviourOfKinds quiet hits → times_hit 0 hits ≡ 0
