@@ -85,6 +85,7 @@ function drawHeader(campaign) {
       ways.length > 0 ? element("ul", { class: "ways" }, ...ways) : null),
     element("p", {}, ["A plan is one run of the program, with its faults.", ...tried(campaign)].join(" ")),
     element("p", { class: whole ? "whole" : "open" }, sentences.join(" ")),
+    appendix && appendix.told.sample !== "" ? element("p", { class: "open" }, appendix.told.sample) : null,
     element("p", { class: "muted" }, limits(campaign).join(" ")),
     problems.length > 0 ? element("p", {}, `What the loop adds to this page can\u2019t be read: ${problems.slice(0, 3).join("; ")}.`) : null);
 }

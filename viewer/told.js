@@ -23,7 +23,7 @@ const oneStory = members({
 const appendix = members({
   title: text,
   program: members({ name: text, run: list(text), version: text, files: list(members({ name: text, digest: text, changed: text })) }),
-  date: text, command: text, clean: list(text), stories: list(oneStory),
+  date: text, command: text, sample: text, clean: list(text), stories: list(oneStory),
 });
 
 /** What the loop tells, by scenario. */

@@ -304,7 +304,7 @@ describe("in Chromium", { skip: program === null ? "Chromium isn't installed, so
       files: { differences: [{ name: text, before: side, after: side }], more: 1, same: 1, unjudged: 1 },
     };
     const program = { name: text, run: [text, text], version: text, files: [{ name: text, digest: text, changed: text }] };
-    await open(document, { width: 390, told: { ...good, title: text, date: text, command: text, clean: Array(30).fill(text), program, stories: [story] } });
+    await open(document, { width: 390, told: { ...good, title: text, date: text, command: text, sample: text, clean: Array(30).fill(text), program, stories: [story] } });
     const found = await browser.evaluate(`(() => {
       const all = [...document.querySelectorAll("*")];
       return { tags: [...new Set(all.map((one) => one.tagName.toUpperCase()))], attributes: [...new Set(all.flatMap((one) => one.getAttributeNames()))],
@@ -314,6 +314,11 @@ describe("in Chromium", { skip: program === null ? "Chromium isn't installed, so
     assert.deepEqual(found.attributes.filter((name) => !ATTRIBUTES.split(/\s+/).includes(name)), []);
     assert.deepEqual([found.stories, found.scripts, found.pwned], [1, 3, "undefined"]);
     assert.ok(found.width <= 390, `the page is ${found.width} wide`);
+    const sample = "Of the plans with 2 faults, 312 of 90300 were tried as well.";
+    await readme({});
+    assert.doesNotMatch(await textOf("header"), /were tried as well/);
+    await readme({ sample });
+    assert.ok((await textOf("header")).includes(sample), "what was drawn beside the plans of the report");
     await readme({ version: 7 });
     assert.match(await textOf("header"), /can\u2019t be read: the appendix has version 7/);
     assert.equal(await textOf(".finding .words"), "The 1st fsync fails.");

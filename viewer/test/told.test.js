@@ -68,6 +68,7 @@ test("an appendix that isn't one is refused, and says what is wrong", () => {
   const good = JSON.parse(keptAppendix("readme"));
   const wrong = [
     ["{", /no JSON/], ["null", /isn't an object/], [JSON.stringify({ ...good, version: 2 }), /version 2/], [JSON.stringify({ ...good, date: 1 }), /date isn't a text/],
+    [JSON.stringify({ ...good, sample: null }), /sample isn't a text/],
     [JSON.stringify({ ...good, stories: [{ ...good.stories[0], judge: null }] }), /stories\[0\]\.judge isn't a list/],
   ];
   for (const [json, words] of wrong) assert.throws(() => readAppendix(json), (error) => error instanceof ReadError && words.test(error.message));

@@ -7,7 +7,7 @@ pub const BEFORE: &str = r###"<!doctype html>
 <meta charset="utf-8">
 <meta name="viewport" content="width=device-width, initial-scale=1">
 <meta name="color-scheme" content="light dark">
-<meta http-equiv="Content-Security-Policy" content="default-src 'none'; style-src 'sha256-YyhRs2h6WGgG/k93DZLwBPQ487v1E0rfOYKil8B6SYk='; script-src 'sha256-E+lhKZ0SLsGyccvmRfTBXyYlYhpRGBtJ6lIXXRcqcLM='; base-uri 'none'; form-action 'none'">
+<meta http-equiv="Content-Security-Policy" content="default-src 'none'; style-src 'sha256-YyhRs2h6WGgG/k93DZLwBPQ487v1E0rfOYKil8B6SYk='; script-src 'sha256-2UYJOKytQSLXD+qj4wEVQitarPeJ3sBBWw1fY8fumZo='; base-uri 'none'; form-action 'none'">
 <title>Paklour report</title>
 <style>
 :root {
@@ -2133,7 +2133,7 @@ const oneStory = members({
 const appendix = members({
   title: text,
   program: members({ name: text, run: list(text), version: text, files: list(members({ name: text, digest: text, changed: text })) }),
-  date: text, command: text, clean: list(text), stories: list(oneStory),
+  date: text, command: text, sample: text, clean: list(text), stories: list(oneStory),
 });
 
 /** What the loop tells, by scenario. */
@@ -2344,6 +2344,7 @@ function drawHeader(campaign) {
       ways.length > 0 ? element("ul", { class: "ways" }, ...ways) : null),
     element("p", {}, ["A plan is one run of the program, with its faults.", ...tried(campaign)].join(" ")),
     element("p", { class: whole ? "whole" : "open" }, sentences.join(" ")),
+    appendix && appendix.told.sample !== "" ? element("p", { class: "open" }, appendix.told.sample) : null,
     element("p", { class: "muted" }, limits(campaign).join(" ")),
     problems.length > 0 ? element("p", {}, `What the loop adds to this page can\u2019t be read: ${problems.slice(0, 3).join("; ")}.`) : null);
 }
