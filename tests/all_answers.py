@@ -165,17 +165,15 @@ def names_a_clash(lines, told):
     found = re.fullmatch(r"answers: line (\d+): (\D+?)(?: from)?(?: line (\d+)(?: at hit (\d+)|, .*)?)?\n", told)
     if not found or not all(int(number) in range(1, len(lines) + 1) for number in found.group(1, 3) if number):
         return False
-    line, others = lines[int(found[1]) - 1], [lines[int(found[3]) - 1]] if found[3] else lines
-    end, places = len(line.hits or "") + 1, [clash_at(line, other) for other in others if None not in (line.hits, other.hits)]
+    line, other = lines[int(found[1]) - 1], lines[int(found[3] or found[1]) - 1]
+    end, place = len(line.hits or "") + 1, clash_at(line, other)
     if found[2] == "goes on after a pause":
         return clash(line, line)
     if found[2] == "contradicts":
-        return line.scenario == others[0].scenario and line != others[0]
+        return line.scenario == other.scenario and line != other
     if found[2] == "verdict differs":
-        return clash(line, others[0]) and places in ([], [end])
-    if found[2] == "hits differ":
-        return places == [int(found[4])]
-    return found[2] == "fault not met" and any(len(other.hits or "") >= end and clash_at(line, other) == end for other in others)
+        return clash(line, other) and (None in (line.hits, other.hits) or place == end)
+    return found[2] == "hits differ" and place == int(found[4])
 
 
 def judged(lines, status, told):

@@ -295,29 +295,28 @@ class Campaign:
                 self.expect("of the levels, it keeps each", scenario, reduced)
 
     def shared(self, expected):
-        """A plan, the one whose run its own begins like, and at which place of their hits this ends: that of its last fault, or of one from then on
+        """A plan, and the last place of its hits up to which its run goes as that of an earlier plan: that of its last fault, or of one from then on
         the next hit of its point."""
         if expected.leaves and self.draw.random() < 0.5:
             leaf, plan = self.draw.choice(expected.leaves)
             behind = [point for point, _ in expected.behind(leaf)]
-            return plan, leaf, len(expected.run(leaf)[0]) - len(behind) + behind.index(leaf[-1][0])
+            return plan, len(expected.run(leaf)[0]) - len(behind) + behind.index(leaf[-1][0])
         plan = self.draw.choice(self.draw.choice([level for level in expected.levels[1:] if level]))
-        return plan, plan[:-1], len(expected.run(plan)[0]) - len(expected.behind(plan)) - 1
+        return plan, len(expected.run(plan)[0]) - len(expected.behind(plan)) - 1
 
     def break_one(self, expected, known):
-        """A plan's hits change where they are still those of another run: another point, or an end."""
-        plan, other, last = self.shared(expected)
-        text, parent = text_of(self.component.points, plan), text_of(self.component.points, other)
-        hits = list(expected.run(plan)[0])
+        """A plan's hits change where they are still those of an earlier plan: another point, or an end."""
+        plan, last = self.shared(expected)
+        text = text_of(self.component.points, plan)
+        hits, answers = expected.run(plan)
         at = self.draw.randint(0, last)
+        line = self.first_told(expected, known, hits[:at], answers[:at])
         if self.draw.random() < 0.5 or len(self.component.points) == 1:
-            hits, why = hits[:at], "fault not met"
+            broken = hits[:at]
         else:
-            hits[at] = self.draw.choice([point for point in self.component.points if point != hits[at]])
-            why = f"hits differ from line {list(known).index(parent) + 1} at hit {at + 1}"
-        broken = {**known, text: ("pass", text, hits_text(hits))}
-        given = "".join("\t".join(answer) + "\n" for answer in broken.values())
-        wanted = (2, "", f"answers: line {list(known).index(text) + 1}: {why}\n")
+            broken = hits[:at] + [self.draw.choice([point for point in self.component.points if point != hits[at]])] + hits[at + 1:]
+        given = "".join("\t".join(answer) + "\n" for answer in {**known, text: ("pass", text, hits_text(broken))}.values())
+        wanted = (2, "", f"answers: line {list(known).index(text) + 1}: hits differ from line {line} at hit {at + 1}\n")
         for command in ("asks", "report"):
             self.expect(f"{command}: {text} is broken", wanted, paklour([command, self.settings], given))
 

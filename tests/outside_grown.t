@@ -298,7 +298,7 @@ A line has 65536 hits at most, and is refused before any hit is made of its coun
 A component that doesn't do the same twice
 ------------------------------------------
 
-A run goes as the one that it grew from, up to its last fault: where it hits another point, and where it ends before. What comes behind the fault is its own.
+A run goes as the one that it grew from, up to its last fault. It is refused where it hits another point, and where it ends before. What comes behind the fault is its own.
 
   $ broken() { { line pass none 'a;b'; line "$@"; } > broken; paklour asks three.toml < broken; paklour report three.toml < broken; }
   $ broken pass 'b=1*return' 'c;b'
@@ -310,37 +310,38 @@ A run goes as the one that it grew from, up to its last fault: where it hits ano
   answers: line 2: hits differ from line 1 at hit 2
   [2]
   $ broken pass 'b=1*panic' 'a'
-  answers: line 2: fault not met
-  answers: line 2: fault not met
+  answers: line 2: hits differ from line 1 at hit 2
+  answers: line 2: hits differ from line 1 at hit 2
   [2]
   $ broken pass 'a=1*return' ''
-  answers: line 2: fault not met
-  answers: line 2: fault not met
+  answers: line 2: hits differ from line 1 at hit 1
+  answers: line 2: hits differ from line 1 at hit 1
   [2]
   $ broken unresolved 'a=1*return' 'a;c;b' 2>&1 | head -n 1
   a=1*panic
 
-With its last fault from then on a run goes as with this fault once, up to the next hit of the point; what comes behind that is its own.
+With its last fault from then on a run goes as with this fault once, up to the next hit of the point; what comes behind that is its own. The line that is
+named beside it is the first that says what comes after the answers so far: before any answer that is line 1, and after the return line 2.
 
   $ row() { head -n 5 answers > row; line "$@" >> row; paklour asks row.toml < row; paklour report row.toml < row; }
   $ sed -i 's/"a"/"a", "b"/' row.toml
   $ { line pass none '2*a'; line pass a=1*return '2*a'; line pass a=1*panic 'a'; } > answers
   $ { line pass 'a=1*off->1*return' '2*a'; line pass 'a=1*off->1*panic' '2*a'; } >> answers
   $ row pass a=return 'b;2*a'
-  answers: line 6: hits differ from line 2 at hit 1
-  answers: line 6: hits differ from line 2 at hit 1
+  answers: line 6: hits differ from line 1 at hit 1
+  answers: line 6: hits differ from line 1 at hit 1
   [2]
   $ row pass a=return 'a;b;a'
   answers: line 6: hits differ from line 2 at hit 2
   answers: line 6: hits differ from line 2 at hit 2
   [2]
   $ row pass a=return ''
-  answers: line 6: fault not met
-  answers: line 6: fault not met
+  answers: line 6: hits differ from line 1 at hit 1
+  answers: line 6: hits differ from line 1 at hit 1
   [2]
   $ row pass a=return 'a'
-  answers: line 6: fault not met
-  answers: line 6: fault not met
+  answers: line 6: hits differ from line 2 at hit 2
+  answers: line 6: hits differ from line 2 at hit 2
   [2]
   $ row pass a=return '2*a;b' | tail -n 1
   causes 0
@@ -353,7 +354,7 @@ each other.
   answers: line 3: hits differ from line 4 at hit 1
   [2]
   $ sed '3d' broken | paklour asks three.toml
-  answers: line 1: fault not met
+  answers: line 1: hits differ from line 2 at hit 3
   [2]
   $ sed '3,4d' broken | paklour asks three.toml
   answers: line 2: hits differ from line 1 at hit 3

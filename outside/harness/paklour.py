@@ -11,7 +11,7 @@ from .settings import text_of
 from .shown import show, show_once
 
 # What the program says of a run that isn't that of a program which does the same each time.
-DIFFERS = re.compile(r"^answers: line (\d+): (fault not met|hits differ from line \d+ at hit \d+|verdict differs from line \d+|contradicts line \d+, .*)$",
+DIFFERS = re.compile(r"^answers: line (\d+): (hits differ from line \d+ at hit \d+|verdict differs from line \d+|contradicts line \d+, .*)$",
                      re.MULTILINE)
 
 TOO_MANY = "too many plans"  # what the program says then
