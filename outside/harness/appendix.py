@@ -23,6 +23,7 @@ class Appendix:
     program: Program
     date: str
     command: str  # of the campaign, without the option that makes one run
+    sample: str  # a sentence on the plans that were drawn beside the report's, or an empty text
     clean: list[str]  # what each hit of the run without faults is about
     stories: list[Story]
 

@@ -10,6 +10,7 @@ from pathlib import Path
 from . import definition, programs, script
 from .answers import DIFFERS, Answers, Stopped, stopped_by
 from .bounds import Bounds
+from .budget import Budget, seconds_of
 from .campaign import Campaign
 from .certify import FILE_SYSTEMS, MOST, Certifier, Wanted
 from .definition import FAILURES, LIVE, VARIABLES, Harness
@@ -29,10 +30,10 @@ from .words import ASK_HELP, Usage, as_called, bytes_of, refused, shows_progress
 from .work import Note, Work
 
 OF_HARNESS = {"--failing", "--depth", "--no-kinds", "--settings", "--into", "-x", "--failures", "--try", "--whole", "--page", "--junit", "--json",
-    "--shard", "--join", "--every-run", "--room", "--bytes", "--kill", "--known", "--certify", "--certificates"}
+    "--shard", "--join", "--every-run", "--room", "--bytes", "--kill", "--known", "--certify", "--certificates", "--for", "--plans"}
 OF_SCRIPT = {"--script", "--engine", "--brief", "--no-recheck", "--hits"}
 WITH_VALUE = {"-j", "--seconds", "--engine", "--script", "--depth", "--try", "--into", "--room", "--bytes", "--failures", "--settings", "--shard",
-    "--join", "--known", "--certificates"}
+    "--join", "--known", "--certificates", "--for", "--plans"}
 REPEATED = frozenset({"--known"})
 LISTING = {"--certify": FILE_SYSTEMS}
 FLAGS = {*ASK_HELP, "--strict", "--progress", *(OF_HARNESS | OF_SCRIPT) - WITH_VALUE - LISTING.keys()}
@@ -120,7 +121,7 @@ def asked_of(loop: str, options: dict[str, str], path: str) -> Asked:
         *["--kill"] * ("--kill" in options), *[word for code in known_of(options) for word in ("--known", code)]]
     return Asked("".join(variables) + shlex.join(words), jobs_of(options), shows_progress(options),
         "--whole" not in options, "--strict" in options, [form for form in FORMS if form in {ALWAYS, *options}], failures,
-        shard_of(options["--shard"]) if "--shard" in options else None, "--failing" in options)
+        shard_of(options["--shard"]) if "--shard" in options else None, "--failing" in options, budget_of(options))
 
 
 def run_harness(loop: str, options: dict[str, str], path: str, processes: Processes) -> int:
@@ -159,6 +160,8 @@ def run_harness(loop: str, options: dict[str, str], path: str, processes: Proces
 
 
 def refuse_settings(settings: Settings, harness: Harness, options: dict[str, str]) -> None:
+    if not settings.depth and {"--for", "--plans"} & options.keys():
+        raise Stopped(f"{settings.path} has no depth, and a budget is for plans that grow: give it one")
     if "--kill" in options and not settings.is_made:
         raise Stopped(f"{settings.path} has settings of your own: leave out power::keep there, and let a harness.py define states = ['live'], "
             "in place of --kill")
@@ -192,6 +195,11 @@ def room_of(options: dict[str, str], place: str) -> Room:
     return Room(disk_of(place), bytes_of(options.get("--room", "1G"), "--room"), bounds, Records())
 
 
+def budget_of(options: dict[str, str]) -> Budget | None:
+    seconds = seconds_of(options["--for"], "--for") if "--for" in options else None
+    return Budget(seconds, number_of(options, "--plans")) if {"--for", "--plans"} & options.keys() else None
+
+
 def number_of(options: dict[str, str], name: str, default: str = "") -> int | None:
     text = options.get(name, default)
     return whole_number(text, name) if text or name in options else None
@@ -207,6 +215,7 @@ def check_numbers(options: dict[str, str]) -> None:
     jobs_of(options)
     for name in ("--seconds", "--depth", "--failures", "--certificates"):
         number_of(options, name)
+    budget_of(options)
     for name in {"--room", "--bytes"} & options.keys():
         bytes_of(options[name], name)
     if "--shard" in options:

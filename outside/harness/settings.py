@@ -118,9 +118,9 @@ class Settings:
     def write(self) -> None:
         tree.write(self.path, made_text(self.label, self.codes or ["lost"], self.depth, self.made).encode())
 
-    def lower(self) -> None:
-        """Takes a depth that is lower by one. Settings of one's own stay as they are: the lower depth stands in a copy, beside the answers."""
-        self.depth -= 1
+    def take_depth(self, depth: int) -> None:
+        """Takes another depth. Settings of one's own stay as they are: that depth stands in a copy, beside the answers."""
+        self.depth = depth
         if self.is_made:
             self.write()
             return

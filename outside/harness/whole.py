@@ -14,6 +14,7 @@ from typing import NoReturn
 from . import failing, tree
 from .answers import DIFFERS, Answers, Stopped, changed
 from .appendix import ADDS, Appendix
+from .budget import Budget, Sample, Spent
 from .campaign import Campaign
 from .certify import Certifier
 from .deciding import OTHERWISE, Decider
@@ -58,6 +59,7 @@ class Asked:
     failures: int | None  # after how many it stops
     shard: Shard | None  # this machine's share of the campaign
     failing: bool  # whether scenarios that failed once are tried first, and kept
+    budget: Budget | None  # what the campaign may take
 
 
 class Enough(Exception):
@@ -90,6 +92,7 @@ class Whole:
         self.stories: dict[str, Story] = {}  # by scenario
         self.clean: list[str] = []  # what each hit of the run without faults is about
         self.flaky: list[str] = []  # what is told of each run that did otherwise than the run that it grew from, until it was made again
+        self.sample: Sample | None = None  # of the depth that is tried, if there is a budget
         self.is_same = True  # whether no second run came out otherwise than the first
         self.has_told_size = answers.count > 0
 
@@ -104,6 +107,8 @@ class Whole:
                 self.require_pass(outcome)
             yield [answer]
             self.tell(outcome)
+            if self.asked.budget:
+                self.asked.budget.check(self.answers.count)
 
     # ---- lines for a person
 
@@ -202,8 +207,10 @@ class Whole:
         try:
             if self.asked.failing:
                 self.try_failing()
-            self.grow(campaign)
-            return self.report() if not self.asked.shard else self.end_of_shard()
+            is_whole = self.grow_within(campaign) if self.asked.budget else self.grow(campaign)
+            if self.asked.shard:
+                return self.end_of_shard()
+            return self.report() if is_whole else self.end_of_sample()
         except Enough:
             return self.end_early()
 
@@ -227,23 +234,50 @@ class Whole:
         if self.asked.failing and (count := failing.add(failing.path_of(self.harness), found)):
             show(f"loop: added to {from_here(failing.path_of(self.harness))}, of the scenarios that fail: {count}")
 
-    def grow(self, campaign: Campaign) -> None:
+    def grow(self, campaign: Campaign) -> bool:
         """Tries scenarios until none is left. If there are more plans than a campaign may have, it goes on to a lower depth."""
         while True:
             try:
-                return campaign.grow(mine=self.mine if self.asked.shard else None)
+                campaign.grow(mine=self.mine if self.asked.shard else None)
+                return True
             except TooManyPlans:
-                if self.settings.depth < 2:
-                    raise
-                self.settings.lower()
-                self.paklour.settings = str(self.settings.path)
-                depth = self.settings.depth
-                show(f"loop: depth {depth + 1} has more than {MOST_PLANS} plans, so this campaign goes to depth {depth}: plans with up to {depth} "
-                    f"fault{'s' * (depth > 1)} are tried whole, and the report is of these")
+                self.end_below(self.settings.depth)
+
+    def end_below(self, depth: int) -> None:
+        """Goes back to the depth before one that has too many plans."""
+        if depth < 2:
+            raise TooManyPlans
+        self.take_depth(depth - 1)
+        show(f"loop: depth {depth} has more than {MOST_PLANS} plans, so this campaign goes to depth {depth - 1}: plans with up to {depth - 1} "
+            f"fault{'s' * (depth > 2)} are tried whole, and the report is of these")
+
+    def take_depth(self, depth: int) -> None:
+        self.settings.take_depth(depth)
+        self.paklour.settings = str(self.settings.path)
+
+    def grow_within(self, campaign: Campaign) -> bool:
+        """Tries one depth whole after the other, until the budget is spent, and goes back to the last one that is whole. Whether there is one."""
+        seed, depths = self.settings.table.get("seed", 0), range(1, self.settings.depth + 1)
+        for depth in depths:
+            self.take_depth(depth)
+            self.sample = Sample(seed, depth)
+            try:
+                campaign.grow(mine=self.mine)
+            except TooManyPlans:
+                self.end_below(depth)
+                break
+            except Spent:
+                if depth > 1:
+                    self.take_depth(depth - 1)
+                return depth > 1
+        self.sample = None
+        return True
 
     def mine(self, asked: list[str]) -> list[str]:
+        """What this machine tries of what is asked for, in its order."""
         places = places_in(self.answers)
-        return [text for text in asked if self.asked.shard.has(text, places)]
+        own = [text for text in asked if self.asked.shard.has(text, places)] if self.asked.shard else asked
+        return self.sample.drawn(own) if self.sample else own
 
     def end_early(self) -> int:
         """Runs the failures once more, as a report's findings are. The run without faults was just made, so it isn't made again."""
@@ -262,6 +296,18 @@ class Whole:
         self.tell_end(came_to(self.answers.failing, f"{self.answers.count} plans that were tried", self.answers.unresolved, ways), self.found[0])
         return self.status(1)
 
+    def end_of_sample(self) -> int:
+        """Ends a campaign of which not even the plans with one fault could all be tried. Its report is what is known so far."""
+        write_out(self.paklour.report("--partial")[1])
+        found = [scenario_in(line) for line in self.answers.lines() if line.startswith("fail")]
+        ways = self.confirm(found)
+        self.certify(self.confirmed[scenario] for scenario in found)
+        self.keep_failing(found)
+        self.tell_counts()
+        plans = f"{so_many(self.answers.count, 'plan')} that {'was' if self.answers.count == 1 else 'were'} tried"
+        self.tell_end(f"depth 1 isn't whole: {came_to(self.answers.failing, plans, self.answers.unresolved, ways)}; {self.sample.told(self.answers)}", *found[:1])
+        return self.status(1) if found else DIFFERS
+
     def end_of_shard(self) -> int:
         """Ends a share of a campaign. It has no report: the campaign that joins the shares writes one, and runs failures once more."""
         self.tell_counts()
@@ -274,7 +320,7 @@ class Whole:
         forms = {form: self.paklour.report(form, tells=False)[1] for form in self.asked.forms}
         self.write_forms(forms)
         write_out(report if not self.asked.brief else for_terminal(brief) if os.isatty(OUTPUT) else brief)
-        found = findings(report, self.settings.codes)
+        found = list(dict.fromkeys([*findings(report, self.settings.codes), *self.drawn_failures()]))
         ways = self.confirm(found)
         self.certify(self.confirmed[scenario] for scenario in found)
         self.write_forms(self.with_appendix(forms, found))
@@ -284,9 +330,14 @@ class Whole:
         if not (fails or unresolved):
             self.tell_untried()
         before = f", and {len(self.fails_again)} that failed once fail again" if self.fails_again else ""
-        self.tell_end(came_to(fails, f"{plans} plans", unresolved, ways) + before, *[*found, *self.fails_again][:1],
+        drawn = f"; {self.sample.told(self.answers)}" if self.sample else ""
+        self.tell_end(came_to(fails, f"{plans} plans", unresolved, ways) + before + drawn, *[*found, *self.fails_again][:1],
             page=f"; page {from_here(self.folder / FORMS[ALWAYS])}")
-        return self.status(1 if self.fails_again and status == 0 else status)
+        return self.status(1 if (found or self.fails_again) and status == 0 else status)
+
+    def drawn_failures(self) -> list[str]:
+        """The scenarios that fail among the plans that were drawn beside the report's."""
+        return [scenario_in(line) for line in self.sample.tried(self.answers) if line.startswith("fail")] if self.sample else []
 
     def write_forms(self, forms: dict[str, bytes]) -> None:
         for form, text in forms.items():
@@ -297,7 +348,8 @@ class Whole:
         stories = [self.stories[scenario] for scenario in found if scenario in self.stories]
         program = program_of(self.harness)
         title = program.name if self.settings.is_made else text_of(self.settings.table["outside"]["label"])
-        appendix = Appendix(title, program, today(), self.asked.words, self.clean, stories)
+        sample = self.sample.told(self.answers) if self.sample else ""
+        appendix = Appendix(title, program, today(), self.asked.words, f"{sample[:1].upper()}{sample[1:]}." * bool(sample), self.clean, stories)
         return {form: ADDS[form](text, appendix) for form, text in forms.items() if form in ADDS}
 
     def certify(self, outcomes: Iterable[Outcome]) -> None:

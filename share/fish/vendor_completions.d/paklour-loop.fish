@@ -12,6 +12,8 @@ complete -c paklour-loop -l into -r -d 'writes answers, report and page into thi
 complete -c paklour-loop -l failing -d 'first tries the scenarios of HARNESS/failing, which failed once, and at the end adds those that fail'
 complete -c paklour-loop -s x -d 'stops at the first failure'
 complete -c paklour-loop -l failures -x -d 'stops at the Nth failure'
+complete -c paklour-loop -l for -x -d 'begins new plans for this time, such as 90s, 10m or 2h'
+complete -c paklour-loop -l plans -x -d 'the same, until N plans are tried, with those of earlier calls'
 complete -c paklour-loop -l try -x -d 'makes one run and shows it hit by hit'
 complete -c paklour-loop -l certify -x -a 'ext4 xfs btrfs' -d 'tries each finding on real file systems in images, whose power is cut, and prints on which it comes true, also with --try'
 complete -c paklour-loop -l certificates -x -d 'tries at most N findings and causes so'
