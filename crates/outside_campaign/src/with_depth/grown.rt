@@ -35,11 +35,10 @@ pub fn known_plans<'a>(
     ensures fault { IfErr result (λ why. (asked : Asked) → RefusesAsks runs.now depth asked why) }
 {
     let known = KnownPlans::of(alloc, runs, depth)?;
-    let _ = known.list();
-    match contradiction(alloc, &known)? {
-        None => Ok(known),
-        Some(broken) => Err(QuestionFault::Broken(broken)),
-    }
+    let Some(found) = contradiction(alloc, &known)? else {
+        return Ok(known);
+    };
+    Err(QuestionFault::Broken(found))
 }
 
 /// The tidied scenario of the plan of this number.

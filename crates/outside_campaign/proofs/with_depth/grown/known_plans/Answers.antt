@@ -3,11 +3,12 @@ use Rattle.answered_runs.specs.Agreement.{AreContradicted, AreOfOne, IsContradic
 use Rattle.answered_runs.specs.Answered.{Answered}
 use Rattle.outside_campaign.proofs.with_depth.grown.known_plans.Goals as goal
 
-pub returns-in-None-clause-agree : goal.returns-in-None-clause-agree
-returns-in-None-clause-agree c =
-    subst AreOfOne c.in_ok-known.ensures.known.0 (subst (AreContradicted c.in_ok-known.known.answered) c.in-None.is c.in_ok-contradiction.ensures.found)
+pub returns-in_default-clause-agree : goal.returns-in_default-clause-agree
+returns-in_default-clause-agree c =
+    let k = c.in_ok-known.known in
+    subst AreOfOne c.in_ok-known.ensures.known.0 (subst (AreContradicted k.answered) c.in_default.is c.in_ok-found.ensures.found)
 
-pub returns-in-Some-clause-fault : goal.returns-in-Some-clause-fault
-returns-in-Some-clause-fault c = λ asked.
-    subst (λ (a : Answered). IsContradiction a c.in-Some.broken) c.in_ok-known.ensures.known.0
-    (subst (AreContradicted c.in_ok-known.known.answered) c.in-Some.is c.in_ok-contradiction.ensures.found)
+pub returns-clause-fault : goal.returns-clause-fault
+returns-clause-fault c = λ asked.
+    let k = c.in_ok-known.known in
+    subst (λ (a : Answered). IsContradiction a c.in-Some.found) c.in_ok-known.ensures.known.0 (subst (AreContradicted k.answered) c.in-Some.is c.in_ok-found.ensures.found)
