@@ -18,8 +18,8 @@ pub answers_of-requires-clause-limit : goal.answers_of-requires-clause-limit
 answers_of-requires-clause-limit g c κs within = λ k d lt.
     let same = c.in_ok-jobs.ensures.same k d lt in
     let known = length c.args.known.now in
-    let count : c.range_count.result ≡ range_count (length c.args.input.now.plans.now - known) =
-    c.range_count.ensures ∙ ap (λ n. range_count (n - known)) c.len.ensures.many in
+    let count : c.range_count-count.result ≡ range_count (length c.args.input.now.plans.now - known) =
+    c.range_count-count.ensures ∙ ap (λ n. range_count (n - known)) c.len.ensures.many in
     let here = count ∙ sym (ap (λ co. range_count (length co.plans.now - known)) same.1) ∙ sym (ap (λ n. range_count (length (get_or c.in_ok-jobs.jobs.items k d).input.now.plans.now - n)) same.2) in
     omega (arith, here)
 
@@ -49,7 +49,7 @@ returns-clause-book g c =
         found.1.1,
         found.1.2,
         subst (λ n. 0 < n) (sym (c.in_ok-ranges.ensures.once (λ y. nat_eq y found.0)))
-            (below_some found.0 c.range_count.result (subst (λ n. found.0 < n) (sym (c.range_count.ensures ∙ ap (λ n. range_count (n - first)) c.len.ensures.many)) found.1.0)),
+            (below_some found.0 c.range_count-count.result (subst (λ n. found.0 < n) (sym (c.range_count-count.ensures ∙ ap (λ n. range_count (n - first)) c.len.ensures.many)) found.1.0)),
       ),
     ))
 
@@ -68,6 +68,6 @@ returns-clause-unreached g c =
     all_own jobs ls c.args.target.now input first (λ r. r.target) (λ r. r.input.now) (λ r. r.first)
     (λ t s n. range_of (input_says g.T.Target t s) (input_runs g.T.Target t s) s.plans.now s.watched.now n) same_len c.in_ok-jobs.ensures.same
     (λ k j l lt. c.in_ok-ranges.ensures.right k j l (let low : k < vec_len c.in_ok-jobs.jobs = omega (arith, c.in_ok-jobs.jobs.ok.0) in low)) in
-    let count : c.range_count.result ≡ range_count (length plans - first) = c.range_count.ensures ∙ ap (λ n. range_count (n - first)) c.len.ensures.many in
+    let count : c.range_count-count.result ≡ range_count (length plans - first) = c.range_count-count.ensures ∙ ap (λ n. range_count (n - first)) c.len.ensures.many in
     c.in_ok-unreached.ensures ∙ ap (λ lists. filter (is_left_in lists) watched) c.as_slice.ensures.value
     ∙ left_is say run plans watched first ls c.requires.known.few own (subst (EachOnce ls) count c.in_ok-ranges.ensures.once)
