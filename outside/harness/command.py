@@ -7,7 +7,7 @@ import signal
 from collections.abc import Iterator
 from pathlib import Path
 
-from . import definition, programs, script
+from . import definition, programs, script, seeds
 from .answers import DIFFERS, Answers, Stopped, stopped_by
 from .bounds import Bounds
 from .budget import Budget, seconds_of
@@ -29,11 +29,12 @@ from .whole import ALWAYS, FORMS, Asked, Whole, decider_of
 from .words import ASK_HELP, Usage, as_called, bytes_of, refused, shows_progress, split, whole_number, write_help
 from .work import Note, Work
 
+OF_SEEDS = ("--workloads", "--seed")
 OF_HARNESS = {"--failing", "--depth", "--no-kinds", "--settings", "--into", "-x", "--failures", "--try", "--whole", "--page", "--junit", "--json",
-    "--shard", "--join", "--every-run", "--room", "--bytes", "--kill", "--known", "--certify", "--certificates", "--for", "--plans"}
+    "--shard", "--join", "--every-run", "--room", "--bytes", "--kill", "--known", "--certify", "--certificates", "--for", "--plans", *OF_SEEDS}
 OF_SCRIPT = {"--script", "--engine", "--brief", "--no-recheck", "--hits"}
 WITH_VALUE = {"-j", "--seconds", "--engine", "--script", "--depth", "--try", "--into", "--room", "--bytes", "--failures", "--settings", "--shard",
-    "--join", "--known", "--certificates", "--for", "--plans"}
+    "--join", "--known", "--certificates", "--for", "--plans", *OF_SEEDS}
 REPEATED = frozenset({"--known"})
 LISTING = {"--certify": FILE_SYSTEMS}
 FLAGS = {*ASK_HELP, "--strict", "--progress", *(OF_HARNESS | OF_SCRIPT) - WITH_VALUE - LISTING.keys()}
@@ -114,11 +115,11 @@ def script_report(options: dict[str, str], campaign: Campaign, tries: script.Tri
     return status if script.recheck(paklour, tries, report, campaign.shows_progress) else DIFFERS
 
 
-def asked_of(loop: str, options: dict[str, str], path: str) -> Asked:
+def asked_of(loop: str, options: dict[str, str], path: str, harness: Harness) -> Asked:
     failures = 1 if "-x" in options else number_of(options, "--failures")
     variables = [f"{name}={shlex.quote(os.environ[name])} " for name in VARIABLES if name in os.environ]
     words = [as_called(loop), path, *[word for name in ("--settings", "--into") if name in options for word in (name, options[name])],
-        *["--kill"] * ("--kill" in options), *[word for code in known_of(options) for word in ("--known", code)]]
+        *["--seed", str(harness.seed)] * bool(harness.seed), *["--kill"] * ("--kill" in options), *[word for code in known_of(options) for word in ("--known", code)]]
     return Asked("".join(variables) + shlex.join(words), jobs_of(options), shows_progress(options),
         "--whole" not in options, "--strict" in options, [form for form in FORMS if form in {ALWAYS, *options}], failures,
         shard_of(options["--shard"]) if "--shard" in options else None, "--failing" in options, budget_of(options))
@@ -128,12 +129,24 @@ def run_harness(loop: str, options: dict[str, str], path: str, processes: Proces
     """Runs a campaign of a harness. Its files lie beside the harness, or in the folder of `--into`."""
     refuse_others(options, OF_SCRIPT, "a script")
     programs.check_built()
-    harness = definition.read(path)
+    first = number_of(options, "--seed", "1")
+    harness = definition.read(path, first)
+    if not harness.seed:
+        refuse_others(options, set(OF_SEEDS), "a harness whose `operations` is a function, which draws them from a seed")
+        return run_campaign(loop, options, path, harness, processes)
+    seeds.refuse(options)
+    return seeds.run_each(range(first, first + number_of(options, "--workloads", "1")), "-x" in options,
+        lambda seed: run_campaign(loop, options, path, definition.read(path, seed), processes.of_another()))
+
+
+def run_campaign(loop: str, options: dict[str, str], path: str, harness: Harness, processes: Processes) -> int:
+    """Runs the campaign of a harness, or of one workload that it has drawn."""
     judge_less(harness, options)
-    folder = Path(options.get("--into", harness.folder))
+    folder = seeds.folder_of(harness, Path(options.get("--into", harness.folder)))
     own = harness.identity(folder.resolve())
     folder.mkdir(parents=True, exist_ok=True)
-    asked = asked_of(loop, options, path)
+    seeds.write_workload(harness, folder)
+    asked = asked_of(loop, options, path, harness)
     answers = Answers(str(folder / "answers"))
     answers.cut_torn()
     note = None if "--try" in options else Note(answers, own, "--every-run" in options)
@@ -213,7 +226,7 @@ def jobs_of(options: dict[str, str]) -> int:
 def check_numbers(options: dict[str, str]) -> None:
     """Refuses numbers that aren't any, before something is made."""
     jobs_of(options)
-    for name in ("--seconds", "--depth", "--failures", "--certificates"):
+    for name in ("--seconds", "--depth", "--failures", "--certificates", *OF_SEEDS):
         number_of(options, name)
     budget_of(options)
     for name in {"--room", "--bytes"} & options.keys():

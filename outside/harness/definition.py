@@ -43,6 +43,7 @@ class Harness:
     known: tuple[str, ...] = ()  # the codes of losses that are known: a run that breaks no other promise passes
     operations: tuple[str, ...] = ()  # what a session may be asked to do
     is_workload: bool = False  # it is asked to do all of them, in this order
+    seed: int = 0  # from which they were drawn, or 0 if they are written down
     length: int = USUAL_LENGTH  # of so many of them at most in one run
 
     @property
@@ -85,14 +86,15 @@ class Harness:
             "unjudged": list(self.unjudged), "allowed": sorted(self.allowed), "known": sorted(self.known)} | more
 
 
-def read(path: str) -> Harness:
+def read(path: str, seed: int = 1) -> Harness:
+    """The harness there. If it draws its operations, they are those of the seed."""
     place = Path(path).resolve()
     if not place.exists():
         raise Stopped(f"{path}: there is no such harness; paklour-new writes one")
     file = place / PYTHON_FILE if place.is_dir() else place
     harness = read_folder(file.parent) if file.name == PYTHON_FILE else Harness(file.stem, file.parent, {})
     if file.exists():
-        read_file(file, harness)
+        read_file(file, harness, seed)
     refuse_unknown(path, "failure", harness.allowed, FAILURES)
     refuse_lacking(path, harness)
     return harness
@@ -144,9 +146,9 @@ def refuse_unknown(path: str | Path, what: str, words: tuple[str, ...], known: t
         raise Stopped(f"{path}: no such {what}: {', '.join(sorted(unknown))}; the {what}s are {', '.join(known)}")
 
 
-def read_file(file: Path, harness: Harness) -> None:
+def read_file(file: Path, harness: Harness, seed: int) -> None:
     """Adds to the harness what its file of Python defines."""
-    done = subprocess.run([sys.executable, str(STEP), str(file)], capture_output=True, check=False)
+    done = subprocess.run([sys.executable, str(STEP), str(file), "--seed", str(seed)], capture_output=True, check=False)
     if done.returncode:
         raise Stopped(f"{file}: {done.stderr.decode('utf-8', 'surrogateescape').strip() or 'Python ended with status ' + str(done.returncode)}")
     told = json.loads(done.stdout.splitlines()[-1])
@@ -164,6 +166,9 @@ def read_file(file: Path, harness: Harness) -> None:
     harness.allowed += tuple(told.get("allowed", ()))
     for name in {"operations", "workload"} & told.keys():
         take_operations(harness, checked(told[name], str(file)), name)
+    if "drawn" in told:
+        take_operations(harness, checked(told["drawn"], f"{file}, seed {seed}"), "workload")
+        harness.seed = seed
     if "length" in told:
         harness.length = told["length"] if isinstance(told["length"], int) else 0
     refuse_unknown(file, "state", harness.states, ALL_STATES)

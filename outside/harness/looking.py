@@ -43,7 +43,13 @@ class Looks:
         self.reads_ahead = False  # whether a session asks for more before it has done what it was given
         self.lock = threading.Lock()
 
+    def alike(self, operations: Operations) -> Operations:
+        """The same operations, each by the first number that it has: a workload may have one several times."""
+        lines = self.harness.operations
+        return tuple(lines.index(lines[number - 1]) + 1 for number in operations) if lines else operations
+
     def after(self, operations: Operations) -> Clean:
+        operations = self.alike(operations)
         if operations not in self.known:
             clean = self.made(operations)
             with self.lock:

@@ -70,17 +70,25 @@ def without(places: Places, missing: Places) -> Places:
     return tuple(place for place in places if place not in missing)
 
 
+def text_of(operations: Iterable[str]) -> bytes:
+    """The operations as a file has them, a line each."""
+    return "".join(f"{line}\n" for line in operations).encode("utf-8", "surrogateescape")
+
+
 def lines_of(text: str, name: str) -> tuple[str, ...]:
     """The operations in a text, a line each."""
     return checked(text.removesuffix("\n").split("\n") if text else [], name)
 
 
 def checked(operations: Iterable[str], name: str) -> tuple[str, ...]:
+    """The operations, a line each, as they stand in a harness of this name."""
+    if not isinstance(operations, list):
+        raise Stopped(f"{name}: operations are a list of lines")
     found = tuple(operations)
     if not 1 <= len(found) <= MOST:
         raise Stopped(f"{name}: there are {len(found)} operations, and there may be 1 to {MOST}")
     for number, line in enumerate(found, 1):
-        if not line.strip() or "\n" in line or "\0" in line or len(line.encode("utf-8", "surrogateescape")) > LONGEST:
+        if not isinstance(line, str) or not line.strip() or "\n" in line or "\0" in line or len(line.encode("utf-8", "surrogateescape")) > LONGEST:
             raise Stopped(f"{name}: operation {number} must be a line of up to {LONGEST} bytes that isn't empty")
     return found
 

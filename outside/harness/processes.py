@@ -1,5 +1,6 @@
 """The programs that the loop starts. Each ends with the loop, with all that it started, in any session."""
 
+import copy
 import os
 import subprocess
 import threading
@@ -24,9 +25,18 @@ class Processes:
         reader, writer = os.pipe()
         self.reader = os.dup(reader) if reader == LASTS else reader
         os.dup2(writer, LASTS, inheritable=True)
+        self.begin()
+
+    def begin(self) -> None:
         self.lock = threading.Lock()
         self.running: set[subprocess.Popen] = set()
         self.is_ended = False
+
+    def of_another(self) -> "Processes":
+        """Those of another campaign, which end with the loop too, and go on when these are ended."""
+        other = copy.copy(self)
+        other.begin()
+        return other
 
     def start(self, words: list[str], **options) -> subprocess.Popen:
         with self.lock:

@@ -16,7 +16,7 @@ from .answers import Stopped
 from .definition import Harness
 from .disk import disk_of
 from .looking import Looks
-from .operations import Promises, promises_of, scenario_for
+from .operations import Promises, promises_of, scenario_for, text_of
 from .processes import WITHIN, Processes
 from .programs import Tools
 from .record import Record
@@ -181,7 +181,7 @@ class Runner:
         variables = {"FAILPOINTS": scenario, "FAULTS_ROOT": str(folder / "data"), "FAULTS_RUN": str(run), "POINTS_TRACE": str(folder / POINTS)}
         if step == "session":
             operations = folder / "operations"
-            operations.write_bytes("".join(f"{line}\n" for line in self.harness.operations).encode("utf-8", "surrogateescape"))
+            operations.write_bytes(text_of(self.harness.operations))
             variables |= {"FAULTS_WORKLOAD" if self.harness.is_workload else "FAULTS_OPERATIONS": str(operations), "FAULTS_LENGTH": str(self.harness.length)}
         status, why = self.start(words, folder, said, **variables)
         if status == programs.REFUSED:

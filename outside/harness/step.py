@@ -1,10 +1,12 @@
-"""step.py HARNESS [NAME | --serve]: reads a harness that is a file of Python. Without NAME it prints as JSON what the harness defines. With NAME it
-calls that function in the current folder. With --serve it calls a function in a process of its own for each line of standard input.
+"""step.py HARNESS [NAME | --serve | --seed N]: reads a harness that is a file of Python. Without NAME it prints as JSON what the harness defines, with the
+operations that it draws from this seed, if `operations` is a function. With NAME it calls that function in the current folder. With --serve it calls a
+function in a process of its own for each line of standard input.
 
 `judge` gets the promises, a list of lines. If it returns a text, this program prints the text and ends with 1: a promise is broken, and the text
 is the code."""
 
 import ctypes
+import itertools
 import json
 import os
 import runpy
@@ -15,6 +17,7 @@ import traceback
 
 STEPS = ("prepare", "run", "session", "again", "judge", "look")
 RAISED, LATE = 2, "late"
+MOST_DRAWN = 65  # one more than a workload may have, so that a generator without an end is refused
 C_LIBRARY, CLONE_NEWIPC = ctypes.CDLL(None), 0x08000000  # Python itself has `unshare` since 3.12
 
 
@@ -24,13 +27,15 @@ def defined(path: str) -> dict:
     return {name: value for name, value in runpy.run_path(path).items() if not name.startswith("_")}
 
 
-def described(names: dict, path: str) -> dict:
-    """What the loop uses of these names: functions as null, values as they are, and the modules in the harness's folder or below."""
+def described(names: dict, path: str, seed: int) -> dict:
+    """What the loop uses of these names: functions as null, values as they are, the operations that are drawn from the seed, and the modules in the
+    harness's folder or below."""
     functions = {name: None for name in STEPS if callable(names.get(name))}
     values = {name: value for name, value in names.items() if isinstance(value, (str, bool, int, list, tuple, dict))}
+    drawn = {"drawn": list(itertools.islice(names["operations"](seed), MOST_DRAWN))} if callable(names.get("operations")) else {}
     files = [getattr(module, "__file__", None) or "" for module in sys.modules.values()]
     beside = os.path.join(os.path.dirname(path), "")
-    return functions | values | {"modules": sorted(file for file in files if file.startswith(beside) and file != __file__)}
+    return functions | values | drawn | {"modules": sorted(file for file in files if file.startswith(beside) and file != __file__)}
 
 
 def perform(names: dict, name: str) -> int:
@@ -91,10 +96,10 @@ def serve(names: dict) -> None:
         answers.write(f"{wait_for(child, asked['seconds'])}\n")
 
 
-def main(path: str, name: str | None = None) -> int:
+def main(path: str, name: str = "--seed", seed: str = "1") -> int:
     names = defined(path)
-    if name is None:
-        print(json.dumps(described(names, path)))
+    if name == "--seed":
+        print(json.dumps(described(names, path, int(seed))))
     elif name == "--serve":
         serve(names)
     else:

@@ -401,7 +401,7 @@ class Whole:
     def tell_untried(self) -> None:
         """If all plans pass, a person takes the program for sound. A run that begins with nothing has no old data, which are what most programs lose, and a
         judge may not look at the data."""
-        if "again" not in self.harness.steps and not self.harness.has_choice and not any(self.decider.runner.prepared.iterdir()):
+        if "again" not in self.harness.steps and not self.harness.operations and not any(self.decider.runner.prepared.iterdir()):
             show("loop: each run began with an empty folder, so nothing that was there before could be lost: have a second harness whose `prepare` makes "
                 "some, as paklour-new --begins again writes one")
         if "judge" in self.harness.steps and self.decider.sees_nothing(self.confirmed["none"].promised):
