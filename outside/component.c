@@ -10,7 +10,7 @@
      chmod MODE (in digits to the base 8)
      copy NAME N, sendfile NAME N: so many bytes of that file into the open one
      rename FROM TO, exchange ONE OTHER, link FROM TO, name NAME (gives the open file a name), unlink NAME, remove NAME
-     mkdir NAME, rmdir NAME, symlink TEXT NAME, mkstemp PATTERN, mkstemps PATTERN N, mkdtemp PATTERN
+     mkdir NAME, rmdir NAME, symlink TEXT NAME, target NAME N (what that link leads to, into so much room), mkstemp PATTERN, mkstemps PATTERN N, mkdtemp PATTERN
      stream NAME MODE, reopened MODE (a stream of the open file), moved NAME (the stream is one of that file from now on)
      print TEXT, gets N, flush, stream_sync, close_stream; dprint TEXT, vdprint TEXT
      map N, store PLACE TEXT, msync PLACE N, remap N, unmap
@@ -51,6 +51,7 @@
 #define rename(from, to) renameat(AT_FDCWD, from, AT_FDCWD, to)
 #define link(from, to) linkat(AT_FDCWD, from, AT_FDCWD, to, 0)
 #define symlink(target, name) symlinkat(target, AT_FDCWD, name)
+#define readlink(name, text, room) readlinkat(AT_FDCWD, name, text, room)
 #define unlink(name) unlinkat(AT_FDCWD, name, 0)
 #define rmdir(name) unlinkat(AT_FDCWD, name, AT_REMOVEDIR)
 #define mkstemp(pattern) mkostemp(pattern, 0)
@@ -156,6 +157,14 @@ static long do_remove(char **with) { return remove(with[0]); }
 static long do_mkdir(char **with) { return mkdir(with[0], 0755); }
 static long do_rmdir(char **with) { return rmdir(with[0]); }
 static long do_symlink(char **with) { return symlink(with[0], with[1]); }
+
+static long do_target(char **with) {
+    char text[4096];
+    long length = readlink(with[0], text, (size_t)atoi(with[1]));
+    if (length > 0) dprintf(1, "%.*s\n", (int)length, text);
+    return length;
+}
+
 static long do_mkstemp(char **with) { return keep(mkstemp(strcpy(bytes, with[0]))); }
 static long do_mkstemps(char **with) { return keep(mkostemps(strcpy(bytes, with[0]), atoi(with[1]), O_CLOEXEC)); }
 static long do_mkdtemp(char **with) { return mkdtemp(strcpy(bytes, with[0])) ? 0 : -1; }
@@ -311,7 +320,7 @@ static const struct step {
     STEP(readv, 2), STEP(preadv, 2), STEP(preadv2, 1), STEP(fsync, 0), STEP(fdatasync, 0), STEP(sync_file_range, 0),
     STEP(sync, 0), STEP(syncfs, 0), STEP(ftruncate, 1), STEP(chmod, 1), STEP(truncate, 2), STEP(fallocate, 3), STEP(posix_fallocate, 1),
     STEP(copy, 2), STEP(sendfile, 2), STEP(rename, 2), STEP(exchange, 2), STEP(link, 2), STEP(name, 1), STEP(unlink, 1),
-    STEP(remove, 1), STEP(mkdir, 1), STEP(rmdir, 1), STEP(symlink, 2), STEP(mkstemp, 1), STEP(mkstemps, 2), STEP(mkdtemp, 1),
+    STEP(remove, 1), STEP(mkdir, 1), STEP(rmdir, 1), STEP(symlink, 2), STEP(target, 2), STEP(mkstemp, 1), STEP(mkstemps, 2), STEP(mkdtemp, 1),
     STEP(stream, 2), STEP(reopened, 1), STEP(moved, 1), STEP(print, 1), STEP(gets, 1), STEP(flush, 0), STEP(stream_sync, 0),
     STEP(close_stream, 0), STEP(dprint, 1), STEP(vdprint, 1), STEP(map, 1), STEP(store, 2), STEP(msync, 2), STEP(remap, 1),
     STEP(unmap, 0), STEP(pair, 0), STEP(listen, 1), STEP(connect, 1), STEP(accept, 0), STEP(send, 1), STEP(recv, 1),

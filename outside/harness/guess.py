@@ -6,6 +6,7 @@ from .definition import LIVE
 from .judging import CRASHED, HUNG
 from .operations import given_in
 from .outcome import Outcome
+from .scenario import is_own
 from .telling import KEEP, acts, call_of
 
 RENAMED = re.compile(r"rename (.+) -> (.+?)(?:, .*)?")
@@ -34,7 +35,7 @@ def never_synced(pending: list[str]) -> list[str]:
 
 def not_looked_at(outcome: Outcome) -> list[str]:
     """`run` or `session` has ended with 0, so somebody takes a call that failed for done."""
-    failed = [hit for hit in outcome.trace if acts(hit) and hit[1] != KEEP and hit[3].startswith("return")]
+    failed = [hit for hit in outcome.trace if acts(hit) and hit[1] != KEEP and not is_own(hit[1]) and hit[3].startswith("return")]
     if outcome.status or not failed or outcome.verdict in (CRASHED, HUNG) or failed[0][3] == "return(TERM)":
         return []
     step = "session" if given_in(outcome.trace) else "run"

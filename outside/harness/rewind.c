@@ -148,11 +148,20 @@ static struct state *copy_state(const char *new, const struct state *state) {
     return copy;
 }
 
+/* Whether a scenario names points of the supervisor with their files. A name of the program's own may have an at sign too. */
+static bool names_files(const char *text) {
+    for (const char *piece = text; piece; piece = strchr(piece, ';')) {
+        piece += strspn(piece, "; \t\r\n");
+        if (!strncmp(piece, "sys::", 5) && piece[strcspn(piece, "@=")] == '@') return true;
+    }
+    return false;
+}
+
 static const struct scenario *scenario_of(const char *text) {
     static struct scenario scenario;
     char *copy = strdup(strcmp(text, "none") ? text : "");
     must(copy, "memory");
-    scenario.by_file = strchr(text, '@');
+    scenario.by_file = names_files(text);
     if (!read_scenario(&scenario, copy)) stop("scenario", scenario.bad.kind);
     return &scenario;
 }

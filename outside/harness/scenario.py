@@ -7,11 +7,17 @@ from dataclasses import dataclass
 
 TERM = re.compile(r"(?:(\d+)\*)?([a-z]+)(?:\((.*)\))?", re.S)
 POWER = "power::"
+GIVEN = ("sys::", POWER, "order::", "work::")  # how the points begin that these tools name. All others are the program's own
 ONCE = frozenset({"return(EINTR)", "return(FULL)"})  # of several in a row at a point the first acts alone, also of a sticky one
 
 
 class Unreadable(Exception):
     """A scenario that this module can't read, such as one with percentages."""
+
+
+def is_own(point: str) -> bool:
+    """Whether a point is one of the program's own, which is about no file."""
+    return not point.startswith(GIVEN)
 
 
 @dataclass(frozen=True)

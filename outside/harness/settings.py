@@ -11,7 +11,8 @@ from . import tree
 from .answers import Answers, Stopped
 from .definition import FAILURES, Harness
 from .operations import WORK
-from .shown import from_here, plain, show, so_many
+from .scenario import is_own, points_of
+from .shown import escaped, from_here, plain, show, so_many
 
 MADE_BY = "# Made by paklour-loop."
 MADE = f"{MADE_BY} It writes this file again for each campaign. If you delete this line, the settings are your own and stay as they are."
@@ -19,13 +20,12 @@ FILES = ["open", "read", "write", "fsync", "truncate", "rename", "link", "unlink
 POINTS = [f"sys::{name}" for name in FILES]
 CUT_POINTS = ["power::keep"]
 NEXT = "order::next"  # if settings list this point, it is planned, as faults are, which thread goes first
-OWN_POINTS = re.compile(r"(sys|libc|power|order|work)::")
 KNOWN_POINTS = re.compile(rf"sys::({'|'.join([*FILES, 'connect', 'accept', 'send', 'recv'])})(@.*)?|power::keep|{NEXT}|{WORK}", re.S)
 WRITES = ["return", "return(ENOSPC)", "return(HALF)", "panic"]
 NO_POINT = "there is no such point; remove it from the points"
-NO_PLACE = "a point of the program's own can't be in settings with a depth; remove it, or remove the depth"
 MOST_TEXT, MOST_CODES = 200, 64  # bytes of a label or a code, and how many codes settings may have
 MOST_KINDS = 8  # of faults that settings may have at one point
+MOST_POINTS = 64  # that settings may have
 OPERATIONS_DEPTH = 2  # so that two operations are tried together, and each fault in one
 LOWERED = "settings.lowered.toml"  # settings of one's own with a lower depth
 SAYS_MADE = ", settings by paklour-loop"
@@ -45,9 +45,9 @@ def label_of(harness: Harness) -> str:
     return plain(os.fsencode(name), MOST_TEXT - len(less.encode())) + less
 
 
-def made_text(label: str, codes: list[str], depth: int, made: "Made") -> str:
+def made_text(label: str, codes: list[str], points: list[str], depth: int, made: "Made") -> str:
     lines = [MADE, 'target = "outside"', f"depth = {depth}", "", "[outside]", f"label = {toml(label)}", f"codes = {toml(codes)}",
-        f"points = {toml(POINTS + [WORK] * bool(made.operations) + CUT_POINTS * made.has_cuts)}"]
+        f"points = {toml(points)}"]
     given = ["panic"] if made.is_workload else [f"return({number})" for number in range(1, made.operations + 1)]
     kinds = [f'"sys::write" = {toml(WRITES)}'] * made.has_kinds + [f'"{WORK}" = {toml(given)}'] * bool(made.operations)
     return "\n".join([*lines, *["", "[outside.kinds]", *kinds] * bool(kinds)]) + "\n"
@@ -67,6 +67,10 @@ class Made:
     def has_choice(self) -> bool:
         return self.operations > 0 and not self.is_workload
 
+    def points(self, own: list[str]) -> list[str]:
+        """All points, with these of the program's own."""
+        return POINTS + own + [WORK] * bool(self.operations) + CUT_POINTS * self.has_cuts
+
     def told(self, depth: int) -> str:
         kinds = ", full disks and half writes" if self.has_kinds else ""
         cuts = ", what a power cut keeps" if self.has_cuts else ", without power cuts"
@@ -83,8 +87,8 @@ def text_of(settings: Path) -> str:
 
 
 class Settings:
-    """A harness's settings. If the loop makes them, `codes` are those that were found, in alphabetical order, so that a stop
-    doesn't change the report. With `keeps`, as for one run by `--try`, those of an earlier campaign stay as they are."""
+    """A harness's settings. If the loop makes them, `codes` and `own` are the codes and the program's own points that were found, in alphabetical order, so
+    that a stop doesn't change the report. With `keeps`, as for one run by `--try`, those of an earlier campaign stay as they are."""
 
     def __init__(self, harness: Harness, folder: Path, answers: Answers, named: str | None, depth: int | None, has_kinds: bool, keeps: bool = False):
         self.path = Path(named) if named else harness.folder / "settings.toml"
@@ -102,6 +106,8 @@ class Settings:
             self.depth = depth or (OPERATIONS_DEPTH if self.made.has_choice else 1)
             self.label = label_of(harness)
             self.codes = sorted({code_of(line) for line in answers.lines() if line.startswith("fail ")})
+            self.own: list[str] = []
+            self.add_own({point for line in answers.lines() for point in own_points_in(hits_in(line))})
             self.write()
             self.show()
         try:
@@ -117,7 +123,7 @@ class Settings:
         show(f"loop: wrote the settings {from_here(self.path)}: {self.made.told(self.depth)}; codes are added as the judge prints them")
 
     def write(self) -> None:
-        tree.write(self.path, made_text(self.label, self.codes or ["lost"], self.depth, self.made).encode())
+        tree.write(self.path, made_text(self.label, self.codes or ["lost"], self.made.points(self.own), self.depth, self.made).encode())
 
     def take_depth(self, depth: int) -> None:
         """Takes another depth. Settings of one's own stay as they are: that depth stands in a copy, beside the answers."""
@@ -143,16 +149,37 @@ class Settings:
         self.codes = sorted([*self.codes, code])
         self.write()
 
+    def take_points(self, answer: str) -> None:
+        """Adds the program's own points in the hits of an answer to the settings that the loop makes, before the answer is recorded."""
+        found = own_points_in(hits_in(answer)) if self.is_made else set()
+        if not found or found <= set(self.own):
+            return
+        show(f"loop: points of the program's own, which the settings list now: {', '.join(escaped(point) for point in sorted(found - set(self.own)))}")
+        self.add_own(found)
+        self.write()
+
+    def add_own(self, found: set[str]) -> None:
+        self.own = sorted({*self.own, *found})
+        if (count := len(self.made.points(self.own))) > MOST_POINTS:
+            raise Stopped(f"settings have at most {MOST_POINTS} points, and with those of the program's own there are {count}: let it name fewer")
+
     def asks(self) -> bool:
         """Whether a scenario says what a power cut keeps."""
         return "power::keep" in self.points
 
-    def refused_points(self) -> list[tuple[str, str]]:
-        """The points that can't be in settings, each with the reason: a name of these tools that no program hits, or, with a depth, a program's
-        own point, whose place among the other hits nobody knows."""
-        unknown = [point for point in self.points if not KNOWN_POINTS.fullmatch(point) and (self.depth or OWN_POINTS.match(point))]
-        return [(point, NO_POINT if OWN_POINTS.match(point) else NO_PLACE) for point in unknown]
+    def refused_points(self) -> list[str]:
+        """The points that can't be in settings: names of these tools that no program hits."""
+        return [point for point in self.points if not is_own(point) and not KNOWN_POINTS.fullmatch(point)]
 
 
 def code_of(answer: str) -> str:
     return answer.split("\t")[0].removeprefix("fail ")
+
+
+def hits_in(answer: str) -> str:
+    """The hits of an answer, or an empty text if it has none."""
+    return "".join(answer.split("\t")[2:])
+
+
+def own_points_in(hits: str) -> set[str]:
+    return {point for point in set(points_of(hits)) if is_own(point)}

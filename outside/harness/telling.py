@@ -5,10 +5,11 @@ from collections import Counter
 
 from .operations import WORK, given_in, is_given
 from .outcome import Outcome
-from .scenario import Scenario, Unreadable
+from .scenario import Scenario, Unreadable, is_own
 from .shown import escaped
 
 KEEP = "power::keep"
+ENDS = ("return(KILL)", "return(TERM)")  # which the program's own points don't get as texts
 MOST_GIVEN = 8  # operations of a run that are told
 AND_BEFORE = ", and all before it"
 UNDONE = re.compile(",? undone$")
@@ -24,8 +25,11 @@ def ordinal(number: int) -> str:
     return f"{number}{ending}"
 
 
-def what(answer: str) -> str:
+def what(hit: list[str]) -> str:
     """What the task that acted did to a call."""
+    answer = hit[3]
+    if is_own(hit[1]) and answer.startswith("return(") and answer not in ENDS:
+        return answer.replace("return(", "returns ", 1).removesuffix(")")
     return {"return": "fails", "return(HALF)": "does half", "return(DROP)": "is lost", "return(KILL)": "kills its process",
         "return(TERM)": "comes with SIGTERM", "return(FULL)": "finds the disk full", "panic": "ends the run",
         }.get(answer, answer.replace("return(", "fails with ").rstrip(")"))
@@ -33,7 +37,7 @@ def what(answer: str) -> str:
 
 def call(hit: list[str]) -> str:
     """The call and its file. A point may have its file's name, which is then said once."""
-    return f"{hit[1].removesuffix('@' + hit[4])} ({hit[4]})"
+    return hit[1] if is_own(hit[1]) else f"{hit[1].removesuffix('@' + hit[4])} ({hit[4]})"
 
 
 def call_of(hit: list[str]) -> str:
@@ -72,7 +76,7 @@ def fault_in_words(outcome: Outcome, place: int, is_for_ever: bool) -> str:
     if hit[1] == WORK:
         return f"the run ends before {hit[6]}"
     later = f" and each later {hit[1]}" if is_for_ever else ""
-    return f"the {call_of(hit)}{later} {what(hit[3])}"
+    return f"the {call_of(hit)}{later} {what(hit)}"
 
 
 def faults_in_words(outcome: Outcome) -> str:
@@ -110,7 +114,7 @@ def kept_alike(words: str) -> str:
 def group_of(outcome: Outcome) -> tuple[str, str]:
     """What a failure came to, and the calls that it consists of, without their numbers."""
     hits = [hit for hit in outcome.trace if acts(hit)]
-    parts = [kept_alike(hit[4].partition(" ")[2]) if hit[1] == KEEP else f"the run ends before {hit[6]}" if hit[1] == WORK else f"{call(hit)} {what(hit[3])}"
+    parts = [kept_alike(hit[4].partition(" ")[2]) if hit[1] == KEEP else f"the run ends before {hit[6]}" if hit[1] == WORK else f"{call(hit)} {what(hit)}"
         for hit in hits]
     parts = [*(dict.fromkeys(parts) or ["without any fault"]), *state_in_words(outcome)]
     return escaped(outcome.verdict.removeprefix("fail ")), escaped(operations_in_words(outcome) + ", ".join(parts))

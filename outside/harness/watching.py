@@ -11,6 +11,7 @@ from .outcome import Outcome
 from .programs import REFUSED, Tools
 from .record import Record
 from .run import tell_errors
+from .scenario import is_own
 from .shown import escaped, write_out
 from .telling import KEEP, acts, faults_in_words, what
 from .trace import Marks, marks_of
@@ -44,10 +45,11 @@ def lines_of(record: Record, outcome: Outcome, tools: Tools) -> Lines:
 
 
 def hit_line(hit: list[str]) -> str:
-    did = "is kept" if hit[1] == KEEP else what(hit[3])
+    did = "is kept" if hit[1] == KEEP else what(hit)
     came = did if acts(hit) else hit[7].strip()
     came += f" [{hit[3]}]" * (hit[3] != "go")
-    return f"{hit[0]:>5} {hit[1]} {hit[2]} ({hit[6] if is_given(hit) else hit[4]}) {came}"
+    about = "" if is_own(hit[1]) else f" ({hit[6] if is_given(hit) else hit[4]})"
+    return f"{hit[0]:>5} {hit[1]} {hit[2]}{about} {came}"
 
 
 def write(lines: list[str]) -> None:

@@ -24,7 +24,7 @@ from .judging import CRASHED, UNRESOLVED
 from .outcome import Outcome
 from .paklour import MOST_PLANS, Paklour, TooManyPlans
 from .run import NOT_FOUND, Runner
-from .settings import Settings
+from .settings import NO_POINT, Settings
 from .shard import Shard, places_in, scenario_in
 from .scenario import scenario_of
 from .shown import GREEN, OUTPUT, RED, YELLOW, from_here, show, show_once, so_many, write_out
@@ -103,6 +103,7 @@ class Whole:
         for outcome in self.workers.decided(asked, more):
             answer = outcome.answer(self.settings.depth > 0)
             self.settings.take_code(answer)
+            self.settings.take_points(answer)
             if outcome.scenario == "none":
                 self.require_pass(outcome)
             yield [answer]
@@ -200,8 +201,8 @@ class Whole:
 
     def run(self) -> int:
         campaign = Campaign(self.paklour, self.answers, self, self.asked.shows_progress)
-        for point, why in self.settings.refused_points():
-            raise Stopped(f"{self.settings.path}: {point}: {why}")
+        for point in self.settings.refused_points():
+            raise Stopped(f"{self.settings.path}: {point}: {NO_POINT}")
         if self.decider.runner.looks:
             self.decider.room.within(self.decider.runner.looks.check)
         try:

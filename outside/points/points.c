@@ -21,8 +21,6 @@
 #include <time.h>
 #include <unistd.h>
 
-enum { MOST_NAME = 200 };
-
 /* A name of the scenario, of a hit or of the trace. */
 struct named {
     struct named *next;

@@ -11,7 +11,7 @@
 /* The exit statuses of a run that the scenario ended, or that was refused. */
 enum { PAUSED = 97, REFUSED = 98, PANICKED = 99 };
 
-enum { MOST_POINT = 200, MOST_COUNTERS = 4096, MOST_LATER = 1024, MOST_UNSEEN = 8, MOST_UNSEEN_TEXT = 240,
+enum { MOST_POINT = MOST_NAME, MOST_COUNTERS = 4096, MOST_LATER = 1024, MOST_UNSEEN = 8, MOST_UNSEEN_TEXT = 240,
     MOST_PROFILE = 16, LONG_PATH = PATH_MAX + 128 };
 
 /* The counts of one point: its hits, and how often each term of its chain acted. */

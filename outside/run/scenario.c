@@ -6,16 +6,14 @@
 #include <stdio.h>
 #include <string.h>
 
-#define OWN "sys::"
+#define CALL "sys::"
 
 const char *const point_names[POINTS] = {
-    OWN "open",  OWN "read",  OWN "write",   OWN "fsync",   OWN "truncate", OWN "rename", OWN "link", OWN "unlink",
-    OWN "mkdir", OWN "rmdir", OWN "symlink", OWN "connect", OWN "accept",   OWN "send",   OWN "recv", "power::keep",
-    "order::next", "work::next",
+    CALL "open",  CALL "read",  CALL "write",   CALL "fsync",   CALL "truncate", CALL "rename", CALL "link", CALL "unlink",
+    CALL "mkdir", CALL "rmdir", CALL "symlink", CALL "connect", CALL "accept",   CALL "send",   CALL "recv", "power::keep",
+    "order::next", "work::next", "own",
 };
 const char *const task_names[TASKS] = {"off", "return", "sleep", "panic", "print", "pause", "yield", "delay"};
-
-static const char prefix[] = OWN;
 
 /* The names that a return may have. */
 static const struct {
@@ -133,12 +131,42 @@ static bool read_term(struct scenario *scenario, struct chain *chain, char *text
     return true;
 }
 
-/* The point of a name: a call, and if points are named by file, an at sign and the file. */
+/* The length of the character that begins there, or 0 if it is none of UTF-8. */
+static size_t character(const unsigned char *byte) {
+    static const uint32_t least[] = {0, 0, 0x80, 0x800, 0x10000};
+    size_t length = *byte < 0x80 ? 1 : *byte < 0xc0 ? 0 : *byte < 0xe0 ? 2 : *byte < 0xf0 ? 3 : *byte < 0xf8 ? 4 : 0;
+    uint32_t value = *byte & (0x7fu >> length);
+    for (size_t i = 1; i < length; i++) {
+        if ((byte[i] & 0xc0) != 0x80) return 0;
+        value = value << 6 | (byte[i] & 0x3f);
+    }
+    bool is_half = value >= 0xd800 && value < 0xe000; /* of a character in another form */
+    return length > 1 && (value < least[length] || value > 0x10ffff || is_half) ? 0 : length;
+}
+
+static bool is_text(const char *name) {
+    const unsigned char *byte = (const unsigned char *)name;
+    for (size_t length; *byte; byte += length)
+        if (*byte < ' ' || *byte == 127 || *byte == ';' || *byte == '=' || !(length = character(byte))) return false;
+    return true;
+}
+
+bool is_own_name(const char *name) {
+    static const char *const prefixes[] = {CALL, "power::", "order::", "work::"};
+    size_t length = strlen(name);
+    if (!length || length > MOST_NAME || is_blank(*name) || is_blank(name[length - 1])) return false;
+    for (size_t i = 0; i < sizeof prefixes / sizeof *prefixes; i++)
+        if (!strncmp(name, prefixes[i], strlen(prefixes[i]))) return false;
+    const char *behind = name + strspn(name, "0123456789"); /* in hits, `2*a` is `a` twice */
+    return is_text(name) && (behind == name || *behind != '*');
+}
+
+/* The point of a name: one of the program's own; or a call, and if points are named by file, an at sign and the file. */
 static enum point point_of(const struct scenario *scenario, const char *name) {
     size_t length = strcspn(name, "@");
-    for (int point = KEEP; point < POINTS; point++)
+    if (is_own_name(name)) return OWN;
+    for (int point = KEEP; point < OWN; point++)
         if (!strcmp(name, point_names[point])) return point;
-    if (strncmp(name, prefix, sizeof prefix - 1)) return POINTS;
     if (scenario->by_file != (name[length] == '@')) return POINTS;
     for (int point = 0; point < KEEP; point++)
         if (!strncmp(name, point_names[point], length) && !point_names[point][length]) return point;
@@ -155,7 +183,7 @@ static struct chain *chain_of(struct scenario *scenario, const char *name) {
     if (scenario->own) return scenario->own(name);
     enum point point = point_of(scenario, name);
     if (point == POINTS) {
-        if (!strncmp(name, prefix, sizeof prefix - 1)) scenario->stranger = name;
+        scenario->stranger = name;
         return &scenario->other;
     }
     struct chain *chain = (struct chain *)chain_named(scenario, name);
@@ -202,22 +230,26 @@ static const struct {
 } deeds[] = {
     {"HALF", HALF_DONE, AT(READ) | AT(WRITE) | AT(SEND) | AT(RECV)},
     {"DROP", DROPPED, AT(SEND)},
-    {"KILL", KILLED, AT(KEEP) - 1},
-    {"TERM", TERMINATED, AT(KEEP) - 1},
+    {"KILL", KILLED, (AT(KEEP) - 1) | AT(OWN)},
+    {"TERM", TERMINATED, (AT(KEEP) - 1) | AT(OWN)},
     {"FULL", FILLED, AT(OPEN) | AT(WRITE) | AT(FSYNC) | AT(TRUNCATE) | AT(RENAME) | AT(LINK) | AT(MKDIR) | AT(SYMLINK)},
 };
 
 /* Finds the error of a return at a point. Returns false if there is no error of that name, or if it can't be done there. Without a name it is the
-   error of a broken disk or line. Points of a power cut and of the order take each return as it is. */
+   error of a broken disk or line. Points of a power cut and of the order take each return as it is, and one of the program's own any text. */
 static bool find_error(struct term *term, enum point point) {
     const char *name = term->argument ? term->argument : "";
     if (point == WORK) return find_operation(term);
-    if (point >= KEEP) return true;
+    if (point == KEEP || point == NEXT) return true;
     for (size_t i = 0; i < sizeof deeds / sizeof *deeds; i++)
-        if (!strcmp(name, deeds[i].name)) {
+        if (!strcmp(name, deeds[i].name) && (point != OWN || deeds[i].points & AT(OWN))) {
             term->error = deeds[i].number;
             return deeds[i].points & AT(point);
         }
+    if (point == OWN) {
+        term->error = term->argument ? TOLD : EIO;
+        return true;
+    }
     if (!*name) name = point >= CONNECT ? "ECONNRESET" : "EIO";
     for (size_t i = 0; i < sizeof errors / sizeof *errors; i++)
         if (!strcmp(name, errors[i].name)) {
@@ -237,6 +269,7 @@ static bool can_do(struct scenario *scenario) {
             scenario->piece = chain->entry;
             if (term->share > 0 && term->share < WHOLE_SHARE) return refuse(scenario, "NoShares", i + 1);
             if (term->task == RETURN && !find_error(term, chain->point)) return refuse(scenario, "UnknownError", i + 1);
+            if (term->task == RETURN && term->error == TOLD && strlen(term->argument) > MOST_TEXT) return refuse(scenario, "TooLong", i + 1);
         }
     return true;
 }

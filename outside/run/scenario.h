@@ -5,14 +5,15 @@
 #include <stdbool.h>
 #include <stdint.h>
 
-/* The calls that are points, in the order of the catalogue, then the point of a power cut, the one of the order of threads, and the one at which a
-   program asks for its next operation. `census` has the same order. */
+/* The calls that are points, in the order of the catalogue, then the point of a power cut, the one of the order of threads, the one at which a
+   program asks for its next operation, and any that the program itself names. `census` has the same order. */
 enum point {
     OPEN, READ, WRITE, FSYNC, TRUNCATE, RENAME, LINK, UNLINK, MKDIR, RMDIR, SYMLINK, /* of files */
     CONNECT, ACCEPT, SEND, RECV,                                                      /* of sockets */
     KEEP,
     NEXT,
     WORK,
+    OWN,
     POINTS
 };
 extern const char *const point_names[POINTS];
@@ -21,11 +22,11 @@ enum task { OFF, RETURN, SLEEP, PANIC, PRINT, PAUSE, YIELD, DELAY, TASKS };
 extern const char *const task_names[TASKS];
 
 enum { MOST_BYTES = 65536, MOST_ENTRIES = 256, MOST_TERMS = 256, MOST_FAULTS = 4096, WHOLE_SHARE = 1000000,
-    MOST_MILLIS = 1000000000, MOST_OPERATIONS = 64 };
+    MOST_MILLIS = 1000000000, MOST_OPERATIONS = 64, MOST_NAME = 200, MOST_TEXT = 127 };
 
 /* What a return may do in place of an error: half of a read or write; or nothing, with the result that all was sent; or the process that makes the call
-   is killed, or gets SIGTERM; or the disk is full from there on. */
-enum { HALF_DONE = 0, DROPPED = -1, KILLED = -2, TERMINATED = -3, FILLED = -4 };
+   is killed, or gets SIGTERM; or the disk is full from there on; or a point of the program's own gets the argument as a text. */
+enum { HALF_DONE = 0, DROPPED = -1, KILLED = -2, TERMINATED = -3, FILLED = -4, TOLD = -5 };
 
 struct term {
     enum task task;
@@ -40,7 +41,7 @@ struct term {
 
 struct chain {
     const char *name;
-    enum point point; /* POINTS for a name that isn't a point of the supervisor */
+    enum point point;
     unsigned entry;   /* the number of its piece of the text, from 1 */
     unsigned length;
     struct term terms[MOST_TERMS];
@@ -56,9 +57,9 @@ struct scenario {
     bool by_file;         /* points are named with their file, such as `sys::write@mbox`; set it before reading */
     struct chain chains[MOST_ENTRIES];
     unsigned length;      /* how many chains there are */
-    struct chain other;   /* room for the chains of names that aren't points of the supervisor */
+    struct chain other;   /* room for the chains of names that no point can have */
     struct chain *(*own)(const char *name); /* for a client of points/: gives room for the chain of any name; otherwise null */
-    const char *stranger; /* a name with the prefix of the supervisor's points that never acts, or null */
+    const char *stranger; /* such a name, or null */
     unsigned piece, entries, faults;
     struct bad bad;
 };
@@ -66,6 +67,9 @@ struct scenario {
 /* Reads `text` into a scenario of zeros. The text is cut into pieces, and must live as long as the scenario. Returns false if it can't be read or
    asks for something that can't be done. Then `bad` has the first fault. */
 bool read_scenario(struct scenario *scenario, char *text);
+
+/* Whether a point of the program's own can have this name: up to 200 bytes that scenarios, settings and hits can have, and no prefix of other points. */
+bool is_own_name(const char *name);
 
 /* The chain of that name, or null. */
 const struct chain *chain_named(const struct scenario *scenario, const char *name);

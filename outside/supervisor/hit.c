@@ -83,6 +83,7 @@ static enum answer act(struct call *call, const struct term *term) {
         if (term->operation) return GIVE;
         if (term->error == HALF_DONE) return HALF;
         if (term->error == DROPPED) return DROP;
+        if (term->error == TOLD) return call->hit.text = term->argument, TELL;
         if (term->error == FILLED) state->is_full = true;
         if (term->error == KILLED) return end_process(call);
         if (term->error == TERMINATED) return ask_to_end(call);
@@ -131,7 +132,7 @@ static void count(struct call *call, enum point point, const char *path, const c
     call->hit.seen = true;
     call->hit.result_at = -1;
     mark_hit(state->number);
-    result_place = trace_line(line, &(struct hit_line){.number = state->number, .counter = counter, .term = term, .path = path,
+    result_place = trace_line(line, &(struct hit_line){.number = state->number, .counter = counter, .term = term, .path = point == OWN ? "-" : path,
         .process = call->thread->process, .flags = term && term->operation ? operation_named(term->operation) : flags});
     call->hit.answer = answered(call, term ? act(call, term) : GO);
 }

@@ -4,8 +4,8 @@
    what the scenario does there; trace.c writes the lines, and crashes.c those about processes that crashed. noting.c says what is noted, and
    notes_file.c writes it. variables.c reads the environment. ../run has what the power cut shares with it. The other files serve the calls: opens.c,
    bytes.c, copies.c, lengths.c, syncs.c, names.c, attributes.c and maps.c those on files, streams.c those on pipes and sockets, pin.c random bytes, sleeps.c sleeps,
-   futexes.c locks and what threads begin by, operations.c what a session is asked to do, kills.c ends one process of the run, and programs.c has
-   calls that are no points. */
+   futexes.c locks and what threads begin by, operations.c what a session is asked to do, own.c points of the program's own, kills.c ends one process of
+   the run, and programs.c has calls that are no points. */
 #ifndef SUPERVISOR_H
 #define SUPERVISOR_H
 
@@ -21,13 +21,14 @@
 /* ---- a call of the run, which waits for its answer */
 
 /* OVER: the call isn't made, or not now, and needs no answer any more. */
-enum answer { GO, FAIL, HALF, DROP, GIVE, NOT_YET, OVER };
+enum answer { GO, FAIL, HALF, DROP, GIVE, TELL, NOT_YET, OVER };
 
 struct hit {
     bool seen;
     enum answer answer;
     int error;        /* the error of FAIL */
     unsigned operation; /* the number of what GIVE gives */
+    const char *text; /* the text of TELL */
     long result_at;   /* where its result is in the trace; negative until its line is written */
     uint64_t wakes;   /* the time at which it goes on, in nanoseconds */
 };

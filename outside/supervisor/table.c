@@ -54,6 +54,9 @@ const struct row table[] = {
     {SYS_symlink, SYMLINK, serve_symlink, .bytes = 1, .path = 2},
     {SYS_symlinkat, SYMLINK, serve_symlink, .bytes = 1, .folder = 2, .path = 3},
 
+    {SYS_readlink, OWN, serve_link_text, .path = 1, .bytes = 2, .length = 3},
+    {SYS_readlinkat, OWN, serve_link_text, .path = 2, .bytes = 3, .length = 4},
+
     {SYS_chmod, POINTS, serve_attributes, .path = 1, .mode = 2},
     {SYS_fchmod, POINTS, serve_attributes, .file = 1, .mode = 2},
     {SYS_fchmodat, POINTS, serve_attributes, .folder = 1, .path = 2, .mode = 3},

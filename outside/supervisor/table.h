@@ -56,6 +56,7 @@ void serve_link(struct call *call);
 void serve_unlink(struct call *call);
 void serve_folder(struct call *call);
 void serve_symlink(struct call *call);
+void serve_link_text(struct call *call);
 void serve_attributes(struct call *call);
 void serve_map(struct call *call);
 void serve_protect(struct call *call);

@@ -35,8 +35,10 @@ const char *flag_names(int flags, char *text) {
     return text;
 }
 
-/* The name of a point, with its file if points are named by file. Bytes that scenarios or settings can't have are replaced. */
+/* The name of a point: what the program has named it, or that of the call, with its file if points are named by file. Bytes that scenarios or settings
+   can't have are replaced. */
 const char *point_name(const struct scenario *scenario, enum point point, const char *file, char *name) {
+    if (point == OWN) return file;
     if (!scenario->by_file || point > KEEP) return point_names[point];
     char *end = stpcpy(stpcpy(name, point_names[point]), "@");
     for (; *file && end < name + MOST_POINT; file++) {

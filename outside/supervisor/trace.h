@@ -14,7 +14,8 @@ const char *link_of(int file, char *link);
 /* The flags of an open, as strace shows them, in a text with room for 256 bytes. */
 const char *flag_names(int flags, char *text);
 
-/* The name of a point, with its file if the scenario names points by file. `name` has room for MOST_POINT bytes and one. */
+/* The name of a point, with its file if the scenario names points by file; of a point of the program's own that is its name. `name` has room for
+   MOST_POINT bytes and one. */
 const char *point_name(const struct scenario *scenario, enum point point, const char *file, char *name);
 
 /* A hit: its number, the counts of its point, the term that acts (or null), its file, the process, and the flags of an open, the operation that is

@@ -69,7 +69,7 @@ static uint64_t read_block(void) {
     return value;
 }
 
-/* Warns about a name that never acts, once in a run. */
+/* Warns about a name that no point can have, once in a run. */
 static void tell_stranger(void) {
     if (scenario.stranger && !__atomic_exchange_n(&state->told, 1, __ATOMIC_SEQ_CST))
         dprintf(2, "faults: never acts: %s\n", scenario.stranger);

@@ -13,7 +13,7 @@ acts 'leading zeros' 'sys::write=0100.0000%01*off->100%0001*return'
 acts 'more than the whole share' 'sys::write=250%1*off->99999999999999999999%1*return'
 acts 'a share of nothing' 'sys::write=0%panic->1*off->0.0000%3*return(ENOSPC)->1*return'
 acts 'a name again takes its last chain' 'sys::write=panic;sys::open=off;sys::write=1*off->1*return'
-acts 'names of others' 'store::flush=20.5%3*return(x(y))->panic;sys::write=1*off->1*return;sys::write =off;a->b=off; sys::write=1*off->1*return'
+acts 'names of others' 'store::flush=3*return(x(y))->panic;sys::write=1*off->1*return;sys::write =off;a->b=off; sys::write=1*off->1*return'
 acts 'arguments that are dropped' 'sys::write=1*off(x)->1*return(EIO)'
 try 'sys::wirte=panic' create a write b
 is 'an unknown name of the supervisor never acts' 'create 0,write 1 faults: never acts: sys::wirte' "$said $faults"

@@ -112,8 +112,8 @@ class Refused(Campaigns):
 
     def test_a_point_that_no_program_has(self):
         folder = self.harness(run=SAVES, judge=JUDGES)
-        (folder / "settings.toml").write_text(SETTINGS.format('"sys::open", "libc::write"'))
-        self.refused(": libc::write: there is no such point; ", folder)
+        (folder / "settings.toml").write_text(SETTINGS.format('"sys::open", "power::write"'))
+        self.refused(": power::write: there is no such point; ", folder)
 
     def test_a_point_of_before(self):
         folder = self.harness(run=SAVES, judge=JUDGES)

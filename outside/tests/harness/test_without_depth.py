@@ -64,13 +64,6 @@ class WithoutDepth(Campaigns):
         self.assertEqual([line.split(maxsplit=1)[1] for line in shown if "store::put" in line],
             ["store::put 1 (-) -", "store::put 2 (-) fails [return]", "unsaved: the 2nd store::put (-) fails"])
 
-    def test_refused_with_a_depth(self):
-        settings = self.settings('"sys::open", "store::put"', [1, 2])
-        settings.write_text("depth = 1\n" + settings.read_text().replace("hits = [1, 2]\n", "").replace("scenarios = []\n", ""))
-        done = self.loop("--settings", settings, self.harness(run=SAVES, judge=JUDGES))
-        self.assertEqual((done.status, done.out), (2, ""))
-        self.assertIn(f"loop: {settings}: store::put: a point of the program's own can't be in settings with a depth; remove it, or remove the depth\n", done.told)
-
 
 class Described(Campaigns):
     """A file of Python beside the programs says more of them."""
