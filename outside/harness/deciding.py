@@ -22,9 +22,9 @@ from .records import Key, key_of, lasting_faults
 from .repeats import Repeats
 from .room import TooLarge
 from .run import Runner
-from .scenario import ONCE, POWER, Scenario, Unreadable, scenario_of
+from .scenario import ONCE, POWER, Scenario, Unreadable, is_own, scenario_of
 from .shown import last_lines
-from .trace import MARKS, length_of, points_trace, trace_of
+from .trace import MARKS, length_of, trace_of
 
 ONE_IN = 20  # of so many derived outcomes one is run as a check
 MORE_RUNS = 3  # so often a run is made again that does otherwise than the runs before
@@ -59,10 +59,10 @@ def is_tried(scenario: str) -> bool:
     return int.from_bytes(hashlib.sha256(scenario.encode("utf-8", "surrogateescape")).digest()[:8], "big") % ONE_IN == 0
 
 
-def meet(outcome: Outcome, folder: Path) -> None:
-    """Without a depth, adds a client's hits behind the others, since nobody knows their place. If no fault was met, the run is unresolved."""
-    outcome.trace += points_trace(folder, len(outcome.trace))
-    if outcome.scenario != "none" and all(hit[3] == "go" for hit in outcome.trace):
+def require_met(outcome: Outcome) -> None:
+    """Without a depth, a run that met none of its faults has tried nothing. A program may read the scenario by itself, and then nobody sees its points."""
+    names = [piece.partition("=")[0].strip() for piece in outcome.scenario.split(";")]
+    if outcome.scenario != "none" and not any(map(is_own, names)) and all(hit[3] == "go" for hit in outcome.trace):
         outcome.judgement = Judgement(UNRESOLVED, "the run met none of its faults")
 
 
@@ -261,7 +261,7 @@ class Decider:
         if outcome:
             outcome.status = record.status
         if not self.depth:
-            meet(outcome, record.folder)
+            require_met(outcome)
         return outcome
 
     def ended_early(self, text: str, why: str, run: Path) -> Outcome:

@@ -11,8 +11,9 @@ from dataclasses import dataclass, field
 
 from .judging import HUNG, UNRESOLVED
 from .outcome import Outcome, Parting
-from .scenario import Scenario, Unreadable, is_own, points_of
+from .scenario import Scenario, Unreadable, points_of
 
+NO_FILE = "-"  # in place of the file of a point of the program's own
 Hit = tuple[str, str | None]  # its point and its file, or None where only an answer tells of it
 Trace = list[list[str]]
 
@@ -43,7 +44,7 @@ class Names:
 
 
 def told(hit: Hit) -> str:
-    return hit[0] if hit[1] is None or is_own(hit[0]) else f"{hit[0]} ({hit[1]})"
+    return hit[0] if hit[1] in (None, NO_FILE) else f"{hit[0]} ({hit[1]})"
 
 
 def parts_of(trace: Trace) -> list[Trace]:

@@ -23,7 +23,7 @@ from .record import Record
 from .room import Room, TooLarge
 from .served import Served
 from .shown import last_lines, show
-from .trace import POINTS, length_of, marks_of, trace_of
+from .trace import length_of, marks_of, trace_of
 from .work import CLOSED, OPEN, Work, is_taken_away
 
 PREPARED = "prepared"  # the folder in which `prepare` was run
@@ -178,7 +178,7 @@ class Runner:
         order = [] if self.harness.order == "arrival" else ["--order", self.harness.order]
         before = length_of(folder / "errors")
         words = [str(programs.FAULTS), *order, *["--pin"] * self.harness.pins, *["--sync"] * self.syncs_disk, "--", *self.harness.steps[step]]
-        variables = {"FAILPOINTS": scenario, "FAULTS_ROOT": str(folder / "data"), "FAULTS_RUN": str(run), "POINTS_TRACE": str(folder / POINTS)}
+        variables = {"FAILPOINTS": scenario, "FAULTS_ROOT": str(folder / "data"), "FAULTS_RUN": str(run)}
         if step == "session":
             operations = folder / "operations"
             operations.write_bytes(text_of(self.harness.operations))

@@ -5,7 +5,6 @@ from pathlib import Path
 
 MOST_HITS = 65536  # an answer may have so many hits
 SHORTEST = 40  # the fewest bytes that a line has
-POINTS = "points"  # in a run's folder: the trace of a client
 # In the folder of a run's notes: for each hit its number, and how long the notes and the output were. The supervisor writes to it only if it is there.
 MARKS = "marks"
 Marks = list[tuple[int, int]]  # for each hit its number, and how long the output was when it began
@@ -20,13 +19,6 @@ def trace_of(run: Path) -> list[list[str]]:
 def marks_of(run: Path) -> Marks:
     lines = [line.split("\t") for line in (run / MARKS).read_text().splitlines()]
     return [(int(number), int(length)) for number, _, length in lines]
-
-
-def points_trace(folder: Path, before: int) -> list[list[str]]:
-    """The hits of a client (points/points.h), with numbers behind so many others."""
-    path = folder / POINTS
-    lines = path.read_text("utf-8", "surrogateescape").splitlines() if path.exists() else []
-    return [[str(before + number), *line.split("\t")[1:], "-", "-", "-"] for number, line in enumerate(lines, 1)]
 
 
 def length_of(path: Path) -> int:

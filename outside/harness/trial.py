@@ -21,7 +21,6 @@ from .programs import FAULTS, POWERCUT, REFUSED
 from .ready import at_first, ways_for
 from .run import NO_CALL, TIME_IS_UP
 from .shown import from_here, last_lines, show
-from .trace import POINTS
 from .work import places
 
 CANNOT = 1  # the exit status if the folder can't be made, or the command can't be run
@@ -66,7 +65,7 @@ def try_out(folder: Path, place: Path) -> Files:
     before = files_of(place / "data")
     tree.remove(place / "tmp")  # each step has a new one
     (place / "tmp").mkdir()
-    of_run = {"FAILPOINTS": "none", "FAULTS_ROOT": str(place / "data"), "FAULTS_RUN": str(place / "notes"), "POINTS_TRACE": str(place / POINTS)}
+    of_run = {"FAILPOINTS": "none", "FAULTS_ROOT": str(place / "data"), "FAULTS_RUN": str(place / "notes")}
     if status := run_in(place, [*followed(harness, place), *harness.steps[harness.begins]], environment | of_run):
         refuse_failed(folder, "run", status, last_lines(place / "errors"))
     return before

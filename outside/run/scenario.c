@@ -180,7 +180,6 @@ const struct chain *chain_named(const struct scenario *scenario, const char *nam
 }
 
 static struct chain *chain_of(struct scenario *scenario, const char *name) {
-    if (scenario->own) return scenario->own(name);
     enum point point = point_of(scenario, name);
     if (point == POINTS) {
         scenario->stranger = name;

@@ -58,7 +58,6 @@ struct scenario {
     struct chain chains[MOST_ENTRIES];
     unsigned length;      /* how many chains there are */
     struct chain other;   /* room for the chains of names that no point can have */
-    struct chain *(*own)(const char *name); /* for a client of points/: gives room for the chain of any name; otherwise null */
     const char *stranger; /* such a name, or null */
     unsigned piece, entries, faults;
     struct bad bad;

@@ -1,6 +1,6 @@
 """Three processes run commit.py, a two-phase commit. It promises that both participants commit a transaction or neither does, and that its client gets that result. Its
-settings list messages (`commit::send_..`, points of its own, by the Python client of ../../points) beside calls on the logs (`sys::..`, by the supervisor), so
-answers have no hits, and there is no depth. Variables of the environment change the run:
+settings list messages (`commit::send_..`, points of its own, by the module of ../../points/python) beside calls on the logs (`sys::..`). They have no depth.
+Variables of the environment change the run:
     FLAW            sound (the default), lazy_prepare, early_end or abort_on_doubt
     TRANSACTIONS    how many transactions there are, one after the other. Default: 1
     TOGETHER        with order.toml: the participants are asked at once and have one log. order::next is a point, at which faults decide who goes first, and
@@ -29,7 +29,7 @@ from commit import judged  # noqa: E402
 
 environment = {"FLAW": os.environ.get("FLAW", "sound"), "TRANSACTIONS": TRANSACTIONS, "TOGETHER": TOGETHER, "PYTHONPATH": CLIENT}
 
-# 3: a process was gone, or the outcome in doubt. 97 and 98 are the client's.
+# 3: a process was gone, or the outcome in doubt.
 run = ["sh", "-c", """python3 -S -B "$HARNESS/commit.py" "$TRANSACTIONS"
     status=$?
     case $status in 1 | 134 | 139) echo crashed ;; esac

@@ -5,7 +5,7 @@ import os
 import zipfile
 
 HERE = os.path.dirname(os.path.abspath(__file__))
-NAME, VERSION = "paklour_points", "1.0"
+NAME, VERSION = "paklour_points", "2.0"
 NOTES = f"{NAME}-{VERSION}.dist-info"
 METADATA = f"Metadata-Version: 2.1\nName: paklour-points\nVersion: {VERSION}\nRequires-Python: >=3.8\n"
 WHEEL = "Wheel-Version: 1.0\nGenerator: paklour\nRoot-Is-Purelib: true\nTag: py3-none-any\n"

@@ -1,4 +1,4 @@
-"""Settings without a depth list hits, and plans come from these: for runs whose hits nobody can tell in order, as those of a client's points."""
+"""Settings without a depth list hits, and plans come from these: for runs whose hits nobody can tell in order."""
 
 import unittest
 
@@ -12,9 +12,13 @@ codes = ["lost", "unsaved"]
 points = [{points}]
 hits = {hits}
 """
+READS = """#!/bin/sh
+: > log
+case $FAILPOINTS in own*return*) echo not put ;; *) echo put ;; esac
+"""
 MARKS = """#!/bin/sh
 : > log
-exec python3 -c '
+exec python3 -S -c '
 from paklour_points import hit
 for word in ("one", "two"):
     if hit("store::put") is None: print("put", word, flush=True)
@@ -53,7 +57,7 @@ class WithoutDepth(Campaigns):
         self.assertTrue(done.told.endswith(" --try none\n"), done.told)
         self.assertNotIn("fail lost\tnone", self.answers(folder))
 
-    def test_points_of_a_client(self):
+    def test_points_of_its_own(self):
         """Of two puts, each that fails breaks the promise."""
         folder = self.harness(run=MARKS, judge="#!/bin/sh\ngrep -q 'not put' \"$SAID\" && { echo unsaved; exit 1; }; exit 0\n")
         client = {"PYTHONPATH": str(OUTSIDE / "points" / "python" / "src")}
@@ -62,7 +66,14 @@ class WithoutDepth(Campaigns):
             *[f"fail unsaved\tstore::put={fault}" for fault in ("1*return", "return", "1*off->1*return", "1*off->return")]]), done.told)
         shown = self.loop("--settings", self.here / "own.toml", "--try", "store::put=1*off->1*return", folder, **client).out.splitlines()
         self.assertEqual([line.split(maxsplit=1)[1] for line in shown if "store::put" in line],
-            ["store::put 1 (-) -", "store::put 2 (-) fails [return]", "unsaved: the 2nd store::put (-) fails"])
+            ["store::put 1 ENOENT", "store::put 2 fails [return]", "unsaved: the 2nd store::put fails"])
+
+    def test_a_program_that_reads_the_scenario_by_itself(self):
+        """Nobody sees its points, so nobody can say that a fault wasn't met."""
+        folder = self.harness(run=READS, judge="#!/bin/sh\n! grep -q not \"$SAID\" || { echo unsaved; exit 1; }\n")
+        done = self.loop("--settings", self.settings('"own::point", "sys::rmdir"', "[1, 0]", '"sys::rmdir=1*return"'), folder)
+        self.assertEqual(sorted(self.answers(folder)), sorted(["pass\tnone", "fail unsaved\town::point=1*return", "fail unsaved\town::point=return",
+            "pass\town::point=1*panic", "unresolved\tsys::rmdir=1*return"]), done.told)
 
 
 class Described(Campaigns):
