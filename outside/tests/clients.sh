@@ -55,3 +55,79 @@ run 'a=2*off->1*return;sys::mkdir=1*return' env OUTSIDE="$outside" PYTHONPATH="$
     sh -c '"$OUTSIDE/out/driver" a; python3 -S -B "$OUTSIDE/points/driver.py" a a; mkdir d'
 is 'one run in two languages' 'go,go,return() 1 a,2 a,3 a,4 sys::mkdir' \
     "$said $(cut -f 1,2 "$here/run/trace" | tr '\t' ' ' | paste -s -d ,)"
+
+# In Rust, by the crate that stands in the place of fail-rs: its driver, and each form of its macro.
+if command -v rustc > "$here/said" 2>&1; then
+    crate() { rustc --edition 2021 --crate-name fail --crate-type rlib "$@" -o "$here/libfail.rlib" points/rust/src/lib.rs; }
+    crate --cfg 'feature="failpoints"' && rustc --edition 2021 --extern fail="$here/libfail.rlib" -o "$here/driver" points/driver.rs
+    is 'points in Rust, and the table' "$rows rows, 0 differ" "$(points/held "$here/driver")"
+    cat > "$here/forms.rs" <<'end'
+fn by_name() {
+    fail::fail_point!("a");
+}
+fn by_closure() -> i32 {
+    fail::fail_point!("b", |text: Option<String>| text.map_or(1, |text| text.parse().unwrap()));
+    0
+}
+fn by_condition(holds: bool) -> i32 {
+    fail::fail_point!("c", holds, |_| 2);
+    0
+}
+fn main() {
+    std::fs::File::create("new").unwrap();
+    let scenario = fail::FailScenario::setup();
+    println!("{} {} {} {}", by_closure(), by_closure(), by_condition(false), by_condition(true));
+    fail::remove("a");
+    println!("{} {} {}", fail::has_failpoints(), fail::cfg("a", "off").is_err(), fail::FailGuard::new("a", "off").is_err());
+    by_name();
+    scenario.teardown();
+    println!("done");
+}
+end
+    rustc --edition 2021 --extern fail="$here/libfail.rlib" -o "$here/forms" "$here/forms.rs"
+    new
+    run 'b=1*return->return(7);c=return;a=sleep(1)' "$here/forms"
+    is 'each form of the macro' '1 7 0 2,true true true,done sys::open,b,b,c,a' "$said $(cut -f 2 "$here/run/trace" | paste -s -d ,)"
+    new
+    run 'a=return' "$here/forms"
+    is 'one without a closure can return nothing' '101 Return is not supported for the fail point "a"' "$status $(grep -o 'Return is.*' "$here/faults")"
+    crate && rustc --edition 2021 --extern fail="$here/libfail.rlib" -o "$here/forms" "$here/forms.rs" 2> "$here/told"
+    new
+    run 'a=panic;b=panic;c=panic' "$here/forms"
+    is 'without its feature there are no points' '0 0 0 0,false true true,done sys::open' "$said $(cut -f 2 "$here/run/trace" | paste -s -d ,)"
+else
+    echo 'skipped points in Rust: no rustc'
+fi
+
+# In Go, by the package that stands in the place of the runtime of gofail.
+if env go version > "$here/said" 2>&1; then
+    build() { (cd "$here/go" && rm "$here/driver" && env GOCACHE="$here/go/cache" GOFLAGS=-mod=mod GOPROXY=off GOTOOLCHAIN=local go build -o "$here/driver" .); }
+    mkdir "$here/go" && cp points/driver.go "$here/go/main.go"
+    printf 'module driver\n\ngo 1.17\n\nrequire go.etcd.io/gofail v0.1.0\n\nreplace go.etcd.io/gofail => %s/points/go\n' "$outside" > "$here/go/go.mod"
+    build
+    is 'points in Go, and the table' "$rows rows, 0 differ" "$(points/held "$here/driver")"
+    cat > "$here/go/main.go" <<'end'
+package main
+
+import (
+	"fmt"
+
+	"go.etcd.io/gofail/runtime"
+)
+
+func main() {
+	for _, point := range []*runtime.Failpoint{runtime.NewFailpoint("p", "a", false), runtime.NewFailpoint("p/b"), runtime.NewFailpoint("p/b")} {
+		value, err := point.Acquire()
+		fmt.Printf("%T %v %v\n", value, value, err)
+	}
+	fmt.Println(runtime.List(), runtime.Enable("p/a", "off") != nil)
+}
+end
+    build
+    new
+    run 'p/a=return(5);p/b=1*return("a b")->return(true)' sh -c ": > new; '$here/driver'"
+    is 'names and values of gofail' 'int 5 <nil>,string a b <nil>,bool true <nil>,[p/a p/b p/b] true' "$said"
+    rm -rf "$here/go"
+else
+    echo 'skipped points in Go: no go'
+fi

@@ -1,8 +1,10 @@
 """Points of the program's own stand among the calls: they are listed as they are found, fail, and lead to others."""
 
+import shutil
+import subprocess
 import unittest
 
-from .base import Campaigns
+from .base import OUTSIDE, Campaigns
 
 HITS = """#!/bin/sh
 exec python3 -S -c '
@@ -84,6 +86,34 @@ class OwnPoints(Campaigns):
         done = self.loop(folder)
         self.assertEqual(done.status, 2)
         self.assertIn("loop: settings have at most 64 points, and with those of the program's own there are 65: let it name fewer\n", done.told)
+
+
+@unittest.skipUnless(shutil.which("cargo"), "no cargo")
+class PointsOfFailRs(Campaigns):
+    """A program in Rust with points of fail-rs, which is built for Paklour by its manifest alone."""
+
+    @classmethod
+    def setUpClass(cls):
+        subprocess.run(["make", "-s", "-C", OUTSIDE, "out/note-rust"], check=True)
+
+    def tried(self, **variables):
+        done = self.loop("--depth", 2, "--into", self.here / "into", OUTSIDE / "examples" / "fail_rs", **variables)
+        return done, (self.here / "into" / "report").read_text().splitlines()
+
+    def test_a_flaw_that_needs_a_point_and_a_kept_change(self):
+        """The run without faults has four points and six calls. Each of these fails or ends the run, but for the write, which also finds the disk full or does
+        half: 9 times 2, and 4. The flaw is behind the rename, and shows only if the power cut keeps a part of that."""
+        done, report = self.tried(FLAW="refuses_late")
+        self.assertEqual(done.status, 1, done.told)
+        self.assertIn("level 1 22", report)
+        causes = [line.split(" ", 3)[2:] for line in report if line.startswith("cause ")]
+        self.assertEqual(causes[0], ["ghost", "note-after-rename=1*return;power::keep=1*return"])
+        self.assertTrue(all(code == "ghost" and cause.startswith("note-after-rename=1*return;power::keep=") for code, cause in causes), causes)
+
+    def test_without_the_flaw_nothing_is_found(self):
+        done, report = self.tried()
+        self.assertEqual((done.status, report[-2:]), (0, ["first none", "causes 0"]), done.told)
+        self.assertIn("reached note-after-write 1", report)
 
 
 if __name__ == "__main__":
