@@ -285,6 +285,7 @@ static void keep_word(const struct sync *sync, enum lasts word, size_t earlier) 
 
 void sync_changes(struct replay *replay, const struct note *note, uint64_t noted) {
     enum sync_call kind = note->flags;
+    if (kind == BEGINNING) return keep_everything(&(struct sync){replay, note, NULL, noted + 1}, keep_contents);
     struct sync sync = {replay, note, kind == SYNCFS_CALL || kind == SYNC_CALL ? NULL : file_of(replay, &note->file), noted + 1};
     int of = !sync.file ? OF_ALL : S_ISDIR(sync.file->key.mode) ? OF_FOLDER : OF_FILE;
     const struct rule *rules[sizeof replay->profile.rules / sizeof *replay->profile.rules];

@@ -156,7 +156,8 @@ def run_campaign(loop: str, options: dict[str, str], path: str, harness: Harness
         keeps="--try" in options)
     refuse_settings(settings, harness, options)
     harness.order = "next" if NEXT in settings.points else harness.order
-    work = Work(note, note.needs_disk if note else noted(Path(answers.path)).get("needs_disk"))
+    known = {"needs_disk": note.needs_disk, "begins": note.begins} if note else noted(Path(answers.path))
+    work = Work(note, known.get("needs_disk"), known.get("begins"))
     try:
         runner = Runner(harness, work, processes, room_of(options, work.place))
         decider = decider_of(runner, settings, "--every-run" in options, answers)

@@ -13,7 +13,7 @@ from pathlib import Path
 
 from . import programs, tree
 from .answers import Stopped
-from .definition import Harness
+from .definition import LASTING, Harness
 from .disk import disk_of
 from .looking import Looks
 from .operations import Promises, promises_of, scenario_for, text_of
@@ -29,7 +29,8 @@ from .work import CLOSED, OPEN, Work, is_taken_away
 PREPARED = "prepared"  # the folder in which `prepare` was run
 TIME_IS_UP, CANNOT, NOT_FOUND = 124, 125, 127  # how `within` ends. A program of the harness may have these statuses too
 MAPPED = b"each store into the mapping of"  # as the supervisor says that a program maps a file
-OF_SESSION = ("FAULTS_OPERATIONS", "FAULTS_WORKLOAD", "FAULTS_LENGTH")  # which the loop sets for a session alone
+OF_LOOP = ("FAULTS_OPERATIONS", "FAULTS_WORKLOAD", "FAULTS_LENGTH", "FAULTS_BEGIN")  # variables of the supervisor that the loop alone sets
+BEGUN = "begun"  # in the folder of a run's notes, if its program said where faults begin and the supervisor hadn't been told that it would
 NO_CALL = "any call under FAULTS_ROOT"  # as it says that a step never used its data
 
 
@@ -43,7 +44,7 @@ class Runner:
         self.room = room
         self.seconds = room.bounds.seconds
         self.late = f"it was ended after {self.seconds} seconds (--seconds)"  # why a run is unresolved that took too long
-        self.outer = {name: value for name, value in os.environ.items() if name not in OF_SESSION}
+        self.outer = {name: value for name, value in os.environ.items() if name not in OF_LOOP}
         self.tools = Tools(room)
         self.count = 0
         self.syncs_disk = False  # a simulated power cut goes by the notes alone
@@ -140,33 +141,61 @@ class Runner:
         self.room.end(folder, 0)
         if self.work.disk and not self.work.is_decided:
             self.decide_place()
+        if self.work.begins is None:
+            self.room.within(self.learn_begins)
+        if self.first and self.harness.has_choice:
+            self.remove_first()
         if self.looks:
             self.room.within(self.looks.learn)
 
     def decide_place(self) -> None:
         """Makes the run without faults in memory, and lets runs lie on a disk if the program maps its files. For example, MariaDB takes a log in memory
         for persistent memory, and never syncs it."""
-        operations = range(1, min(len(self.harness.operations), self.harness.length) + 1)  # a session that is asked for nothing maps nothing
-        self.first = self.room.within(lambda: self.make("none" if self.harness.is_workload else scenario_for(operations)))
+        self.first = self.room.within(lambda: self.make(self.scenario_of_first()))
         with open(self.first.folder / "errors", "rb") as errors:
             maps = any(MAPPED in line for line in errors)
         self.work.decide(needs_disk=maps)
-        if maps or operations and not self.harness.is_workload:
-            self.room.end(self.first.folder, 0)
-            tree.remove(self.first.folder)
-            self.first = None
         if maps:
-            self.count = 0
+            self.remove_first()
             self.work.move(PREPARED)
             self.room.lie_on(disk_of(self.work.place))
             self.room.hold(tree.size(self.prepared))
             show(f"loop: runs lie in {self.work.place}, as the program maps its files, and may take memory for a disk that needs no sync")
 
+    def scenario_of_first(self) -> str:
+        """The scenario of a run without faults in which a session is asked for something, as one that is asked for nothing does little."""
+        operations = range(1, min(len(self.harness.operations), self.harness.length) + 1)
+        return scenario_for(operations) if self.harness.has_choice else "none"
+
+    def remove_first(self) -> None:
+        """Removes the run that was made to see something. It counts among the runs only if it is that of the scenario without faults."""
+        self.room.end(self.first.folder, 0)
+        tree.remove(self.first.folder)
+        self.first = None
+        self.count = 0
+
+    def learn_begins(self) -> None:
+        """Sees by a run without faults which steps say where faults begin. A fault before would act before that is seen, so from now on the supervisor is
+        told that they will."""
+        self.first = self.first or self.make(self.scenario_of_first())
+        run, found = self.first.run, []
+        if (run / BEGUN).exists():
+            found.append(self.harness.begins)
+        if "again" in self.harness.steps and not self.first.why:
+            (run / BEGUN).unlink(missing_ok=True)
+            with contextlib.suppress(TooLarge):
+                self.tools.cut(run, self.first.data, LASTING, goes_on=True)
+                self.under("again", run, self.first.folder, "none", self.first.said_again)
+            found += ["again"] * (run / BEGUN).exists()
+        if found or self.first.said_again.exists():
+            self.remove_first()
+        self.work.take_begins(found)
+
     @contextlib.contextmanager
     def on_disk(self) -> Iterator["Runner"]:
         """The same runner, of runs that lie on a disk."""
         other = copy.copy(self)
-        other.work = Work(self.work.note, needs_disk=True)
+        other.work = Work(self.work.note, needs_disk=True, begins=self.work.begins)
         try:
             tree.copy(str(self.work.folder / PREPARED), str(other.work.folder / PREPARED))
             yield other
@@ -179,6 +208,8 @@ class Runner:
         before = length_of(folder / "errors")
         words = [str(programs.FAULTS), *order, *["--pin"] * self.harness.pins, *["--sync"] * self.syncs_disk, "--", *self.harness.steps[step]]
         variables = {"FAILPOINTS": scenario, "FAULTS_ROOT": str(folder / "data"), "FAULTS_RUN": str(run)}
+        if step in (self.work.begins or ()):
+            variables["FAULTS_BEGIN"] = "1"
         if step == "session":
             operations = folder / "operations"
             operations.write_bytes(text_of(self.harness.operations))

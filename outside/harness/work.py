@@ -78,13 +78,14 @@ class Note:
         if answers.count and (why := why_not(place, own, every_run)):
             show(f"loop: {from_here(place)} {why}, so it is now {from_here(Path(answers.set_aside()))}, and this campaign begins anew")
         self.needs_disk: bool | None = known.get("needs_disk") if answers.count else None
+        self.begins: list[str] | None = known.get("begins") if answers.count else None  # which steps say where faults begin
         for left in folders_in(known):
             if is_of_loop(left) and not is_taken_away(left):
                 show(f"loop: {left} has the runs of a campaign that was killed, and can't be deleted")
         self.write()
 
     def write(self) -> None:
-        tree.write(self.path, f"{json.dumps(self.said | {'needs_disk': self.needs_disk, 'work': self.folders})}\n".encode())
+        tree.write(self.path, f"{json.dumps(self.said | {'needs_disk': self.needs_disk, 'begins': self.begins, 'work': self.folders})}\n".encode())
 
     def take(self, folder: Path) -> None:
         """Notes a folder for runs before it is made, so that the next campaign knows it if this one is killed."""
@@ -103,14 +104,16 @@ def folders_in(known: dict) -> list[Path]:
 
 
 class Work:
-    """The folder of the runs. `needs_disk` says whether they have to lie on a disk, or is None if nobody knows yet."""
+    """The folder of the runs. `needs_disk` says whether they have to lie on a disk, and `begins` which steps say where faults begin. Each is None if nobody
+    knows yet."""
 
-    def __init__(self, note: Note | None, needs_disk: bool | None):
+    def __init__(self, note: Note | None, needs_disk: bool | None, begins: list[str] | None):
         found = places()
         self.note = note
         self.place = found[-1] if needs_disk else found[0]
         self.disk = found[1] if self.place != found[-1] else ""  # where runs may lie on a disk, if they lie in memory
         self.is_decided = needs_disk is not None
+        self.begins = begins
         self.folder = self.new_folder()
         self.numbers = itertools.count(1)
         self.lock = threading.Lock()
@@ -136,6 +139,13 @@ class Work:
         self.is_decided = True
         if self.note:
             self.note.needs_disk = needs_disk
+            self.note.write()
+
+    def take_begins(self, steps: list[str]) -> None:
+        """Notes which steps say where faults begin."""
+        self.begins = steps
+        if self.note:
+            self.note.begins = steps
             self.note.write()
 
     def move(self, kept: str) -> None:

@@ -55,8 +55,9 @@ enum kind {
 
 enum { LATER = 1 };
 
-/* Which sync it was. DSYNC, of a write that syncs by itself, and MSYNC are of what is between `from` and `from + length` of the file. */
-enum sync_call { FSYNC_CALL, FDATASYNC_CALL, DSYNC_WRITE, MSYNC_CALL, SYNCFS_CALL, SYNC_CALL, SYNCS };
+/* Which sync it was. DSYNC, of a write that syncs by itself, and MSYNC are of what is between `from` and `from + length` of the file. BEGINNING is none: what
+   was done before faults may act lasts. */
+enum sync_call { FSYNC_CALL, FDATASYNC_CALL, DSYNC_WRITE, MSYNC_CALL, SYNCFS_CALL, SYNC_CALL, SYNCS, BEGINNING = SYNCS };
 
 struct note {
     uint64_t size; /* the size of the record: this struct, its names, each with a byte of zero, and its bytes */

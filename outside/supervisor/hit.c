@@ -6,6 +6,7 @@
 #include "marks.h"
 #include "operations.h"
 #include "order.h"
+#include "own.h"
 #include "supervisor.h"
 
 #include <errno.h>
@@ -52,8 +53,15 @@ void unlock_run(void) {
     if (!--locks) pthread_mutex_unlock(&state->mutex);
 }
 
+/* A call outside has no line. */
+static void let_outside(struct call *call) {
+    if (call->hit.result_at < 0) unlock_run();
+    call->hit.result_at = 0;
+}
+
 /* Writes the line without a result, and lets others use the run. */
 void flush_hit(struct call *call) {
+    if (call->hit.is_outside) return let_outside(call);
     if (!call->hit.seen || !result_place || call->hit.result_at >= 0) return;
     call->hit.result_at = end_of_trace() + (result_place - line);
     write_line((size_t)(result_place + RESULT_WIDTH + 1 - line));
@@ -64,6 +72,7 @@ void flush_hit(struct call *call) {
 void hit_result(struct call *call, long result) {
     char text[RESULT_WIDTH];
     if (!call->hit.seen) return;
+    if (call->hit.is_outside) return let_outside(call);
     if (call->hit.result_at >= 0) {
         result_text(text, result, (int)-result);
         write_result(text, call->hit.result_at);
@@ -117,6 +126,13 @@ static enum answer answered(struct call *call, enum answer answer) {
     return FAIL;
 }
 
+/* Lets a call go on before the beginning and behind the end. It has the run to itself, as a hit has. */
+static void pass(struct call *call) {
+    lock_run();
+    if (state->ended) end_run(state->ended);
+    call->hit = (struct hit){.seen = true, .is_outside = true, .answer = GO, .result_at = -1};
+}
+
 /* Counts a hit. The counts are those of all processes of the run, and of all that ran in it before. */
 static void count(struct call *call, enum point point, const char *path, const char *flags) {
     char text[MOST_POINT + 1];
@@ -139,6 +155,7 @@ static void count(struct call *call, enum point point, const char *path, const c
 
 enum answer hit(struct call *call, enum point point, const char *path, const char *flags) {
     if (!call->hit.seen && !may_go(call)) return NOT_YET;
+    if (!call->hit.seen && is_outside() && point != WORK) pass(call);
     if (!call->hit.seen) count(call, point, path, flags);
     if (call->hit.wakes && call->hit.wakes > now()) return NOT_YET;
     if (call->hit.answer == FAIL) finish(call, -call->hit.error);

@@ -9,6 +9,7 @@
 #include "kills.h"
 #include "operations.h"
 #include "order.h"
+#include "own.h"
 #include "pin.h"
 #include "supervisor.h"
 #include "syncs.h"
@@ -91,9 +92,9 @@ static _Noreturn void end_with(int status, const char *name) {
     note_status(status, name);
     lock_run();
     note_all_stores();
-    bool nothing = state->number == state->started;
+    bool nothing = state->number == state->started || lacks_begin();
     if (nothing) {
-        add_unseen(state, "any call under FAULTS_ROOT of", name);
+        add_unseen(state, lacks_begin() ? "where faults begin, though =begin was awaited, in" : "any call under FAULTS_ROOT of", name);
         state->others++;
     }
     tell_unseen();

@@ -25,6 +25,7 @@ enum answer { GO, FAIL, HALF, DROP, GIVE, TELL, NOT_YET, OVER };
 
 struct hit {
     bool seen;
+    bool is_outside;  /* of what is between a beginning and an end: it isn't counted, and has no line */
     enum answer answer;
     int error;        /* the error of FAIL */
     unsigned operation; /* the number of what GIVE gives */

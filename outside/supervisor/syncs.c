@@ -51,8 +51,7 @@ void serve_sync_range(struct call *call) {
         (unsigned)argument(call, call->row->flags))));
 }
 
-/* Syncs the file system of the root. The others of this machine are none of the program's data. */
-static long sync_root(void) {
+long sync_root(void) {
     int folder = open(root, O_RDONLY | O_DIRECTORY | O_CLOEXEC);
     if (folder < 0) return -errno;
     long result = result_of(syncfs(folder));

@@ -17,7 +17,7 @@
 struct scenario scenario;
 struct state *state;
 char root[PATH_MAX], run_folder[PATH_MAX];
-bool is_kept, forgets, sees_sockets;
+bool is_kept, forgets, sees_sockets, waits_for_begin;
 
 static void read_failpoints(void) {
     const char *text = getenv("FAILPOINTS");
@@ -105,6 +105,7 @@ void read_variables(void) {
     char notes[LONG_PATH];
     scenario.by_file = is_word("FAULTS_POINTS", "file");
     sees_sockets = is_word("FAULTS_SOCKETS", "1");
+    waits_for_begin = is_word("FAULTS_BEGIN", "1");
     read_failpoints();
     read_operations();
     if (!where || !in) refuse(where ? "FAULTS_RUN" : "FAULTS_ROOT", "this variable isn't set");

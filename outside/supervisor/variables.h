@@ -8,6 +8,7 @@ extern struct scenario scenario;
 extern struct state *state;
 extern char root[PATH_MAX], run_folder[PATH_MAX];
 extern bool is_kept, forgets, sees_sockets; /* whether changes are noted, whether blocks of a failed sync are lost, and whether sockets are points */
+extern bool waits_for_begin; /* whether no fault acts before the program says so */
 
 /* Reads all variables. If one can't be used, it refuses the run. */
 void read_variables(void);

@@ -137,3 +137,46 @@ first=$(ordered)
 again=
 for each in 1 2 3 4 5; do [ "$(ordered)" = "$first" ] || again=differs; done
 is 'processes and threads hit them in one order' "21  $(printf 'a1\t2\treturn\t-')" "$(grep -c -v sys:: "$here/told") $again $(grep return "$here/told")"
+
+# Where faults act, and promises.
+# within SCENARIO STEP..: the component's steps on new files, where a beginning is awaited
+within() {
+    new
+    scenario=$1
+    shift
+    under FAULTS_BEGIN=1 FAILPOINTS="$scenario" timeout -s KILL 60 "$supervisor" "$component" "$@" > "$here/said" 2> "$here/faults"
+    status=$?
+    said=$(paste -s -d , "$here/said")
+    faults=$(cat "$here/faults")
+}
+begin='target /.paklour/=begin 9'
+end='target /.paklour/=end 9'
+# shellcheck disable=SC2086
+within 'sys::open=1*return;a=return;sys::write=1*off->panic' create x write x $(point a) $begin create y create z write z $end $(point a) write z create w fsync
+is 'faults act between a beginning and an end' \
+    '0 create 0,write 1,target ENOENT,target ENOENT,create EIO,create 0,write 1,target ENOENT,target ENOENT,write 1,create 0,fsync 0' "$status $said"
+is 'and what is outside has no hits' 'sys::open 1 return y EIO,sys::open 2 go z 7,sys::write 1 go z 1' "$(told | sed 's/z [0-9]*,/z 7,/')"
+is 'what was done before lasts, and of what came behind what was synced' \
+    'create z;length of z 1;length of z 2;block 0 of z as after write 1;block 0 of z as after write 2' "$(pending | sed 's/[0-9]* \([clb]\)/\1/g')"
+is 'so that a power cut keeps it' 'old=0123456789 sub/ sub/in=inside w= x=x ' "$(left)"
+# shellcheck disable=SC2086
+within 'sys::write=1*return(FULL)' create x $begin create y write y $end create z write z $begin write z create v
+is 'a disk that got full there is full there alone' '0 create 0,target ENOENT,create 0,write ENOSPC,target ENOENT,create 0,write 1,target ENOENT,write ENOSPC,create ENOSPC' \
+    "$status $said"
+# shellcheck disable=SC2086
+within none create x write x
+is 'a run that never says where faults begin' "98 faults: not seen: where faults begin, though =begin was awaited, in $component" "$status $faults"
+# shellcheck disable=SC2086
+within none create x $begin $end create y
+is 'and one that makes no call there' "98 faults: not seen: any call under FAULTS_ROOT of $component" "$status $faults"
+# shellcheck disable=SC2086
+within 'sys::write=1*panic' create x $begin create y child $end write a parent write b
+is 'an end in one process holds for all' '0 create 0,target ENOENT,create 0,target ENOENT,write 1,child 0,write 1' "$status $said"
+# shellcheck disable=SC2086
+try none create x write x $begin write y
+is 'where none is awaited, hits before count, and what was done lasts all the same' \
+    'sys::open,sys::write,sys::write faults: not seen: where faults begin, since it isn'"'"'t awaited by FAULTS_BEGIN=1: =begin length of x 2;block 0 of x as after write 2' \
+    "$(cut -f 2 "$here/run/trace" | paste -s -d ,) $faults $(pending | sed 's/[0-9]* \([clb]\)/\1/g')"
+try none create x target '/.paklour/=say/saved x' 9 target /.paklour/=say/ 9 target /.paklour/=other 9
+is 'a promise is a line of the output' "create 0,saved x,target ENOENT,,target ENOENT,target ENOENT faults: not seen: what this means: =other" "$said $faults"
+is 'and no hit' 1 "$(wc -l < "$here/run/trace")"

@@ -18,7 +18,7 @@ from harness.work import Work  # noqa: E402
 
 def tries_of(path, asks=False):
     """A function from a scenario to its outcome. What it lays out goes with this program."""
-    processes, work = Processes(), Work(None, needs_disk=False)
+    processes, work = Processes(), Work(None, needs_disk=False, begins=[])
     atexit.register(work.end)
     atexit.register(processes.end)
     room = Room(disk_of(str(work.folder)), 1 << 30, Bounds(60, 1 << 30), Records())

@@ -60,7 +60,7 @@ from harness.run import Runner
 from harness.work import Work
 
 harness, file_system, tries, *scenarios = sys.argv[1:]
-processes, work = Processes(), Work(None, True)
+processes, work = Processes(), Work(None, True, [])
 runner = Runner(definition.read(harness), work, processes, Room(disk_of(work.place), 1 << 30, Bounds(60, 1 << 30), Records()))
 try:
     runner.prepare()
