@@ -41,11 +41,16 @@ if command -v strace > "$here/said" && strace -o "$here/calls" true 2> "$here/fa
     calls_of() {
         new
         # shellcheck disable=SC2046
-        under strace -o "$here/calls" "$supervisor" "$component" create a $(yes 'write b' | head -n "$1") > "$here/said"
+        under strace -o "$here/calls" "$supervisor" "$component" create a $(yes "${2-write b}" | head -n "$1") > "$here/said"
         grep -vcE 'SIGALRM|SIGCHLD|rt_sigreturn|pidfd_send_signal|NOTIF_RECV|EINTR|wait|poll' "$here/calls"
     }
     fewer=$(calls_of 10)
     is 'a small write costs 9 calls, and a line elsewhere 4' $((9 + 4)) $((($(calls_of 110) - fewer + 50) / 100))
+    # Of a point of the program's own: its name, the trace, the answer; and of any other link its name and the answer.
+    fewer=$(calls_of 10 'target /.paklour/a 9')
+    is 'a point of its own costs 3' $((3 + 4)) $((($(calls_of 110 'target /.paklour/a 9') - fewer + 50) / 100))
+    fewer=$(calls_of 10 'target none 9')
+    is 'and the text of any link 2' $((2 + 4)) $((($(calls_of 110 'target none 9') - fewer + 50) / 100))
 
     # How often a cut looks for the holes of a file that nobody touched. A file system in memory looks at all of the file each time.
     looks_of() {

@@ -89,39 +89,39 @@ try 'sys::write=1*off->1*return(ENOSPC)' create a write b write c
 is 'no census of a run with faults' "2 census: $here/run/trace line 3: a fault acts here (return(ENOSPC)); use the trace of a run without faults" "$? $(cat "$here/said")"
 printf '' > "$here/nothing"
 is 'no census of nothing' "census: $here/nothing: this trace has no hits" "$(./census "$here/nothing" 2>&1)"
-printf '1\tstore::flush\t1\tgo\tx\n2\tsys::read\t1\tgo\tx\n3\tstore::flush\t2\tgo\tx\n' > "$here/mixed"
-is 'points of others come last' 'points = ["sys::read", "store::flush"]
+printf '1\tstore::flush\t1\tgo\tx\t1\t-\t2\n2\tsys::read\t1\tgo\tx\t1\t-\t2\n3\tstore::flush\t2\tgo\tx\t1\t-\t2\n' > "$here/mixed"
+is 'points of the program'"'"'s own come last' 'points = ["sys::read", "store::flush"]
 hits = [1, 2]' "$(./census "$here/mixed")"
 
 # With a depth a fault may lead to any point of the supervisor, and then to those of the trace.
 files='"sys::open", "sys::read", "sys::write", "sys::fsync", "sys::truncate", "sys::rename", "sys::link", "sys::unlink", "sys::mkdir"'
 files="$files, \"sys::rmdir\", \"sys::symlink\""
-is 'the points of settings with a depth' "points = [$files, \"store::flush\"]" "$(./census --points "$here/mixed")"
-is 'with those of sockets' "points = [$files, \"sys::connect\", \"sys::accept\", \"sys::send\", \"sys::recv\", \"store::flush\"]" \
+is 'the points of settings with a depth' "points = [$files, \"store::flush\", \"power::keep\"]" "$(./census --points "$here/mixed")"
+is 'with those of sockets' "points = [$files, \"sys::connect\", \"sys::accept\", \"sys::send\", \"sys::recv\", \"store::flush\", \"power::keep\"]" \
     "$(FAULTS_SOCKETS=1 ./census --points "$here/mixed")"
-printf '1\tsys::write\t1\tgo\tx\n2\tpower::keep\t1\tgo\tx\n3\tb\t1\tgo\tx\n' > "$here/cut"
+printf '1\tsys::write\t1\tgo\tx\t1\t-\t2\n2\tpower::keep\t1\tgo\tx\t1\t-\t2\n3\tb\t1\tgo\tx\t1\t-\t2\n' > "$here/cut"
 is 'and what a power cut asks last' "points = [$files, \"b\", \"power::keep\"]" "$(./census --points "$here/cut")"
 
-printf '1\tsys::write\t1\tgo\tx\t1\t-\t2\n2\tb\t1\tgo\tx\n' > "$here/sound"
+printf '1\tsys::write\t1\tgo\tx\t1\t-\t2\n2\tb\t1\tgo\t-\t1\t-\tENOENT\n' > "$here/sound"
 is 'or would ask of another run' "points = [$files, \"b\", \"power::keep\"]" "$(./census --points "$here/sound")"
 is 'but not of the one without a depth' 'points = ["sys::write", "b"]' "$(./census "$here/sound" | head -n 1)"
 
-# Names that a client takes: a text of TOML has `"` and `\` behind a `\`. What no settings have, or hits would say otherwise, is refused.
-printf '1\ta", "b\t1\tgo\tx\n2\tx\\y\t1\tgo\tx\n3\t2x*\t1\tgo\tx\n' > "$here/named"
+# Names that a program takes: a text of TOML has `"` and `\` behind a `\`. What no settings have, or hits would say otherwise, is refused.
+printf '1\ta", "b\t1\tgo\tx\t1\t-\t2\n2\tx\\y\t1\tgo\tx\t1\t-\t2\n3\t2x*\t1\tgo\tx\t1\t-\t2\n' > "$here/named"
 is 'a name with quotes is one point' 'points = ["a\", \"b", "x\\y", "2x*"]' "$(./census "$here/named" | head -n 1)"
-is 'and behind those of the supervisor' "points = [$files, \"a\\\", \\\"b\", \"x\\\\y\", \"2x*\"]" "$(./census --points "$here/named")"
+is 'and behind those of the supervisor' "points = [$files, \"a\\\", \\\"b\", \"x\\\\y\", \"2x*\", \"power::keep\"]" "$(./census --points "$here/named")"
 is 'in hits it stands as it is' 'a", "b;x\y;2x*' "$(./census --hits "$here/named")"
 printf '1\tsys::write@a"b\t1\tgo\tx\t1\t-\t2\n' > "$here/named"
 is 'and in a table' '"sys::write@a\"b" = ["return", "return(ENOSPC)", "return(HALF)", "panic"]' "$(./census --kinds "$here/named" | tail -n 1)"
 long=$(head -c 201 /dev/zero | tr '\0' x)
 for name in 'a;b' 'a=b' '2*b' '30*' '' ' a' 'a ' "$long"; do
-    printf '1\tb\t1\tgo\tx\n2\t%s\t1\tgo\tx\n' "$name" > "$here/named"
+    printf '1\tb\t1\tgo\tx\t1\t-\t2\n2\t%s\t1\tgo\tx\t1\t-\t2\n' "$name" > "$here/named"
     for option in '' --points --kinds --hits; do
         ./census $option "$here/named" > "$here/said" 2>&1
         is "no census $option of '$name'" "2 census: $here/named line 2: neither settings nor answers can name this point: $name" "$? $(cat "$here/said")"
     done
 done
-printf '1\ta\033[2J\t1\tgo\tx\n' > "$here/named"
+printf '1\ta\033[2J\t1\tgo\tx\t1\t-\t2\n' > "$here/named"
 is 'no control byte is shown' "census: $here/named line 1: neither settings nor answers can name this point: a\\u001B[2J" "$(./census --hits "$here/named" 2>&1)"
 
 # What is tried at the points of a trace.
@@ -139,13 +139,13 @@ is 'by file, and opens where one may make it' '"sys::open@b" = ["return", "retur
 "sys::symlink@c" = ["return", "return(ENOSPC)", "panic"]
 "sys::link@d" = ["return", "return(ENOSPC)", "panic"]
 "sys::truncate@b" = ["return", "return(ENOSPC)", "panic"]' "$(./census --kinds "$here/by_file" | sed '1,/^.outside.kinds.$/d')"
-printf '1\tsys::connect\t1\tgo\tx\n2\tsys::send\t1\tgo\tx\n3\tsys::recv\t1\tgo\tx\n4\twrite\t1\tgo\tx\n' > "$here/messages"
-is 'of messages' "points = [$files, \"sys::connect\", \"sys::accept\", \"sys::send\", \"sys::recv\", \"write\"]
+printf '1\tsys::connect\t1\tgo\tx\t1\t-\t2\n2\tsys::send\t1\tgo\tx\t1\t-\t2\n3\tsys::recv\t1\tgo\tx\t1\t-\t2\n4\twrite\t1\tgo\tx\t1\t-\t2\n' > "$here/messages"
+is 'of messages' "points = [$files, \"sys::connect\", \"sys::accept\", \"sys::send\", \"sys::recv\", \"write\", \"power::keep\"]
 
 [outside.kinds]
 \"sys::send\" = [\"return\", \"return(HALF)\", \"return(DROP)\", \"panic\"]
 \"sys::recv\" = [\"return\", \"return(HALF)\", \"panic\"]" "$(FAULTS_SOCKETS=1 ./census --kinds "$here/messages")"
-is 'no table where nothing is in it' "points = [$files, \"store::flush\"]" "$(./census --kinds "$here/mixed")"
+is 'no table where nothing is in it' "points = [$files, \"store::flush\", \"power::keep\"]" "$(./census --kinds "$here/mixed")"
 try 'sys::write=1*off->1*return(ENOSPC)' create a write b write c
 is 'no kinds of a run with faults' "census: $here/run/trace line 3: a fault acts here (return(ENOSPC)); use the trace of a run without faults" "$(./census --kinds "$here/run/trace" 2>&1)"
 
@@ -154,9 +154,11 @@ try none mkdir b create a write b write c fsync rename a sub/b folder . fsync
 is 'the hits of a run, those of one point in a row together' \
     "$(cut -f 2 "$here/run/trace" | uniq -c | awk '{ printf "%s%s%s", between, ($1 > 1 ? $1 "*" : ""), $2; between = ";" } END { print "" }')" \
     "$(./census --hits "$here/run/trace")"
-printf '1\ta\t1\tgo\tx\n2\ta\t2\tgo\tx\n3\tb\t1\treturn\tx\n4\ta\t3\tgo\tx\n' > "$here/faulty"
+printf '1\ta\t1\tgo\tx\t1\t-\t2\n2\ta\t2\tgo\tx\t1\t-\t2\n3\tb\t1\treturn\tx\t1\t-\t2\n4\ta\t3\tgo\tx\t1\t-\t2\n' > "$here/faulty"
 is 'the hits of a run with faults' '2*a;b;a' "$(./census --hits "$here/faulty")"
 is 'the hits of a run without any' '' "$(./census --hits "$here/nothing")"
-printf '1\ta\t1\tgo\tx\n3\ta\t2\tgo\tx\n' > "$here/gap"
+printf '1\ta\t1\tgo\tx\n' > "$here/five"
+is 'nor of a line that lacks columns' "2 census: $here/five line 1: this is no line of a trace" "$(./census --hits "$here/five" 2> "$here/said"; echo "$? $(cat "$here/said")")"
+printf '1\ta\t1\tgo\tx\t1\t-\t2\n3\ta\t2\tgo\tx\t1\t-\t2\n' > "$here/gap"
 ./census --hits "$here/gap" > "$here/said" 2>&1
 is 'no hits of what is no trace' "2 census: $here/gap line 2: this is no line of a trace" "$? $(cat "$here/said")"
