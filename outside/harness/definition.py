@@ -39,6 +39,7 @@ class Harness:
     pins: bool = True
     version: str = ""  # of the program, as its file of Python says it
     unjudged: tuple[str, ...] = ()  # patterns of names of files into which the judge doesn't look, such as logs with times
+    quiet: tuple[str, ...] = ()  # patterns of names of files at whose calls no fault is planned
     allowed: tuple[str, ...] = ()  # those of FAILURES that are none of this program
     known: tuple[str, ...] = ()  # the codes of losses that are known: a run that breaks no other promise passes
     operations: tuple[str, ...] = ()  # what a session may be asked to do
@@ -79,6 +80,7 @@ class Harness:
         files = [*files_in(self.folder, into)] if self.is_folder else [self.file]
         named = {name: os.environ[name] for name in VARIABLES if name in os.environ}
         more = {"version": self.version} if self.version else {}
+        more |= {"quiet": list(self.quiet)} if self.quiet and self.file else {}
         if self.operations and self.file:
             more |= {"operations": list(self.operations), "workload": self.is_workload, "length": self.length}
         return {"power cut": digest_of(PROFILES), "files": digests(self.folder, [*files, *self.others]), "commands": self.commands,
@@ -121,7 +123,7 @@ def read_folder(place: Path) -> Harness:
         if not os.access(file, os.X_OK):
             raise Stopped(f"{file} isn't executable: call chmod +x {shlex.quote(str(file))}")
     harness = Harness(place.name, place, {file.name: [str(file)] for file in files})
-    harness.unjudged, harness.allowed = words_in(place / "unjudged"), words_in(place / "allowed")
+    harness.unjudged, harness.allowed, harness.quiet = (words_in(place / name) for name in ("unjudged", "allowed", "quiet"))
     for file in (place / "operations", place / "workload"):
         if file.exists():
             take_operations(harness, lines_of(file.read_text("utf-8", "surrogateescape"), str(file)), file.name)
@@ -164,6 +166,7 @@ def read_file(file: Path, harness: Harness, seed: int) -> None:
     harness.version = str(told.get("version", ""))
     harness.unjudged += tuple(told.get("unjudged", ()))
     harness.allowed += tuple(told.get("allowed", ()))
+    harness.quiet += tuple(told.get("quiet", ()))
     for name in {"operations", "workload"} & told.keys():
         take_operations(harness, checked(told[name], str(file)), name)
     if "drawn" in told:

@@ -16,7 +16,7 @@ from .step import STEPS
 from .trial import CANNOT, expect, leave, try_alone, try_server
 from .words import ASK_HELP, Usage, as_called, refused, write_help
 
-NAMES = {*STEPS, "operations", "workload", "length", "unjudged", "allowed", "harness.py", "settings.toml", "message",  # that mean something in a harness
+NAMES = {*STEPS, "operations", "workload", "length", "unjudged", "allowed", "quiet", "harness.py", "settings.toml", "message",  # that mean something in a harness
     "expected", "left", "journaled", *WRITTEN}
 FORMS = {"--server": "server", "--mail": "mail", "--session": "session"}
 FLAGS = {"--mail", "--session", "--expect"}

@@ -208,6 +208,8 @@ class Runner:
         before = length_of(folder / "errors")
         words = [str(programs.FAULTS), *order, *["--pin"] * self.harness.pins, *["--sync"] * self.syncs_disk, "--", *self.harness.steps[step]]
         variables = {"FAILPOINTS": scenario, "FAULTS_ROOT": str(folder / "data"), "FAULTS_RUN": str(run)}
+        if self.harness.quiet:
+            variables["FAULTS_QUIET"] = "\n".join(self.harness.quiet)
         if step in (self.work.begins or ()):
             variables["FAULTS_BEGIN"] = "1"
         if step == "session":

@@ -40,6 +40,7 @@ def toml(value: str | list[str]) -> str:
 def label_of(harness: Harness) -> str:
     """The label, which stands in the report and on the page: what isn't judged, or isn't counted, belongs into it."""
     less = SAYS_MADE + SAYS_KILLED * harness.is_killed_only + f", known: {', '.join(harness.known)}" * bool(harness.known)
+    less += f", quiet: {', '.join(harness.quiet)}" * bool(harness.quiet)
     less = plain(less.encode("utf-8", "surrogateescape"), MOST_TEXT // 2)
     name = harness.name + f", seed {harness.seed}" * bool(harness.seed)
     return plain(os.fsencode(name), MOST_TEXT - len(less.encode())) + less

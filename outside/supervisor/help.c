@@ -24,6 +24,8 @@ const char help[] =
     "  FAULTS_RUN          the run's folder, which `paklour-powercut begin` makes for each run\n"
     "  FAULTS_POINTS       `file`: a point has its file's name, such as `sys::write@a.db` (for a rename the new name)\n"
     "  FAULTS_SOCKETS      `1`: calls on sockets are points\n"
+    "  FAULTS_QUIET        patterns of names under the root, a line each, such as `*.log` or `base/**`: calls on these files are made and noted, but they are\n"
+    "                      no hits. `*` stays within a folder, `**` goes through folders, and a pattern without a slash is of the last part of a name\n"
     "  FAULTS_OPERATIONS   a file of operations, a line each. The program's standard input has what the scenario gives: when the program asks for its next\n"
     "                      line, work::next is hit, `return(3)` there gives it the third one, and without a fault its input ends\n"
     "  FAULTS_LENGTH       how many operations the program may be given. Default: 3\n"

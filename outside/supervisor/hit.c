@@ -7,6 +7,7 @@
 #include "operations.h"
 #include "order.h"
 #include "own.h"
+#include "quiet.h"
 #include "supervisor.h"
 
 #include <errno.h>
@@ -126,11 +127,15 @@ static enum answer answered(struct call *call, enum answer answer) {
     return FAIL;
 }
 
-/* Lets a call go on before the beginning and behind the end. It has the run to itself, as a hit has. */
+/* Whether a call is none at which a fault may act: it is made before the beginning or behind the end, or on a file of a quiet name. */
+static bool is_passed(enum point point, const char *path) { return point != WORK && (is_outside() || (point < CONNECT && is_quiet(path))); }
+
+/* Lets such a call go on. It has the run to itself, as a hit has, and finds a full disk full. */
 static void pass(struct call *call) {
     lock_run();
     if (state->ended) end_run(state->ended);
-    call->hit = (struct hit){.seen = true, .is_outside = true, .answer = GO, .result_at = -1};
+    call->hit = (struct hit){.seen = true, .is_outside = true, .result_at = -1};
+    call->hit.answer = answered(call, GO);
 }
 
 /* Counts a hit. The counts are those of all processes of the run, and of all that ran in it before. */
@@ -155,7 +160,7 @@ static void count(struct call *call, enum point point, const char *path, const c
 
 enum answer hit(struct call *call, enum point point, const char *path, const char *flags) {
     if (!call->hit.seen && !may_go(call)) return NOT_YET;
-    if (!call->hit.seen && is_outside() && point != WORK) pass(call);
+    if (!call->hit.seen && is_passed(point, path)) pass(call);
     if (!call->hit.seen) count(call, point, path, flags);
     if (call->hit.wakes && call->hit.wakes > now()) return NOT_YET;
     if (call->hit.answer == FAIL) finish(call, -call->hit.error);

@@ -3,6 +3,7 @@
 #include "variables.h"
 
 #include "operations.h"
+#include "quiet.h"
 
 #include "../run/whole.h"
 
@@ -108,6 +109,7 @@ void read_variables(void) {
     waits_for_begin = is_word("FAULTS_BEGIN", "1");
     read_failpoints();
     read_operations();
+    read_quiet();
     if (!where || !in) refuse(where ? "FAULTS_RUN" : "FAULTS_ROOT", "this variable isn't set");
     forgets = word_of("FAULTS_FSYNC", (const char *const[]){"again", "once", NULL}) != 0;
     if (!realpath(in, run_folder)) refuse("FAULTS_RUN isn't a folder that powercut begin made", in);
