@@ -10,15 +10,19 @@ first sync of `serve.py`, and ends it.
 the hits. A line is lost where the second process reads between the read and the write of the first: it has to go first twice, at its open and its read, so
 from the third choice on. That is the fifth of these hits: plan 25. From another choice on either process is through before the other reads.
 
+- `accept.py` hits open twice, write, fsync, rename, `ask` and fsync: 14 plans, 2 more of the write, and `none`. Python writes what is left once more as it closes the
+file, so a write that fails or does half is followed by another one: 3 more are from then on. Only where `ask` fails is the word refused.
+
 - `put.sh` hits open, write, open, fsync, rename, open, fsync: 14 plans, 2 more of the write, and `none`. From then on: a write that does half goes on by halves,
 a `sync` whose open fails tries it once more, twice, and the first fsync goes on to the second. These are 21.
 
   $ guide=$TESTDIR/../docs/GUIDE.md
-  $ for section in 'Crash states' Recovery Servers Mail 'Threads and processes' CI 'Many machines'; do "$TESTDIR/outside_page.py" "$guide#$section"; done
+  $ for section in 'Crash states' Recovery Servers Mail 'Threads and processes' 'Points of your own' CI 'Many machines'; do "$TESTDIR/outside_page.py" "$guide#$section"; done
   7 compared, 0 differ
   5 compared, 0 differ
   3 compared, 0 differ
   2 compared, 0 differ
+  3 compared, 0 differ
   3 compared, 0 differ
   4 compared, 0 differ
   5 compared, 0 differ
@@ -37,5 +41,5 @@ A page that shows otherwise: what is told, a report's end, and a comment.
   shows otherwise: fail lost: the 1st sys::read (count) fails
   shows otherwise: plans 29
   no line other
-  29 compared, 3 differ
+  32 compared, 3 differ
   [1]
