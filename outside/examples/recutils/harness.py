@@ -1,0 +1,1 @@
+states = ["live"]  # no sync is promised: each run is judged as it is, without a power cut
