@@ -178,7 +178,7 @@ class Added(Campaigns):
 
     def test_settings_of_ones_own_have_the_title(self):
         folder = self.harness(run=SAVES, judge=JUDGES)
-        (folder / "settings.toml").write_text(made_text("no word is lost", ["lost"], 1, Made(True, True)).partition("\n")[2])
+        (folder / "settings.toml").write_text(made_text("no word is lost", ["lost"], Made(True, True).points([]), 1, Made(True, True)).partition("\n")[2])
         self.assertEqual(self.loop("-j", 2, folder).status, 0)
         self.assertEqual(appendix_in(folder / "page.html")["title"], "no word is lost")
 
@@ -235,7 +235,7 @@ class Without(unittest.TestCase):
         "paklour-loop x --try y", ["On an ext4 of this kernel it is lost too."])
 
     def appendix(self, *stories):
-        return Appendix("x", Program("x", [], "", []), "2026-11-30", "paklour-loop x", [], list(stories))
+        return Appendix("x", Program("x", [], "", []), "2026-11-30", "paklour-loop x", "", [], list(stories))
 
     def test_sentences_of_others(self):
         self.assertEqual(json.loads(in_script(self.appendix(self.story)))["stories"][0]["further"], ["On an ext4 of this kernel it is lost too."])
