@@ -88,7 +88,7 @@ Of six sites the fourth is the sync. Where it comes too late its three plans lea
     ],
     "growth": null,
     "about": {
-      "program_version": "0.8.0",
+      "program_version": "0.9.0",
       "told_by": "target",
       "command": "paklour run --json FILE",
       "settings": "target = \"replace\"\nvariant = \"late_sync\"\nseed = 7\n[replace]\nold = \"old\"\nreplacements = [[\"ne\", \"w\"]]\n",

@@ -85,9 +85,9 @@ What words ask for
 The version stands on a line of its own, as the constant `VERSION` of command_words has it.
 
   $ paklour --version
-  paklour 0.8.0
+  paklour 0.9.0
   $ paklour -V
-  paklour 0.8.0
+  paklour 0.9.0
 
 Two commands take their settings from a file alone, since standard input has the answers of a component that somebody else runs.
 

@@ -88,7 +88,7 @@ of_few_plans plans text = if nat_lt most_plans (length plans) then Err too_many_
 
 -- What a document says of the program: its version, whether `target` or `answers` shows the runs, and the command.
 abbrev pub notes_with : List ℕ → List ℕ → NotesFacts
-notes_with told_by command = record { version = codes "0.8.0"; told_by = told_by; command = command }
+notes_with told_by command = record { version = codes "0.9.0"; told_by = told_by; command = command }
 
 -- The form that a command's words name.
 abbrev pub form_in : Form → ReportForm

@@ -15,7 +15,7 @@ use std::error::Error;
 use std::fmt;
 
 /// The version of the program, as `paklour --version` writes it.
-pub const VERSION: &str = "0.8.0";
+pub const VERSION: &str = "0.9.0";
 
 /// The scenario that a command takes.
 #[derive(Debug, Drop)]
