@@ -7,7 +7,7 @@ Logs are files, so their writes and syncs are points of the supervisor. FLAW nam
   lazy_prepare     a prepare record is written, but not synced before the vote
   early_end        the coordinator forgets a transaction even if not all participants have acknowledged it
   abort_on_doubt   a coordinator whose commit record failed sends an abort to the participants, though the record may be on the disk
-With TOGETHER the participants are asked at once, and have one log, which each of them opens for each of its records:
+With TOGETHER messages aren't points, the participants are asked at once, and have one log, which each of them opens for each of its records:
   looks_for_end    a participant looks for the log's end and writes there, without O_APPEND"""
 import os
 import socket
@@ -73,7 +73,7 @@ class Peer:
         self.end, self.lines = end, end.makefile("r")
 
     def send(self, point, text):
-        message = "" if hit(point) is not None else text
+        message = "" if not TOGETHER and hit(point) is not None else text
         try:
             self.end.sendall(f"{message}\n".encode())
         except OSError:
