@@ -9,6 +9,7 @@ from .compared import Comparison, Side
 from .deciding import OF_BYTES
 from .operations import WORK
 from .outcome import Outcome
+from .scenario import is_own
 from .shown import escaped
 from .telling import AND_BEFORE, KEEP, acts, failure
 
@@ -90,9 +91,11 @@ def hits_of(outcome: Outcome) -> list[str]:
 
 
 def about(hit: list[str]) -> str:
-    """A file, or at a power cut what it asks, or the operation that was given."""
+    """A file, or at a power cut what it asks, or the operation that was given. A point of the program's own is about no file."""
     if hit[1] == WORK:
         return hit[6] if hit[6] != "-" else "no more"
+    if is_own(hit[1]):
+        return "a step of the program"
     return hit[4].partition(" ")[2] if hit[1] == KEEP else hit[4]
 
 

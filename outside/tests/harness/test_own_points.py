@@ -53,6 +53,7 @@ class OwnPoints(Campaigns):
         self.assertIn("loop: points of the program's own, which the settings list now: after failure\n", done.told)
         self.assertIn("fail unsaved: the 1st store::put fails\n1 failure: unsaved: store::put fails\n", done.told)
         self.assertIn("cause 1 unsaved store::put=1*return\n", (folder / "report").read_text())
+        self.assertIn('"clean": ["a step of the program", "note"', (folder / "page.html").read_text())  # what the first two hits of the run without faults are about
 
     def test_as_soon_as_they_are_known_too(self):
         """Several workers begin what is asked for while others try, by the settings as they were."""
