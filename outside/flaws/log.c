@@ -7,6 +7,7 @@
 
    With the flaw `sound` it keeps its word. log.py is the same in Python. */
 #include "flaw.h"
+#include <errno.h>
 
 enum { MOST = 100, LONGEST = 100 };
 
@@ -57,7 +58,8 @@ static bool append(int file, const char *text) {
 
 static void read_snapshot(void) {
     int snap = open("snap", O_RDONLY);
-    if (snap < 0) return;
+    if (snap < 0 && errno == ENOENT) return;
+    must(snap >= 0, "snap");
     must(read_file(snap) >= 0, "snap");
     close(snap);
 }
