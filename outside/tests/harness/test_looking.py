@@ -256,6 +256,15 @@ class Sessions(Campaigns):
         self.assertEqual((done.status, fails), (1, ["fail unopenable: without any fault"]), done.told)
         self.assertIn("judge: cat: log: No such file or directory\n", done.told)
 
+    def test_a_snapshot_that_can_not_be_opened(self):
+        """The sound log doesn't take it for none: what it has would be missing in the next one."""
+        log = f'"{OUTSIDE}/out/log" sound'
+        session = f'#!/bin/sh\nwhile read -r operation; do {log} $operation < /dev/null || break; done\nexit 0\n'
+        folder = self.harness(session=session, look=f'#!/bin/sh\n{log} list > "$TMPDIR/listed" && sort -u "$TMPDIR/listed"\n',
+            workload="add first-record sync\nsnapshot\nsnapshot\n")
+        done, fails = self.campaign(folder, "--no-kinds")
+        self.assertEqual((done.status, fails), (0, []), done.told)
+
     def test_a_workload(self):
         """A list that is done as it stands, so that only faults count."""
         folder = self.harness(session=f'#!/bin/sh\nexec "{OUTSIDE}/out/keys" "${{FLAW:-sound}}" session\n', look=f'#!/bin/sh\nexec "{OUTSIDE}/out/keys" sound list\n',
