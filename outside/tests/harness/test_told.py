@@ -378,7 +378,9 @@ writes; codes are added as the judge prints them", "loop: 14 plans with one faul
         folder = self.harness(run=f"#!{sys.executable} -S\n{writes}", judge='#!/bin/sh\n[ ! -s "$SAID" ] || [ "$(cat note)" = xxxxxxx ] || { echo lost; exit 1; }\n')
         done = self.loop("-j", 2, "--no-kinds", folder)
         self.assertEqual(len([line for line in done.told.splitlines() if line.startswith("fail ")]), 10, done.told)
-        guess = "  perhaps nobody looks at what a call returns: the 1st sys::write (note) failed, and `run` ended with 0\n"
+        guess = "  perhaps nobody looks at what a call returns: the 1st sys::write (note) failed, and `run` ended with 0\n" \
+            "  mend: look at what each call returns, and if one fails, keep the old data and end with another status than 0 " \
+            "(docs/FLAWS.md#a-result-that-isnt-looked-at)\n"
         self.assertIn(f"\n13 failures: lost: sys::write (note) fails\n{guess}loop: 3 more failures like those above: lost: sys::write (note) fails\n", done.told)
 
     def test_in_which_order_groups_are_told(self):
