@@ -1,5 +1,5 @@
-# The programs of this harness source this file. `start` starts a server that has its log in the folder `log`, `client` talks to it, and `stop` kills it, as a power cut does.
-# The socket isn't part of the data.
+# The programs of this harness source this file. `start` starts a server that has its log in the folder `log`, `client` talks to it, and `stop` kills it, as a
+# power cut does. The socket isn't part of the data.
 socket=$TMPDIR/socket
 
 start() {
