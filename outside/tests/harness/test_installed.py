@@ -124,7 +124,7 @@ class Pages(unittest.TestCase):
         self.assertEqual(self.completed("paklour-loop", "--into", "no"), ["note", "note.c", "note.go", "note.py"])
         self.assertEqual(self.completed("paklour-loop", "--engine", ""), ["parallel"])
         self.assertEqual(self.completed("paklour-powercut", "re"), ["recover"])
-        self.assertEqual(self.completed("paklour-powercut", "cut", "lo"), ["log", "log.c", "log.go", "log.py"])
+        self.assertEqual(self.completed("paklour-powercut", "cut", "log"), ["log", "log.c", "log.go", "log.py"])
         self.assertEqual(self.completed("paklour-faults", "--order", "n"), ["next"])
 
     def test_manuals_format_without_a_warning(self):
