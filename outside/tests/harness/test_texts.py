@@ -88,9 +88,12 @@ class Words(unittest.TestCase):
         self.assertEqual([ordinal(number) for number in (1, 2, 3, 4, 11, 12, 21, 112)], ["1st", "2nd", "3rd", "4th", "11th", "12th", "21st", "112th"])
 
     def test_tasks(self):
-        self.assertEqual([what(answer) for answer in ("return", "return(ENOSPC)", "return(HALF)", "return(KILL)", "return(TERM)", "return(FULL)", "panic")],
-            ["fails", "fails with ENOSPC", "does half", "kills its process", "comes with SIGTERM", "finds the disk full",
-                "ends the run"])
+        def told(point, *answers):
+            return [what(["1", point, "1", answer, "note"]) for answer in answers]
+
+        self.assertEqual(told("sys::write", "return", "return(ENOSPC)", "return(HALF)", "return(KILL)", "return(TERM)", "return(FULL)", "panic"),
+            ["fails", "fails with ENOSPC", "does half", "kills its process", "comes with SIGTERM", "finds the disk full", "ends the run"])
+        self.assertEqual(told("store::put", "return", "return(ENOSPC)", "return(KILL)", "panic"), ["fails", "returns ENOSPC", "kills its process", "ends the run"])
 
 
 class TornInWords(unittest.TestCase):
