@@ -130,12 +130,12 @@ static enum answer answered(struct call *call, enum answer answer) {
 /* Whether a call is none at which a fault may act: it is made before the beginning or behind the end, or on a file of a quiet name. */
 static bool is_passed(enum point point, const char *path) { return point != WORK && (is_outside() || (point < CONNECT && is_quiet(path))); }
 
-/* Lets such a call go on. It has the run to itself, as a hit has, and finds a full disk full. */
+/* Lets such a call go on. It has the run to itself, as a hit has. A disk that is full is full for a quiet name too, and outside it isn't. */
 static void pass(struct call *call) {
     lock_run();
     if (state->ended) end_run(state->ended);
     call->hit = (struct hit){.seen = true, .is_outside = true, .result_at = -1};
-    call->hit.answer = answered(call, GO);
+    call->hit.answer = is_outside() ? GO : answered(call, GO);
 }
 
 /* Counts a hit. The counts are those of all processes of the run, and of all that ran in it before. */
