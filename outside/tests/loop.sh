@@ -324,7 +324,7 @@ is 'long answers stay whole' "$(cksum < "$here/long")" "$(cut -f 2 "$here/answer
 rm "$here/answers"
 
 # GNU parallel, here and on two other machines: folders, which a program in place of ssh enters.
-if command -v parallel > "$here/said"; then
+if parallel --version 2> "$here/said" | grep -q "GNU parallel"; then # another program has the name too
     ROUND=7
     export ROUND
     is 'GNU parallel runs them' "$all" "$(PATH="$here/bin:$PATH" ./loop --engine parallel "$here/list" "$here/answers" "$here/bin/answers")"

@@ -25,6 +25,11 @@ cd "${0%/*}/../$machine" && SHELL=/bin/bash exec bash -c "$*"
 """
 
 
+def has_gnu_parallel() -> bool:
+    """Another program has the name too, which takes other words."""
+    return bool(shutil.which("parallel")) and "GNU parallel" in subprocess.run(["parallel", "--version"], capture_output=True, text=True, check=False).stdout
+
+
 class Shares(unittest.TestCase):
     """Of a run without faults that opens, writes twice, syncs."""
 
@@ -143,7 +148,7 @@ class Machines(Campaigns):
             "hit 1 was sys::open, and now is sys::read: sys::fsync=1*panic\n", done.told)
         self.assertEqual((set(self.answers(self.here / "joined")), (self.here / "joined" / "report").read_bytes()), whole)
 
-    @unittest.skipUnless(shutil.which("parallel"), "GNU parallel is not installed")
+    @unittest.skipUnless(has_gnu_parallel(), "GNU parallel is not installed")
     def test_by_gnu_parallel(self):
         """Over two machines, which are folders."""
         for name in ("bin/enters", "first", "second"):
