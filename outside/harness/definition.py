@@ -98,6 +98,7 @@ def read(path: str, seed: int = 1) -> Harness:
     if file.exists():
         read_file(file, harness, seed)
     refuse_unknown(path, "failure", harness.allowed, FAILURES)
+    refuse_unfit(path, harness.quiet)
     refuse_lacking(path, harness)
     return harness
 
@@ -139,6 +140,19 @@ def take_operations(harness: Harness, operations: tuple[str, ...], name: str) ->
     harness.is_workload = name == "workload"
 
 
+def listed(texts: object, name: str) -> tuple[str, ...]:
+    if not isinstance(texts, list) or not all(isinstance(text, str) for text in texts):
+        raise Stopped(f"{name} must be a list of texts")
+    return tuple(texts)
+
+
+def refuse_unfit(path: str | Path, patterns: tuple[str, ...]) -> None:
+    """Refuses patterns that no name under the root can fit: a harness would seem to aim, and wouldn't."""
+    for pattern in patterns:
+        if not pattern or "\n" in pattern or pattern.startswith(("/", "./", "../")) or pattern.endswith("/"):
+            raise Stopped(f"{path}: quiet: no name fits {pattern!r}: names are those under the data's folder, such as base/1/f, and base/** is all below base")
+
+
 def words_in(file: Path) -> tuple[str, ...]:
     return tuple(file.read_text("utf-8").split()) if file.exists() else ()
 
@@ -166,7 +180,7 @@ def read_file(file: Path, harness: Harness, seed: int) -> None:
     harness.version = str(told.get("version", ""))
     harness.unjudged += tuple(told.get("unjudged", ()))
     harness.allowed += tuple(told.get("allowed", ()))
-    harness.quiet += tuple(told.get("quiet", ()))
+    harness.quiet += listed(told.get("quiet", []), f"{file}: quiet")
     for name in {"operations", "workload"} & told.keys():
         take_operations(harness, checked(told[name], str(file)), name)
     if "drawn" in told:

@@ -29,7 +29,7 @@ from .work import CLOSED, OPEN, Work, is_taken_away
 PREPARED = "prepared"  # the folder in which `prepare` was run
 TIME_IS_UP, CANNOT, NOT_FOUND = 124, 125, 127  # how `within` ends. A program of the harness may have these statuses too
 MAPPED = b"each store into the mapping of"  # as the supervisor says that a program maps a file
-OF_LOOP = ("FAULTS_OPERATIONS", "FAULTS_WORKLOAD", "FAULTS_LENGTH", "FAULTS_BEGIN")  # variables of the supervisor that the loop alone sets
+OF_LOOP = ("FAULTS_OPERATIONS", "FAULTS_WORKLOAD", "FAULTS_LENGTH", "FAULTS_BEGIN", "FAULTS_QUIET")  # variables of the supervisor that the loop alone sets
 BEGUN = "begun"  # in the folder of a run's notes, if its program said where faults begin and the supervisor hadn't been told that it would
 NO_CALL = "any call under FAULTS_ROOT"  # as it says that a step never used its data
 

@@ -278,7 +278,11 @@ class Whole:
         """What this machine tries of what is asked for, in its order."""
         places = places_in(self.answers)
         own = [text for text in asked if self.asked.shard.has(text, places)] if self.asked.shard else asked
-        return self.sample.drawn(own) if self.sample else own
+        if not self.sample or not own:
+            return own
+        drawn = self.sample.drawn(own)
+        self.asked.budget.check(self.answers.count)
+        return drawn
 
     def end_early(self) -> int:
         """Runs the failures once more, as a report's findings are. The run without faults was just made, so it isn't made again."""
@@ -312,6 +316,8 @@ class Whole:
     def end_of_shard(self) -> int:
         """Ends a share of a campaign. It has no report: the campaign that joins the shares writes one, and runs failures once more."""
         self.tell_counts()
+        if self.sample:
+            show(f"loop: the budget is spent: {self.sample.told(self.answers)}, of this share; the same command goes on with the rest")
         return self.status(1 if self.answers.failing or self.fails_again else 0)
 
     def report(self) -> int:

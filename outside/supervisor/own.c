@@ -40,7 +40,7 @@ bool lacks_begin(void) { return waits_for_begin && !has_begun; }
 static void note_unawaited(void) {
     char name[LONG_PATH];
     snprintf(name, sizeof name, "%s/begun", run_folder);
-    int file = open(name, O_WRONLY | O_CREAT | O_CLOEXEC, 0600);
+    int file = open(name, O_WRONLY | O_CREAT | O_NOFOLLOW | O_CLOEXEC, 0600);
     if (file < 0) refuse("FAULTS_RUN", strerror(errno));
     close(file);
     unseen("where faults begin, since it isn't awaited by FAULTS_BEGIN=1:", "=begin");

@@ -41,6 +41,8 @@ class Budgets(Campaigns):
         self.assertIn(f"none of {len(whole)} plans fails; {said}", done.told)
         self.assertIn(f'"sample": "O{said[1:]}', (self.here / "drawn" / "page.html").read_text())
 
+        done, no_more = self.drawn("drawn", "--depth", 2, "--plans", len(whole) + 2)
+        self.assertEqual((done.status, no_more), (0, few), "what is spent tries nothing more")
         again, same = self.drawn("again", "--depth", 2, "--plans", len(whole) + 2)
         self.assertEqual((again.status, same), (done.status, few), "the same plans are drawn")
         more, all_pairs = self.drawn("drawn", "--depth", 2, "--plans", len(whole) + pairs)
@@ -58,6 +60,13 @@ class Budgets(Campaigns):
         self.assertRegex(done.told, r"depth 1 isn't whole: none of 4 plans that were tried fails; of the \d+ plans with 1 fault, 3 were tried, drawn by seed 0: none of them fails")
         self.assertRegex(done.out, r"answered 4 of \d+ known\n")
         self.assertFalse((self.here / "into" / "report").exists())
+
+    def test_a_share_says_that_its_budget_is_spent(self):
+        self.harness(run=TWO_WAYS, judge=NEEDS_ONE)
+        done, few = self.drawn("into", "--shard", "1/2", "--plans", 2)
+        self.assertEqual(len(few), 2, done.told)
+        self.assertRegex(done.told, r"loop: the budget is spent: of the \d+ plans with 1 fault, 1 were tried, drawn by seed 0: none of them fails, of this share; "
+            "the same command goes on with the rest\n$")
 
     def test_time(self):
         self.harness(run=SLOW, judge="#!/bin/sh\n")

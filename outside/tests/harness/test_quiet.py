@@ -34,6 +34,21 @@ class Quiet(Campaigns):
         (harness / "harness.py").write_text('quiet = ["noise", "noise/**"]\n')
         self.assertEqual(self.hits()[1][0], "sys::open")
 
+    def test_what_fits_no_name_is_refused(self):
+        harness = self.harness(run=RUN, judge=JUDGES)
+        for text, says in (('"noise/**"', "quiet must be a list of texts"), ('["/noise"]', "quiet: no name fits '/noise'"), ('["noise/"]', "quiet: no name fits 'noise/'"),
+                ('[""]', "quiet: no name fits ''")):
+            (harness / "harness.py").write_text(f"quiet = {text}\n")
+            done = self.loop("-j", 1, harness)
+            self.assertEqual(done.status, 2, done.told)
+            self.assertIn(says, done.told)
+
+    def test_the_variable_of_whoever_calls_the_loop_aims_at_nothing(self):
+        self.harness(run=RUN, judge=JUDGES)
+        done = self.loop("-j", 1, "--no-kinds", self.here / "harness", FAULTS_QUIET="**")
+        self.assertEqual(done.status, 0, done.told)
+        self.assertIn("2*sys::mkdir", self.answers(self.here / "harness")[0])
+
 
 if __name__ == "__main__":
     unittest.main()
